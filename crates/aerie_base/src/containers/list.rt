@@ -1,0 +1,91 @@
+ghost use Rattle.std.specs.Prelude.{◌≡◌, [], ◌∷◌, ◌++◌, ◌<◌, ◌↔◌, length, slice_get, IsTrue, OnOk, OnErr, OnSome};
+ghost use Rattle.std.specs.Option.{option_copied};
+
+use crate::memory::OutOfMemory;
+use std::alloc::Global;
+use std::marker::Model;
+
+/// A vector that contracts see as the list of its items, so that neither its address nor its spare room is part of
+/// its value. A type may reach itself through it.
+#[derive(Debug, Drop)]
+pub struct List<T> {
+    /// The items, first to last.
+    pub items: Vec<T>,
+}
+
+impl<T> Model for List<T> {
+    ghost use Rattle.std.specs.Prelude.{List as Items};
+    ghost use Rattle.std.specs.Coded.{coded_list};
+
+    ghost Value = { Items T };
+
+    ghost coded = { coded_list T.code };
+
+    ghost view = { λ list. list.items.items };
+}
+
+impl<T> List<T> {
+    /// The empty list. It takes no memory yet.
+    pub fn new(alloc: Global) -> List<T>
+        ensures { result ≡ [] }
+    {
+        List {
+            items: Vec::new(alloc),
+        }
+    }
+
+    /// The list of the vector's items.
+    pub fn from_vec(items: Vec<T>) -> List<T>
+        ensures { result ≡ items.items }
+    {
+        List { items }
+    }
+
+    /// The vector of the list's items.
+    pub fn into_vec(self) -> Vec<T>
+        ensures { result.items ≡ self }
+    {
+        let List { items } = self;
+        items
+    }
+
+    /// The items, first to last.
+    pub fn as_slice(&self) -> &[T]
+        ensures { result.now ≡ self.now }
+    {
+        self.items.as_slice()
+    }
+
+    /// The number of items.
+    pub fn len(&self) -> usize
+        ensures { result ≡ length self.now }
+    {
+        self.items.len()
+    }
+
+    /// Whether there is no item.
+    pub fn is_empty(&self) -> bool
+        ensures { IsTrue result ↔ (self.now ≡ []) }
+    {
+        self.items.is_empty()
+    }
+
+    /// The item at the index, counted from 0, or `None` past the last.
+    pub fn get(&self, at: usize) -> Option<&T>
+        ensures value { option_copied result ≡ slice_get self.now at }
+        ensures within { OnSome result (at < length self.now) }
+    {
+        self.items.get(at)
+    }
+}
+
+impl<T: Drop> List<T> {
+    /// Puts the item behind the last. After want of memory the list is as it was, and the item is dropped.
+    pub fn push(&mut self, item: T) -> Result<(), OutOfMemory>
+        ensures pushed { OnOk result (self.new ≡ self.old ++ item ∷ []) }
+        ensures unchanged { OnErr result (self.new ≡ self.old) }
+    {
+        self.items.push(item).map_err(|_| OutOfMemory)?;
+        Ok(())
+    }
+}

@@ -1,0 +1,49 @@
+ghost use Rattle.std.specs.Prelude.{◌≡◌, IfOk};
+
+use crate::memory::OutOfMemory;
+use std::alloc::Global;
+use std::marker::Model;
+use std::sync::Arc;
+
+/// A value with several owners, in one thread or in several, which contracts see as that value. Nobody can change it.
+#[derive(Drop)]
+pub struct Shared<T> {
+    content: Arc<T>,
+}
+
+impl<T> Model for Shared<T> {
+    ghost use Rattle.std.specs.Arc.{arc_value};
+
+    ghost Value = { T };
+
+    ghost coded = { T.code };
+
+    ghost view = { λ shared. arc_value shared.content };
+}
+
+impl<T> Shared<T> {
+    /// The value.
+    pub fn get(&self) -> &T
+        ensures { result.now ≡ self.now }
+    {
+        &self.content
+    }
+
+    /// One more owner of the same value, which is not copied.
+    pub fn share(&self) -> Result<Shared<T>, OutOfMemory>
+        ensures { IfOk result (λ shared. shared ≡ self.now) }
+    {
+        let content = Arc::try_clone(&self.content)?;
+        Ok(Shared { content })
+    }
+}
+
+impl<T: Drop> Shared<T> {
+    /// Puts the value where it can have several owners. After want of memory the value is dropped.
+    pub fn new(alloc: Global, value: T) -> Result<Shared<T>, OutOfMemory>
+        ensures { IfOk result (λ shared. shared ≡ value) }
+    {
+        let content = Arc::new(alloc, value).map_err(|_| OutOfMemory)?;
+        Ok(Shared { content })
+    }
+}
