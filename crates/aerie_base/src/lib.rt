@@ -3,6 +3,10 @@
 
 mod containers;
 mod memory;
+mod names;
+mod numbers;
 
 pub use containers::{Boxed, List, Shared};
 pub use memory::OutOfMemory;
+pub use names::Name;
+pub use numbers::{Number, Time};

@@ -1,0 +1,52 @@
+ghost use Rattle.std.specs.Prelude.{◌≡◌, pos};
+ghost use Rattle.aerie_base.specs.Ranges.{IsTime, time_of_signed};
+
+use std::marker::Model;
+
+/// The last time, in microseconds.
+const LAST: i64 = 1_000_000_000_000_000;
+
+/// A time since the start of a plan, or a duration, in microseconds, from 0 to 10^15. Contracts see how many
+/// microseconds it is, a natural number.
+#[derive(Clone, Copy, Debug, PartialEq, Eq, PartialOrd, Ord)]
+pub struct Time {
+    micros: i64,
+}
+
+impl Model for Time {
+    ghost use Rattle.std.specs.Prelude.{ℕ, pos, nat_abs, ◌≤ℤ◌};
+    ghost use Rattle.std.specs.Coded.{coded_ℕ};
+    ghost use Rattle.aerie_base.specs.TimeForms.{same_field};
+
+    ghost Value = { ℕ };
+
+    ghost coded = { coded_ℕ };
+
+    ghost view = { λ time. nat_abs time.micros };
+
+    ghost invariant = { λ time. (pos 0 ≤ℤ time.micros) × (time.micros ≤ℤ pos 1_000_000_000_000_000) };
+
+    ghost inverse = { λ micros. record { micros = pos micros } };
+
+    ghost inverse_ok = { λ time in_range. same_field time in_range.0 };
+}
+
+impl Time {
+    /// The time of so many microseconds, or `None` below 0 or above 10^15. It takes no memory.
+    pub fn new(value: i64) -> Option<Time>
+        ensures { result ≡ time_of_signed value }
+    {
+        if value < 0 || LAST < value {
+            return None;
+        }
+        Some(Time { micros: value })
+    }
+
+    /// The microseconds, from 0 to 10^15.
+    pub fn get(&self) -> i64
+        ensures value { result ≡ pos self.now }
+        ensures range { IsTime self.now }
+    {
+        self.micros
+    }
+}
