@@ -40,7 +40,7 @@ impl<T: Drop> Boxed<T> {
     pub fn new(alloc: Global, value: T) -> Result<Boxed<T>, OutOfMemory>
         ensures { IfOk result (λ boxed. boxed ≡ value) }
     {
-        let content = Box::new(alloc, value).map_err(|_| OutOfMemory)?;
+        let content = Box::new(alloc, value)?;
         Ok(Boxed { content })
     }
 }

@@ -85,7 +85,7 @@ impl<T: Drop> List<T> {
         ensures pushed { OnOk result (self.new ≡ self.old ++ item ∷ []) }
         ensures unchanged { OnErr result (self.new ≡ self.old) }
     {
-        self.items.push(item).map_err(|_| OutOfMemory)?;
+        self.items.push(item)?;
         Ok(())
     }
 }

@@ -43,7 +43,7 @@ impl<T: Drop> Shared<T> {
     pub fn new(alloc: Global, value: T) -> Result<Shared<T>, OutOfMemory>
         ensures { IfOk result (λ shared. shared ≡ value) }
     {
-        let content = Arc::new(alloc, value).map_err(|_| OutOfMemory)?;
+        let content = Arc::new(alloc, value)?;
         Ok(Shared { content })
     }
 }
