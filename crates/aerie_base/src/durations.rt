@@ -14,6 +14,7 @@ const LONGEST: u64 = 1_000_000_000_000_000;
 
 /// Reads a duration: one or more digits and at once a unit, `us`, `ms`, `s`, `min`, `h` or `d`, with nothing before or
 /// behind. `None` for any other text, and above 10^15 microseconds. It takes no memory, and time linear in the text.
+#[tactic(auto, using(crate::proofs::Digits::digit_count_within, crate::proofs::Digits::digits_in_front))]
 pub fn read_duration(text: &str) -> Option<Time>
     ensures { result ≡ duration_of text.now }
 {
@@ -51,6 +52,7 @@ fn unit_micros(unit: &[u8]) -> Option<u64>
 
 /// The number that the digits write, or `None` above the longest duration. There may be any number of digits, so it
 /// ends at the first that leads above.
+#[tactic(auto, using(crate::proofs::Digits::value_more))]
 fn number_within_range(digits: &[u8]) -> Option<u64>
     requires { IsTrue (list_all is_ascii_digit digits.now) }
     ensures { result ≡ time_of (digits_value 10 digits.now) }
