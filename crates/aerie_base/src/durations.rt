@@ -77,3 +77,33 @@ fn time_of_product(number: u64, micros: u64) -> Option<Time>
     }
     Time::new(product as i64)
 }
+
+#[cfg(test)]
+mod tests {
+    use super::*;
+
+    #[test]
+    fn reads_each_unit_and_refuses_what_is_no_duration(rt: HostRuntime) {
+        let cases = [
+            ("2min", Some(120_000_000)),
+            ("1us", Some(1)),
+            ("1ms", Some(1_000)),
+            ("1s", Some(1_000_000)),
+            ("1h", Some(3_600_000_000)),
+            ("1d", Some(86_400_000_000)),
+            ("0000005us", Some(5)),
+            ("000000000000000000000000000000000000000000000000007s", Some(7_000_000)),
+            ("1000000000000000us", Some(1_000_000_000_000_000)),
+            ("1000000000000001us", None),
+            ("99999999999999999999999999999999999999999999999999us", None),
+            ("us", None),
+            ("5", None),
+            ("5 us", None),
+            ("5mins", None),
+            ("", None),
+        ];
+        for (text, micros) in cases {
+            assert_eq!(&rt; read_duration(text).map(|time| time.get()), micros, "of {text}");
+        }
+    }
+}

@@ -157,3 +157,50 @@ fn is_name_byte(byte: u8) -> bool
 {
     byte.is_ascii_alphanumeric() || byte == b'_'
 }
+
+#[cfg(test)]
+mod tests {
+    use super::*;
+    use std::collections::{BTreeMap, HashMap};
+    use std::test::Fail;
+
+    #[test]
+    fn takes_names_alone(rt: HostRuntime) {
+        let longest = "a234567890123456789012345678901234567890123456789012345678901234";
+        let too_long = "a2345678901234567890123456789012345678901234567890123456789012345";
+        let cases = [
+            ("a1_", true),
+            ("_", true),
+            ("Zz", true),
+            (longest, true),
+            (too_long, false),
+            ("", false),
+            ("1a", false),
+            ("a-b", false),
+            ("é", false),
+        ];
+        for (text, is_name) in cases {
+            let name = Name::new(rt.alloc(), text).expect(&rt, "memory");
+            assert_eq!(&rt; name.is_some(), is_name, "of {text}");
+        }
+    }
+
+    #[test]
+    fn compares_names_by_their_bytes(rt: HostRuntime) -> Result<(), Fail> {
+        let name = Name::new(rt.alloc(), "power").expect(&rt, "memory").expect(&rt, "a name");
+        let later = Name::new(rt.alloc(), "storage").expect(&rt, "memory").expect(&rt, "a name");
+        let copy = name.copy().expect(&rt, "memory");
+        assert_eq!(&rt; copy.as_str(), "power");
+        assert!(&rt; name.is_same(&copy));
+        assert!(&rt; !name.is_same(&later));
+        assert!(&rt; name == copy);
+        assert!(&rt; name < later);
+        let mut places = BTreeMap::new(rt.alloc());
+        places.insert(copy, 1)?;
+        assert_eq!(&rt; places.get(&name), Some(&1));
+        let mut kinds = HashMap::new(rt.alloc());
+        kinds.insert(later, 2)?;
+        assert_eq!(&rt; kinds.get(&name), None);
+        Ok(())
+    }
+}

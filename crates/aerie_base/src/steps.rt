@@ -42,3 +42,27 @@ impl<L: Ledger> Steps<L> {
         self.book.add(&mut self.share, by);
     }
 }
+
+#[cfg(test)]
+mod tests {
+    use super::*;
+    use std::marker::Brand;
+
+    /// Counts two steps, and then five.
+    fn count_seven<L: Ledger>(blank: Blank) -> Steps<L>
+        requires name { blank.name ≡ L.name }
+        requires parts { blank.parts ≡ L.parts }
+        requires some { 0 < L.parts }
+        ensures { result ≡ 7 }
+    {
+        let mut steps = Steps::open(blank);
+        steps.rise(2);
+        steps.rise(5);
+        steps
+    }
+
+    #[test]
+    fn counts_with_a_ledger_of_its_own(_rt: HostRuntime) {
+        let _steps = count_seven::<Brand>(Blank::new(1));
+    }
+}
