@@ -1,5 +1,5 @@
 -- The text of a duration: digits and at once a unit, as "2min".
-use Rattle.std.specs.Prelude.{◌≡◌, ℕ, ◌*◌, nat_eq, List, [], take, drop, Bool, Option, Some, None, option_and_then, if◌then◌else◌, codes, refl}
+use Rattle.std.specs.Prelude.{◌≡◌, ℕ, ◌*◌, nat_eq, List, take, drop, Bool, Option, Some, None, option_and_then, if◌then◌else◌, codes, refl}
 use Rattle.std.specs.Char.{is_ascii_digit}
 use Rattle.std.specs.List.{prefix_len}
 use Rattle.std.specs.Str.Parse.{digits_value}

@@ -1,5 +1,5 @@
 -- A time is kept as a signed number and seen as a natural one. Nothing is lost by that.
-use Rattle.std.specs.Prelude.{◌≡◌, ℕ, ℤ, pos, negsuc, nat_abs, ◌≤ℤ◌, refl}
+use Rattle.std.specs.Prelude.{◌≡◌, ℤ, pos, negsuc, nat_abs, ◌≤ℤ◌, refl}
 use Rattle.std.proofs.Common.{arith, ap}
 use Rattle.std.proofs.lemmas.Int.{ints}
 use Rattle.aerie_base.specs.declared.numbers.time.Time.TheInside.{Inside}

@@ -32,7 +32,10 @@ pub fn read_duration(text: &str) -> Option<Time>
 fn digit_count(bytes: &[u8]) -> usize
     ensures { result ≡ digit_count bytes.now }
 {
-    bytes.iter().take_while(|byte| byte.is_ascii_digit()).count()
+    bytes
+        .iter()
+        .take_while(|byte| byte.is_ascii_digit())
+        .count()
 }
 
 /// The microseconds of a unit.
@@ -92,7 +95,10 @@ mod tests {
             ("1h", Some(3_600_000_000)),
             ("1d", Some(86_400_000_000)),
             ("0000005us", Some(5)),
-            ("000000000000000000000000000000000000000000000000007s", Some(7_000_000)),
+            (
+                "000000000000000000000000000000000000000000000000007s",
+                Some(7_000_000),
+            ),
             ("1000000000000000us", Some(1_000_000_000_000_000)),
             ("1000000000000001us", None),
             ("99999999999999999999999999999999999999999999999999us", None),
@@ -103,7 +109,11 @@ mod tests {
             ("", None),
         ];
         for (text, micros) in cases {
-            assert_eq!(&rt; read_duration(text).map(|time| time.get()), micros, "of {text}");
+            assert_eq!(&rt;
+                read_duration(text).map(|time| time.get()),
+                micros,
+                "of {text}"
+            );
         }
     }
 }

@@ -21,7 +21,10 @@ mod tests {
             (0, true),
         ];
         for (value, is_number) in cases {
-            assert_eq!(&rt; Number::new(value).map(|number| number.get()), if is_number { Some(value) } else { None });
+            assert_eq!(&rt;
+                Number::new(value).map(|number| number.get()),
+                if is_number { Some(value) } else { None }
+            );
         }
         assert!(&rt; Number::new(-3) < Number::new(2));
     }
@@ -35,7 +38,10 @@ mod tests {
             (0, true),
         ];
         for (value, is_time) in cases {
-            assert_eq!(&rt; Time::new(value).map(|time| time.get()), if is_time { Some(value) } else { None });
+            assert_eq!(&rt;
+                Time::new(value).map(|time| time.get()),
+                if is_time { Some(value) } else { None }
+            );
         }
         assert!(&rt; Time::new(3) > Time::new(2));
     }

@@ -35,9 +35,9 @@ the_weighed weight = weight
 abbrev stored : Former {0}
 stored =
     via (pair (const (Ptr × Global)) this) Inside
-        (λ X fields. ((fields.content.ptr, fields.content.alloc), fields.content.value))
-        (λ X parts. record { content = record { ptr = parts.0.0; alloc = parts.0.1; value = parts.1 } })
-        (λ X fields. refl) (λ X parts. refl)
+    (λ X fields. ((fields.content.ptr, fields.content.alloc), fields.content.value))
+    (λ X parts. record { content = record { ptr = parts.0.0; alloc = parts.0.1; value = parts.1 } })
+    (λ X fields. refl) (λ X parts. refl)
 
 -- the box with another value at the same address
 abbrev refilled : {X Y : Type 0} → Box X Global → Y → Box Y Global
@@ -60,11 +60,11 @@ module _ (R S : RattleType) (h : R.Denot → S.Denot) where
   pub the_places : Alike R S h → Alike (outer.the_row R) (outer.the_row S) ((the_former this).map R.Denot S.Denot h)
   the_places alike =
       view_places stored this view (λ X Y k fields. refl) (λ X fields. refl) R.Denot S.Denot h
-          (outer.the_row R).coded (outer.the_row S).coded (invariant R.Denot) (invariant S.Denot)
-          (λ fields p q. refl) (λ fields p q. refl) (λ fields same. tt) (λ fields same. tt)
-          (over (inner.the_row R)) (over (inner.the_row S))
-          (struct_places (inner.the_type R) (inner.the_type S) ((λ from. refilled from (h from.value)), tt) _
-              (λ fields. refl) refl (laid _ _ _ (box_places alike), tt))
+      (outer.the_row R).coded (outer.the_row S).coded (invariant R.Denot) (invariant S.Denot)
+      (λ fields p q. refl) (λ fields p q. refl) (λ fields same. tt) (λ fields same. tt)
+      (over (inner.the_row R)) (over (inner.the_row S))
+      (struct_places (inner.the_type R) (inner.the_type S) ((λ from. refilled from (h from.value)), tt) _
+      (λ fields. refl) refl (laid _ _ _ (box_places alike), tt))
 
   -- and the same code
   pub the_codes_placed : Recodes R S h → Recodes (outer.the_row R) (outer.the_row S) ((the_former this).map R.Denot S.Denot h)

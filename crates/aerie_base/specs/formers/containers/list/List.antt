@@ -43,18 +43,18 @@ the_items_listed X xs = list-listed X xs
 abbrev stored : Former {0}
 stored =
     via (vector.the_former this Global) Inside (λ X fields. fields.items) (λ X items. record { items = items })
-        (λ X fields. refl) (λ X items. refl)
+    (λ X fields. refl) (λ X items. refl)
 
 module _ (R S : RattleType) (h : R.Denot → S.Denot) where
   -- two kinds of item that are laid out alike give two lists that are
   pub the_places : Alike R S h → Alike (outer.the_row R) (outer.the_row S) ((the_former this).map R.Denot S.Denot h)
   the_places alike =
       view_places stored (list this) view (λ X Y k fields. refl) (λ X fields. refl) R.Denot S.Denot h
-          (outer.the_row R).coded (outer.the_row S).coded (invariant R.Denot) (invariant S.Denot)
-          (λ fields p q. refl) (λ fields p q. refl) (λ fields same. tt) (λ fields same. tt)
-          (over (inner.the_row R)) (over (inner.the_row S))
-          (struct_places (inner.the_type R) (inner.the_type S) (vector.mapped h, tt) _ (λ fields. refl) refl
-              (laid _ _ _ (vector.the_places global.the_row ghosts R S h alike), tt))
+      (outer.the_row R).coded (outer.the_row S).coded (invariant R.Denot) (invariant S.Denot)
+      (λ fields p q. refl) (λ fields p q. refl) (λ fields same. tt) (λ fields same. tt)
+      (over (inner.the_row R)) (over (inner.the_row S))
+      (struct_places (inner.the_type R) (inner.the_type S) (vector.mapped h, tt) _ (λ fields. refl) refl
+      (laid _ _ _ (vector.the_places global.the_row ghosts R S h alike), tt))
 
   -- and the same code
   pub the_codes_placed : Recodes R S h → Recodes (outer.the_row R) (outer.the_row S) ((the_former this).map R.Denot S.Denot h)
