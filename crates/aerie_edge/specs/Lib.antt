@@ -1,3 +1,7 @@
 pub mod Faults
-pub mod Written
+pub mod Holding
+pub mod Listed
 pub mod MemoryInput
+pub mod MemoryOutput
+pub mod SureOutput
+pub mod Written

@@ -1,7 +1,7 @@
 -- A source of bytes in memory whose reads are short and fail where a list says so.
-use Rattle.std.specs.Prelude.{ℕ, ◌==◌, Bool, List, drop, length, min, if◌then◌else◌}
-use Rattle.std.specs.List.{list_any}
+use Rattle.std.specs.Prelude.{ℕ, Bool, List, drop, length, min, if◌then◌else◌}
 use Rattle.aerie_edge.specs.Faults.{raised}
+use Rattle.aerie_edge.specs.Listed.{is_listed}
 
 pub record MemoryInput : Type 0 where
   -- the bytes still to come
@@ -14,11 +14,7 @@ pub record MemoryInput : Type 0 where
   pub calls : ℕ
   pub faults : ℕ
 
--- the list names the call
-abbrev pub is_listed : List ℕ → ℕ → Bool
-is_listed fails call = list_any (λ listed. listed == call) fails
-
--- the next read fails
+-- the list names the next read
 abbrev pub read_fails : MemoryInput → Bool
 read_fails input = is_listed input.fails (raised input.calls)
 

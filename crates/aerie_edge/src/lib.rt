@@ -5,11 +5,25 @@
 
 mod front;
 mod gate;
+mod hold_until;
+mod memory_sink;
 mod memory_source;
+mod open;
 mod sink;
 mod source;
+mod std_sink;
+mod std_source;
+mod sure_sink;
+mod sure_source;
 
 pub use gate::{Gate, Point};
+pub use hold_until::HoldUntil;
+pub use memory_sink::MemorySink;
 pub use memory_source::MemorySource;
+pub use open::Open;
 pub use sink::{Sink, WriteFailed};
 pub use source::{ReadFailed, Source};
+pub use std_sink::StdSink;
+pub use std_source::StdSource;
+pub use sure_sink::SureSink;
+pub use sure_source::SureSource;
