@@ -3,5 +3,5 @@ use Rattle.std.specs.Prelude.{ℕ}
 
 pub record Holding : Type 0 where
   pub held : ℕ
-  pub awaited : ℕ
+  pub until : ℕ
   pub turns : ℕ

@@ -1,4 +1,4 @@
-ghost use Rattle.std.specs.Prelude.{◌≡◌, ◌≤◌, ◌<◌, ◌++◌, [],  length, min, take, drop};
+ghost use Rattle.std.specs.Prelude.{◌≡◌, ◌≤◌, ◌<◌, ◌++◌, [], length, min, take, drop};
 
 /// Copies the front of the bytes into the front of the room: at most `most`, and as many as both have. Answers how many.
 #[tactic(auto, using(crate::proofs::Fronts::front_consumed, std::proofs::lemmas::Grind::common_steps))]

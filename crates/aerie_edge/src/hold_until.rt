@@ -10,7 +10,7 @@ use std::thread::yield_now;
 #[derive(Drop)]
 pub struct HoldUntil {
     held: u32,
-    awaited: u32,
+    until: u32,
     turns: u64,
     has_ended: AtomicBool,
     went_on: AtomicBool,
@@ -21,18 +21,18 @@ impl Model for HoldUntil {
 
     ghost Value = { Holding };
 
-    ghost view = { λ g. record { held = g.held; awaited = g.awaited; turns = g.turns } };
+    ghost view = { λ g. record { held = g.held; until = g.until; turns = g.turns } };
 }
 
 impl HoldUntil {
     /// Holds each simulation of the client `held` at its start until one of the client `until` has ended, and for at
     /// most this many turns, in each of which it looks and lets another thread run.
     pub fn new(held: u32, until: u32, turns: u64) -> HoldUntil
-        ensures { result ≡ record { held = held; awaited = until; turns = turns } }
+        ensures { result ≡ record { held = held; until = until; turns = turns } }
     {
         HoldUntil {
             held,
-            awaited: until,
+            until,
             turns,
             has_ended: AtomicBool::new(false),
             went_on: AtomicBool::new(false),
@@ -60,7 +60,7 @@ impl Gate for HoldUntil {
     fn at(&self, client: u32, _command: u32, point: Point) {
         match point {
             Point::Starts if client == self.held => self.hold(),
-            Point::Ends if client == self.awaited => self.has_ended.store(true, Ordering::SeqCst),
+            Point::Ends if client == self.until => self.has_ended.store(true, Ordering::SeqCst),
             _ => {}
         }
     }

@@ -24,11 +24,11 @@ impl Model for MemorySink {
     ghost Value = { MemoryOutput };
 
     ghost view = { λ s. record {
-        written = s.bytes.items;
-        piece = s.piece;
-        fails = s.fails.items;
-        calls = s.calls;
-        faults = s.faults;
+      written = s.bytes.items;
+      piece = s.piece;
+      fails = s.fails.items;
+      calls = s.calls;
+      faults = s.faults;
     } };
 }
 
@@ -37,11 +37,11 @@ impl MemorySink {
     /// Where `piece` is 0, each call with a piece that is not empty is a fault.
     pub fn new(alloc: Global, piece: usize, fails: Vec<u64>) -> MemorySink
         ensures { result ≡ record {
-            written = [];
-            piece = piece;
-            fails = fails.items;
-            calls = 0;
-            faults = 0;
+          written = [];
+          piece = piece;
+          fails = fails.items;
+          calls = 0;
+          faults = 0;
         } }
     {
         MemorySink {

@@ -26,11 +26,11 @@ impl Model for MemorySource {
     ghost Value = { MemoryInput };
 
     ghost view = { λ s. record {
-        left = drop s.given s.bytes.items;
-        piece = s.piece;
-        fails = s.fails.items;
-        calls = s.calls;
-        faults = s.faults;
+      left = drop s.given s.bytes.items;
+      piece = s.piece;
+      fails = s.fails.items;
+      calls = s.calls;
+      faults = s.faults;
     } };
 
     ghost invariant = { λ s. (1 ≤ s.piece) × (s.given ≤ length s.bytes.items) };
@@ -42,11 +42,11 @@ impl MemorySource {
     pub fn new(bytes: Vec<u8>, piece: usize, fails: Vec<u64>) -> MemorySource
         requires { 1 ≤ piece }
         ensures { result ≡ record {
-            left = bytes.items;
-            piece = piece;
-            fails = fails.items;
-            calls = 0;
-            faults = 0;
+          left = bytes.items;
+          piece = piece;
+          fails = fails.items;
+          calls = 0;
+          faults = 0;
         } }
     {
         MemorySource {

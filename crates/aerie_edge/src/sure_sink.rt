@@ -25,8 +25,8 @@ impl Model for SureSink {
     ghost Value = { SureOutput };
 
     ghost view = { λ s. record {
-        room = s.room;
-        told = if s.fits then Some s.bytes.items else None;
+      room = s.room;
+      told = if s.fits then Some s.bytes.items else None;
     } };
 
     ghost invariant = { λ s. (length s.bytes.items ≤ s.room) × (s.room ≤ vec_capacity s.bytes) };
