@@ -1,6 +1,6 @@
 -- What a sink holds, where it tells: it may stop telling, and one that told nothing never tells again.
-use Rattle.std.specs.Prelude.{◌≡◌, ℕ, List, [], ◌++◌, take, ⊤, Option, None, Some, Result, MatchResult}
-use Rattle.std.proofs.Common.{sym, ap, ◌∙◌, append-nil, append_assoc}
+use Rattle.std.specs.Prelude.{◌≡◌, ℕ, ◌+◌, List, [], ◌++◌, take, drop, ⊤, Option, None, Some, Result, MatchResult}
+use Rattle.std.proofs.Common.{sym, ap, subst, ◌∙◌, append-nil, append_assoc, take-add}
 
 -- these bytes came behind what was told before, if the sink still tells
 abbrev pub Receives : Option (List ℕ) → Option (List ℕ) → List ℕ → Type 0
@@ -27,3 +27,7 @@ Receives_in_turn (Some x) None None xs ys p q = tt
 Receives_in_turn (Some x) None (Some z) xs ys p q = absurd q
 Receives_in_turn (Some x) (Some y) None xs ys p q = tt
 Receives_in_turn (Some x) (Some y) (Some z) xs ys p q = q ∙ ap (λ l. l ++ ys) p ∙ append_assoc x xs ys
+
+-- the front of a text was received, and then the front of the rest
+pub Receives_more : (a b c : Option (List ℕ)) (text : List ℕ) (i n : ℕ) → Receives a b (take i text) → Receives b c (take n (drop i text)) → Receives a c (take (i + n) text)
+Receives_more a b c text i n p q = subst (Receives a c) (sym (take-add i n text)) (Receives_in_turn a b c (take i text) (take n (drop i text)) p q)
