@@ -1,5 +1,5 @@
 -- What a front of the bytes, put into the front of a room, takes from them.
-use Rattle.std.proofs.Common.{◌≡◌, ℕ, ◌+◌, ◌≤◌, List, ◌++◌, length, take, drop, drop-drop, take-append-drop, sym, arith}
+use Rattle.std.proofs.Common.{◌≡◌, ℕ, ◌≤◌, List, ◌++◌, length, take, drop, take-append-drop, sym, arith}
 use Rattle.std.proofs.lemmas.Grind.{common_steps}
 
 pub front_given : (bytes room new : List ℕ) (n : ℕ) → n ≤ length bytes → new ≡ take n bytes ++ drop n room → take n new ≡ take n bytes

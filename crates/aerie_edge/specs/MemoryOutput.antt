@@ -1,5 +1,5 @@
 -- A sink of bytes in memory whose writes are short and fail where a list says so.
-use Rattle.std.specs.Prelude.{ℕ, Bool, List, ◌++◌, min}
+use Rattle.std.specs.Prelude.{ℕ, Bool, List, ◌++◌}
 use Rattle.aerie_edge.specs.Faults.{raised}
 use Rattle.aerie_edge.specs.Listed.{is_listed}
 

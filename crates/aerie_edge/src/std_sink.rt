@@ -1,5 +1,6 @@
-ghost use Rattle.std.specs.Prelude.{◌≡◌, ◌≤◌, ◌<◌, length, None, IfOk, IfSome, is_err, if◌then◌else◌};
+ghost use Rattle.std.specs.Prelude.{◌≡◌, ◌≤◌, ◌<◌, length, take, None, IfOk, IfSome, is_err, if◌then◌else◌};
 ghost use Rattle.std.specs.Io.{WritesAtMost};
+ghost use Rattle.std.specs.Io.KnownBytes.{Appends};
 ghost use Rattle.aerie_edge.specs.Faults.{HasCause, raised};
 ghost use Rattle.aerie_edge.specs.Written.{WriteReceives};
 
@@ -7,7 +8,7 @@ use crate::sink::{Sink, WriteFailed};
 use std::io::Write;
 use std::marker::Model;
 
-/// A writer of std as a sink. It tells nothing of its content; contracts see it as its count of faults.
+/// A writer of std as a sink. It tells nothing of what was written, since that may be outside.
 #[derive(Drop)]
 pub struct StdSink<W> {
     writer: W,
@@ -15,17 +16,17 @@ pub struct StdSink<W> {
 }
 
 impl<W> Model for StdSink<W> {
-    ghost use Rattle.std.specs.Prelude.{ℕ};
+    ghost use Rattle.aerie_edge.specs.Counted.{Counted};
 
-    ghost Value = { ℕ };
+    ghost Value = { Counted W };
 
-    ghost view = { λ s. s.faults };
+    ghost view = { λ s. record { inner = s.writer; faults = s.faults } };
 }
 
 impl<W> StdSink<W> {
     /// The writer as a sink that has had no fault yet.
     pub fn new(writer: W) -> StdSink<W>
-        ensures { result ≡ 0 }
+        ensures { result ≡ record { inner = writer; faults = 0 } }
     {
         StdSink { writer, faults: 0 }
     }
@@ -34,7 +35,7 @@ impl<W> StdSink<W> {
 impl<W: Write> Sink for StdSink<W> {
     ghost written = { λ _. None };
 
-    ghost faults = { λ s. s };
+    ghost faults = { λ s. s.faults };
 
     /// Writes once and flushes, so that no byte that was taken waits in a buffer. Each error of the writer is one fault,
     /// and so is taking nothing of a piece that is not empty.
@@ -42,8 +43,9 @@ impl<W: Write> Sink for StdSink<W> {
         ensures bound { WritesAtMost result piece.now }
         ensures some { IfOk result (λ n. 0 < length piece.now → 0 < n) }
         ensures bytes { WriteReceives None None result piece.now }
-        ensures cause { HasCause self.old self.new result }
-        ensures counted { self.new ≡ (if is_err result then raised self.old else self.old) }
+        ensures cause { HasCause self.old.faults self.new.faults result }
+        ensures counted { self.new.faults ≡ (if is_err result then raised self.old.faults else self.old.faults) }
+        ensures taken { IfOk result (λ n. Appends (W.contents self.old.inner) (W.contents self.new.inner) (take n piece.now)) }
     {
         match put(&mut self.writer, piece) {
             Some(count) => Ok(count),
@@ -59,6 +61,7 @@ impl<W: Write> Sink for StdSink<W> {
 fn put<W: Write>(writer: &mut W, piece: &[u8]) -> Option<usize>
     ensures bound { IfSome result (λ n. n ≤ length piece.now) }
     ensures some { IfSome result (λ n. 0 < length piece.now → 0 < n) }
+    ensures taken { IfSome result (λ n. Appends (W.contents writer.old) (W.contents writer.new) (take n piece.now)) }
 {
     let count = writer.write(piece).ok()?;
     if count == 0 && !piece.is_empty() {

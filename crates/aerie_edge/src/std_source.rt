@@ -7,7 +7,7 @@ use crate::source::{ReadFailed, Source};
 use std::io::Read;
 use std::marker::Model;
 
-/// A reader of std as a source. It tells nothing of its content; contracts see it as its count of faults.
+/// A reader of std as a source. It tells nothing of what is still to come, since it may come from outside.
 #[derive(Drop)]
 pub struct StdSource<R> {
     reader: R,
@@ -15,17 +15,17 @@ pub struct StdSource<R> {
 }
 
 impl<R> Model for StdSource<R> {
-    ghost use Rattle.std.specs.Prelude.{ℕ};
+    ghost use Rattle.aerie_edge.specs.Counted.{Counted};
 
-    ghost Value = { ℕ };
+    ghost Value = { Counted R };
 
-    ghost view = { λ s. s.faults };
+    ghost view = { λ s. record { inner = s.reader; faults = s.faults } };
 }
 
 impl<R> StdSource<R> {
     /// The reader as a source that has had no fault yet.
     pub fn new(reader: R) -> StdSource<R>
-        ensures { result ≡ 0 }
+        ensures { result ≡ record { inner = reader; faults = 0 } }
     {
         StdSource { reader, faults: 0 }
     }
@@ -34,7 +34,7 @@ impl<R> StdSource<R> {
 impl<R: Read> Source for StdSource<R> {
     ghost left = { λ _. None };
 
-    ghost faults = { λ s. s };
+    ghost faults = { λ s. s.faults };
 
     ghost reads = { λ _. 0 };
 
@@ -42,9 +42,10 @@ impl<R: Read> Source for StdSource<R> {
     fn read(&mut self, room: &mut [u8]) -> Result<usize, ReadFailed>
         ensures bound { ReadsAtMost result room.new }
         ensures bytes { ReadConsumes None None result room.new }
-        ensures cause { HasCause self.old self.new result }
+        ensures cause { HasCause self.old.faults self.new.faults result }
         ensures reads { 0 ≤ 1 }
-        ensures counted { self.new ≡ (if is_err result then raised self.old else self.old) }
+        ensures counted { self.new.faults ≡ (if is_err result then raised self.old.faults else self.old.faults) }
+        ensures consumed { ReadConsumes (R.remaining self.old.inner) (R.remaining self.new.inner) result room.new }
     {
         match self.reader.read(room) {
             Ok(count) => Ok(count),
