@@ -1,5 +1,5 @@
 -- What a sink holds, where it tells: it may stop telling, and one that told nothing never tells again.
-use Rattle.std.specs.Prelude.{◌≡◌, ℕ, ◌+◌, List, [], ◌++◌, take, drop, ⊤, Option, None, Some, Result, MatchResult}
+use Rattle.std.specs.Prelude.{◌≡◌, ℕ, ◌+◌, List, [], ◌∷◌, ◌++◌, take, drop, ⊤, Option, None, Some, Result, MatchResult}
 use Rattle.std.proofs.Common.{sym, ap, subst, ◌∙◌, append-nil, append_assoc, take-add}
 
 -- these bytes came behind what was told before, if the sink still tells
@@ -31,3 +31,8 @@ Receives_in_turn (Some x) (Some y) (Some z) xs ys p q = q ∙ ap (λ l. l ++ ys)
 -- the front of a text was received, and then the front of the rest
 pub Receives_more : (a b c : Option (List ℕ)) (text : List ℕ) (i n : ℕ) → Receives a b (take i text) → Receives b c (take n (drop i text)) → Receives a c (take (i + n) text)
 Receives_more a b c text i n p q = subst (Receives a c) (sym (take-add i n text)) (Receives_in_turn a b c (take i text) (take n (drop i text)) p q)
+
+-- the pieces that a sink was handed, one for each write, where it tells them: this piece is one more
+abbrev pub Hands : Option (List (List ℕ)) → Option (List (List ℕ)) → List ℕ → Type 0
+Hands None after piece = ⊤
+Hands (Some before) after piece = after ≡ Some (before ++ piece ∷ [])

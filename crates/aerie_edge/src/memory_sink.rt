@@ -1,8 +1,8 @@
-ghost use Rattle.std.specs.Prelude.{◌≡◌, ◌<◌, length, min, take, [], true, IsErr, IfOk, OnErr, Some};
+ghost use Rattle.std.specs.Prelude.{None, ◌≡◌, ◌<◌, length, min, take, [], true, IsErr, IfOk, OnErr, Some};
 ghost use Rattle.std.specs.Io.{WritesAtMost};
 ghost use Rattle.aerie_edge.specs.Faults.{HasCause};
 ghost use Rattle.aerie_edge.specs.MemoryOutput.{after_fault, after_write, write_fails};
-ghost use Rattle.aerie_edge.specs.Written.{WriteReceives};
+ghost use Rattle.aerie_edge.specs.Written.{WriteReceives, Hands};
 
 use crate::sink::{Sink, WriteFailed};
 use std::alloc::Global;
@@ -66,6 +66,8 @@ impl Sink for MemorySink {
 
     ghost faults = { λ s. s.faults };
 
+    ghost pieces = { λ _. None };
+
     /// Fails where the call is listed, where it would take nothing of a piece that is not empty, and for want of
     /// memory; else takes as many bytes as the sink's piece allows.
     fn write(&mut self, piece: &[u8]) -> Result<usize, WriteFailed>
@@ -73,6 +75,7 @@ impl Sink for MemorySink {
         ensures some { IfOk result (λ n. 0 < length piece.now → 0 < n) }
         ensures bytes { WriteReceives (Some self.old.written) (Some self.new.written) result piece.now }
         ensures cause { HasCause self.old.faults self.new.faults result }
+        ensures pieces { Hands None None piece.now }
         ensures fails { write_fails self.old ≡ true → IsErr result }
         ensures count { IfOk result (λ n. n ≡ min self.old.piece (length piece.now)) }
         ensures taken { IfOk result (λ n. self.new ≡ after_write self.old (take n piece.now)) }

@@ -2,7 +2,7 @@ ghost use Rattle.std.specs.Prelude.{◌≡◌, ◌≤◌, ◌<◌, length, take,
 ghost use Rattle.std.specs.Io.{WritesAtMost};
 ghost use Rattle.std.specs.Io.KnownBytes.{Appends};
 ghost use Rattle.aerie_edge.specs.Faults.{HasCause, raised};
-ghost use Rattle.aerie_edge.specs.Written.{WriteReceives};
+ghost use Rattle.aerie_edge.specs.Written.{WriteReceives, Hands};
 
 use crate::sink::{Sink, WriteFailed};
 use std::io::Write;
@@ -37,6 +37,8 @@ impl<W: Write> Sink for StdSink<W> {
 
     ghost faults = { λ s. s.faults };
 
+    ghost pieces = { λ _. None };
+
     /// Writes once and flushes, so that no byte that was taken waits in a buffer. Each error of the writer is one fault,
     /// and so is taking nothing of a piece that is not empty.
     fn write(&mut self, piece: &[u8]) -> Result<usize, WriteFailed>
@@ -44,6 +46,7 @@ impl<W: Write> Sink for StdSink<W> {
         ensures some { IfOk result (λ n. 0 < length piece.now → 0 < n) }
         ensures bytes { WriteReceives None None result piece.now }
         ensures cause { HasCause self.old.faults self.new.faults result }
+        ensures pieces { Hands None None piece.now }
         ensures counted { self.new.faults ≡ (if is_err result then raised self.old.faults else self.old.faults) }
         ensures taken { IfOk result (λ n. Appends (W.contents self.old.inner) (W.contents self.new.inner) (take n piece.now)) }
     {

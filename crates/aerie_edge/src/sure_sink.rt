@@ -1,8 +1,8 @@
-ghost use Rattle.std.specs.Prelude.{◌≡◌, ◌≤◌, ◌<◌, length, [], IfOk, Ok, Some};
+ghost use Rattle.std.specs.Prelude.{None, ◌≡◌, ◌≤◌, ◌<◌, length, [], IfOk, Ok, Some};
 ghost use Rattle.std.specs.Io.{WritesAtMost};
 ghost use Rattle.aerie_edge.specs.Faults.{HasCause};
 ghost use Rattle.aerie_edge.specs.SureOutput.{after_sure_write};
-ghost use Rattle.aerie_edge.specs.Written.{WriteReceives};
+ghost use Rattle.aerie_edge.specs.Written.{WriteReceives, Hands};
 
 use crate::sink::{Sink, WriteFailed};
 use aerie_base::OutOfMemory;
@@ -50,12 +50,15 @@ impl Sink for SureSink {
 
     ghost faults = { λ _. 0 };
 
+    ghost pieces = { λ _. None };
+
     /// Never fails, takes the whole piece, and takes no memory.
     fn write(&mut self, piece: &[u8]) -> Result<usize, WriteFailed>
         ensures bound { WritesAtMost result piece.now }
         ensures some { IfOk result (λ n. 0 < length piece.now → 0 < n) }
         ensures bytes { WriteReceives self.old.told self.new.told result piece.now }
         ensures cause { HasCause 0 0 result }
+        ensures pieces { Hands None None piece.now }
         ensures count { result ≡ Ok (length piece.now) }
         ensures after { self.new ≡ after_sure_write self.old piece.now }
     {
