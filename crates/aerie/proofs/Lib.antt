@@ -1,0 +1,5 @@
+pub mod InputReads
+pub mod Outputs
+pub mod ThinReading
+pub mod ThinReport
+pub mod ThinRun

@@ -1,0 +1,4 @@
+pub mod Digits
+pub mod Lists
+pub mod Steps
+pub mod Words

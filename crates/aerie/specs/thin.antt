@@ -1,0 +1,12 @@
+pub mod Size
+pub mod Words
+pub mod Classes
+pub mod Reserved
+pub mod Reading
+pub mod Gives
+pub mod Checking
+pub mod Run
+pub mod Profile
+pub mod RunCases
+pub mod Lines
+pub mod LinesCases
