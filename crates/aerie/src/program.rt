@@ -1,4 +1,4 @@
-ghost use Rattle.std.specs.Prelude.{◌≡◌, ◌≤◌, ◌+◌, ◌∷◌, [], ℕ, List, Some, None, ◌↔◌, IsTrue, ◌⊎◌};
+ghost use Rattle.std.specs.Prelude.{◌≡◌, ◌<◌, ◌≤◌, ◌+◌, ◌∷◌, [], ℕ, List, Some, None, ◌↔◌, IsTrue, ◌⊎◌};
 ghost use Rattle.std.specs.Io.KnownBytes.{IsAtEnd};
 ghost use Rattle.aerie_edge.specs.Faults.{Rose};
 ghost use Rattle.aerie.specs.Input.{HasRead, HasReadAll};
@@ -14,8 +14,9 @@ use crate::thin;
 use aerie_base::{OutOfMemory, Steps};
 use aerie_edge::{Gate, Sink, Source};
 use std::alloc::Global;
+use std::marker::Brand;
 use std::sync::Wait;
-use std::sync::ledger::Ledger;
+use std::sync::ledger::{Blank, Ledger};
 use std::thread::Threads;
 
 /// How the program ended, and the status that says so.
@@ -120,4 +121,33 @@ pub fn aerie<R: Threads + Wait + Sync, S: Source, K: Sink, G: Gate, L: Ledger>(
         Ok(()) => Status::Done as u8,
         Err(_) => Status::WriteFailed as u8,
     }
+}
+
+fn counted<R: Threads + Wait + Sync, S: Source, K: Sink, G: Gate, L: Ledger>(
+    rt: &R,
+    alloc: Global,
+    words: &[String],
+    source: &mut S,
+    sink: &mut K,
+    gate: &G,
+    blank: Blank,
+) -> u8
+    requires name { blank.name ≡ L.name }
+    requires parts { blank.parts ≡ L.parts }
+    requires some { 0 < L.parts }
+{
+    let mut steps = Steps::<L>::open(blank);
+    aerie(rt, alloc, words, source, sink, gate, &mut steps)
+}
+
+/// The program with a counter of statements that nobody else reads.
+pub fn with_own_counter<R: Threads + Wait + Sync, S: Source, K: Sink, G: Gate>(
+    rt: &R,
+    alloc: Global,
+    words: &[String],
+    source: &mut S,
+    sink: &mut K,
+    gate: &G,
+) -> u8 {
+    counted::<R, S, K, G, Brand>(rt, alloc, words, source, sink, gate, Blank::new(1))
 }

@@ -1,4 +1,4 @@
-use Rattle.aerie.proofs.main.Given as goal
+use Rattle.aerie.proofs.program.with_own_counter.Given as goal
 
 abbrev pub ghosts-counted : goal.ghosts-counted
 ghosts-counted g a = record { name = a.blank.name; parts = a.blank.parts }

@@ -1,0 +1,296 @@
+//! The whole program over sources and sinks in memory.
+use crate::program::with_own_counter;
+use aerie_edge::{
+    Gate, HoldUntil, MemorySink, MemorySource, Open, Point, Sink, Source, SureSource,
+};
+use std::alloc::{AllocError, Global};
+use std::process::Abort;
+use std::sync::Wait;
+use std::test::Fail;
+use std::thread::Threads;
+
+const FIRST: &str = r#"model m { counter n = 0; discrete n = n;
+  activity Bump(by: int) { n += by; delay 10us; n += by; } }
+plan main { start "2030-01-01T00:00:00Z"; duration 100us; }
+client a { add main at 5us Bump(by = 3); simulate main; }
+"#;
+
+const FIRST_TEXT: &str = r#"[[0,0,0],[0,1,0],[0,1,1]]
+{"client":"a","command":0,"ok":{"branch":"main","id":1,"revision":1}}
+{"client":"a","command":1,"ok":{"attached":true,"branch":"main","outcome":"completed","profiles":[{"name":"n","segments":[[0,0],[5,3],[15,6]]}],"reach":100,"revision":1,"spans":[{"arguments":{"by":3},"end":15,"path":"1","result":null,"start":5,"type":"Bump"}],"violations":[]}}
+"#;
+
+const UNBUILT: &str = "{\"refused\":{\"name\":\"Unbuilt\"}}\n";
+
+/// The one good list of words.
+fn run_words(alloc: Global) -> Result<Vec<String>, AllocError> {
+    let mut words = Vec::new(alloc);
+    words.push(String::from_str(alloc, "run")?)?;
+    Ok(words)
+}
+
+/// The status of the program over this source and this sink.
+fn status_of<R: Threads + Wait + Sync, S: Source, K: Sink>(
+    rt: &R,
+    alloc: Global,
+    source: &mut S,
+    sink: &mut K,
+) -> Result<u8, AllocError> {
+    let words = run_words(alloc)?;
+    Ok(with_own_counter(rt, alloc, &words, source, sink, &Open))
+}
+
+/// Runs the session, and compares the status and what is written.
+fn check<R: Threads + Wait + Sync + Abort>(
+    rt: &R,
+    alloc: Global,
+    session: &str,
+    status: u8,
+    text: &str,
+) -> Result<(), AllocError> {
+    let mut source = SureSource::new(Vec::from_slice(alloc, session.as_bytes())?);
+    let mut sink = MemorySink::new(alloc, usize::MAX, Vec::new(alloc));
+    let got = status_of(rt, alloc, &mut source, &mut sink)?;
+    assert_eq!(rt; got, status, "of {session}");
+    assert_eq!(rt; sink.bytes(), text.as_bytes(), "of {session}");
+    Ok(())
+}
+
+/// The first session with one of its parts changed.
+fn changed<R: Abort>(rt: &R, alloc: Global, part: &str, by: &str) -> Result<String, AllocError> {
+    let (before, behind) = FIRST.split_once(part).expect(rt, "a part of the session");
+    format!(in alloc; "{before}{by}{behind}")
+}
+
+/// The text so many times over, with a separator between.
+fn repeated(alloc: Global, text: &str, times: usize) -> Result<String, AllocError> {
+    let mut all = String::new(alloc);
+    for _ in 0..times {
+        all.push_str(text)?;
+    }
+    Ok(all)
+}
+
+const ORDERS: &str = r#"model m{activity Go(up:int,pause:duration){tank+= -2;delay 0us;tank+=up;
+delay 1min;tank+=pause;}discrete level=tank;counter tank=- 7;}plan p{start"2030-01-01T00:00:00Z";duration 2min;}
+client x{add p at 30sGo(pause=5ms,up=0010);simulate p;}"#;
+
+const ORDERS_TEXT: &str = r#"[[0,0,0],[0,1,0],[0,1,1]]
+{"client":"x","command":0,"ok":{"branch":"p","id":1,"revision":1}}
+{"client":"x","command":1,"ok":{"attached":true,"branch":"p","outcome":"completed","profiles":[{"name":"level","segments":[[0,-7],[30000000,1],[90000000,5001]]}],"reach":120000000,"revision":1,"spans":[{"arguments":{"pause":5000,"up":10},"end":90000000,"path":"1","result":null,"start":30000000,"type":"Go"}],"violations":[]}}
+"#;
+
+const CUT_OFF: &str =
+    "\tmodel m { counter n = 0; activity A() { n += 5; n += -5; delay 10us; n += 1; } discrete r = n; }\r\n\tplan main { start \"2030-01-01T00:00:00Z\"; duration 10us; } client c { add main at 0us A(); simulate main; }";
+
+const CUT_OFF_TEXT: &str = r#"[[0,0,0],[0,1,0],[0,1,1]]
+{"client":"c","command":0,"ok":{"branch":"main","id":1,"revision":1}}
+{"client":"c","command":1,"ok":{"attached":true,"branch":"main","outcome":"completed","profiles":[{"name":"r","segments":[[0,0]]}],"reach":10,"revision":1,"spans":[{"arguments":{},"end":null,"path":"1","result":null,"start":0,"type":"A"}],"violations":[]}}
+"#;
+
+#[test]
+fn thin_sessions_are_performed(rt: HostRuntime) -> Result<(), Fail> {
+    let sessions = [
+        (FIRST, FIRST_TEXT),
+        (ORDERS, ORDERS_TEXT),
+        (CUT_OFF, CUT_OFF_TEXT),
+    ];
+    for (session, text) in sessions {
+        check(&rt, rt.alloc(), session, 0, text)?;
+    }
+    Ok(())
+}
+
+#[test]
+fn other_sessions_are_refused(rt: HostRuntime) -> Result<(), Fail> {
+    let changes = [
+        (FIRST, ""),
+        ("counter n = 0;", "counter n = 0; counter k = 0;"),
+        ("counter n = 0;", "counter n = 1000000001;"),
+        ("counter n = 0;", "counter n = 00000000000000000000;"),
+        ("counter n = 0;", "counter n = 0x;"),
+        ("counter n = 0;", ""),
+        ("discrete n = n;", "discrete n = k;"),
+        ("discrete n = n;", "linear n = n;"),
+        ("by: int", "by: truth"),
+        ("by: int", "by: int = 3"),
+        ("by: int", "by: int, by: int"),
+        ("by: int", "n: int"),
+        ("Bump(by: int)", "Bump(by: int) -> int"),
+        ("activity Bump", "activity n"),
+        ("n += by;", "n + = by;"),
+        ("n += by;", "k += by;"),
+        ("n += by;", "n += up;"),
+        ("n += by;", "n := by;"),
+        ("n += by;", "require by > 0; n += by;"),
+        ("delay 10us;", "delay by;"),
+        ("delay 10us;", "delay 10;"),
+        ("delay 10us;", "// a comment\n delay 10us;"),
+        ("delay 10us;", "spawn Bump(by = 1);"),
+        ("T00:00:00Z", "T00:00:00"),
+        ("duration 100us;", "duration 0us;"),
+        ("duration 100us;", "duration 1000000000000001us;"),
+        ("duration 100us;", "duration 5us;"),
+        ("duration 100us;", "duration 100us; at 1us Bump(by = 1);"),
+        ("plan main {", "plan plan {"),
+        ("at 5us", "at 5"),
+        ("at 5us", "at start of 1 + 5us"),
+        ("by = 3", "by = 1000000001"),
+        ("by = 3", "by = 3, by = 3"),
+        ("by = 3", "up = 3"),
+        ("by = 3", "by = true"),
+        ("by = 3", ""),
+        ("5us Bump", "5us Go"),
+        ("add main", "add other"),
+        ("simulate main;", "simulate main; simulate main;"),
+        ("simulate main;", "simulate other;"),
+        ("simulate main; }", "simulate main; } }"),
+        ("simulate main; }", "simulate main; } client b { }"),
+        ("client a {", "client a { show main;"),
+        ("client a {", "client \u{e9} {"),
+    ];
+    for (part, by) in changes {
+        let session = changed(&rt, rt.alloc(), part, by)?;
+        check(&rt, rt.alloc(), &session, 3, UNBUILT)?;
+    }
+    Ok(())
+}
+
+/// A name, a body and a list of parameters as long as they may be, and one more.
+#[test]
+fn limits_are_kept(rt: HostRuntime) -> Result<(), Fail> {
+    let alloc = rt.alloc();
+    let long = repeated(alloc, "x", 64)?;
+    let session = changed(&rt, alloc, "model m", &format!(in alloc; "model {long}")?)?;
+    check(&rt, alloc, &session, 0, FIRST_TEXT)?;
+    let session = changed(&rt, alloc, "model m", &format!(in alloc; "model {long}x")?)?;
+    check(&rt, alloc, &session, 3, UNBUILT)?;
+    let body = repeated(alloc, " n += 0;", 61)?;
+    let session = changed(
+        &rt,
+        alloc,
+        "delay 10us;",
+        &format!(in alloc; "delay 10us;{body}")?,
+    )?;
+    check(&rt, alloc, &session, 0, FIRST_TEXT)?;
+    let session = changed(
+        &rt,
+        alloc,
+        "delay 10us;",
+        &format!(in alloc; "delay 10us;{body} n += 0;")?,
+    )?;
+    check(&rt, alloc, &session, 3, UNBUILT)?;
+    Ok(())
+}
+
+/// The first session and white space behind it up to so many bytes in all.
+fn padded(alloc: Global, len: usize) -> Result<Vec<u8>, AllocError> {
+    let mut bytes = Vec::with_capacity(alloc, len)?;
+    bytes.extend_from_slice(FIRST.as_bytes())?;
+    for _ in FIRST.len()..len {
+        bytes.push(b' ')?;
+    }
+    Ok(bytes)
+}
+
+#[test]
+fn a_session_has_a_longest_length(rt: HostRuntime) -> Result<(), Fail> {
+    let alloc = rt.alloc();
+    for (len, status, text) in [(16_777_216, 0, FIRST_TEXT), (16_777_217, 3, UNBUILT)] {
+        let mut source = SureSource::new(padded(alloc, len)?);
+        let mut sink = MemorySink::new(alloc, usize::MAX, Vec::new(alloc));
+        let got = status_of(&rt, alloc, &mut source, &mut sink)?;
+        assert_eq!(rt; got, status);
+        assert_eq!(rt; sink.bytes(), text.as_bytes());
+    }
+    let spaces = vec![in alloc; b' '; 16_777_217]?;
+    let mut source = SureSource::new(spaces);
+    let mut sink = MemorySink::new(alloc, usize::MAX, Vec::new(alloc));
+    assert_eq!(rt; status_of(&rt, alloc, &mut source, &mut sink)?, 3);
+    Ok(())
+}
+
+#[test]
+fn a_read_that_fails_ends_the_program(rt: HostRuntime) -> Result<(), Fail> {
+    let alloc = rt.alloc();
+    for call in 1..=5u64 {
+        let bytes = Vec::from_slice(alloc, FIRST.as_bytes())?;
+        let mut source = MemorySource::new(bytes, 64, Vec::from_slice(alloc, &[call])?);
+        let mut sink = MemorySink::new(alloc, usize::MAX, Vec::new(alloc));
+        assert_eq!(rt;
+            status_of(&rt, alloc, &mut source, &mut sink)?,
+            4,
+            "at {call}"
+        );
+        assert_eq!(rt; sink.bytes().len(), 0);
+    }
+    Ok(())
+}
+
+#[test]
+fn a_write_that_fails_leaves_a_front(rt: HostRuntime) -> Result<(), Fail> {
+    let alloc = rt.alloc();
+    for call in 1..=8usize {
+        let bytes = Vec::from_slice(alloc, FIRST.as_bytes())?;
+        let mut source = MemorySource::new(bytes, 64, Vec::new(alloc));
+        let mut sink = MemorySink::new(alloc, 50, Vec::from_slice(alloc, &[call as u64])?);
+        assert_eq!(rt;
+            status_of(&rt, alloc, &mut source, &mut sink)?,
+            5,
+            "at {call}"
+        );
+        assert_eq!(rt;
+            Some(sink.bytes()),
+            FIRST_TEXT.as_bytes().get(..50 * (call - 1))
+        );
+    }
+    let mut source = SureSource::new(Vec::from_slice(alloc, FIRST.as_bytes())?);
+    let mut sink = MemorySink::new(alloc, 0, Vec::new(alloc));
+    assert_eq!(rt; status_of(&rt, alloc, &mut source, &mut sink)?, 5);
+    assert_eq!(rt; sink.bytes().len(), 0);
+    Ok(())
+}
+
+/// Nothing is read for other words, so that the source's fault is not met.
+#[test]
+fn other_words_are_refused(rt: HostRuntime) -> Result<(), Fail> {
+    let alloc = rt.alloc();
+    let lists: [&[&str]; 5] = [&[], &["check"], &["Run"], &["run", "run"], &["run "]];
+    for list in lists {
+        let mut words = Vec::new(alloc);
+        for word in list {
+            words.push(String::from_str(alloc, *word)?)?;
+        }
+        let bytes = Vec::from_slice(alloc, FIRST.as_bytes())?;
+        let mut source = MemorySource::new(bytes, 64, Vec::from_slice(alloc, &[1u64])?);
+        let mut sink = MemorySink::new(alloc, usize::MAX, Vec::new(alloc));
+        let status = with_own_counter(&rt, alloc, &words, &mut source, &mut sink, &Open);
+        assert_eq!(rt; status, 2);
+        assert_eq!(rt;
+            sink.bytes(),
+            b"{\"refused\":{\"name\":\"Words\"}}\n".as_slice()
+        );
+    }
+    Ok(())
+}
+
+/// The gate is told of the simulation's start, where it may hold it, and of its end.
+#[test]
+fn the_gate_sees_the_simulation(rt: HostRuntime) -> Result<(), Fail> {
+    let alloc = rt.alloc();
+    let words = run_words(alloc)?;
+    let holds = HoldUntil::new(0, 1, 5);
+    let waits = HoldUntil::new(1, 0, 5);
+    for gate in [&holds, &waits] {
+        let mut source = SureSource::new(Vec::from_slice(alloc, FIRST.as_bytes())?);
+        let mut sink = MemorySink::new(alloc, usize::MAX, Vec::new(alloc));
+        assert_eq!(rt;
+            with_own_counter(&rt, alloc, &words, &mut source, &mut sink, gate),
+            0
+        );
+    }
+    assert!(rt; !holds.ended());
+    waits.at(1, 0, Point::Starts);
+    assert!(rt; waits.ended());
+    Ok(())
+}
