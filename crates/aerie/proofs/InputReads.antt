@@ -1,8 +1,8 @@
 -- A read after other reads.
-use Rattle.std.proofs.Common.{◌≡◌, ℕ, ◌+◌, ◌<◌, ◌≤◌, List, ◌++◌, length, Option, Result, Ok, sym, subst, ◌∙◌, ap, arith, length-append, inl}
+use Rattle.std.proofs.Common.{◌≡◌, ℕ, ◌+◌, ◌<◌, ◌≤◌, List, ◌++◌, length, Option, Result, Ok, sym, subst, ◌∙◌, ap, arith, length-append}
 use Rattle.std.specs.Io.KnownBytes.{Consumes, IsAtEnd}
 use Rattle.std.proofs.KnownBytes.{Consumes-trans}
-use Rattle.aerie.specs.Input.{HasRead, HasReadAll, ReadsMore, most_read}
+use Rattle.aerie.specs.Input.{HasRead, ReadsMore, most_read}
 
 -- whatever a read answers, what was read so far is read, and what it took
 pub read_on : {E : Type 0} (a b c : Option (List ℕ)) (room : ℕ) (bytes new : List ℕ) (result : Result ℕ E)

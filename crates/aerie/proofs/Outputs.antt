@@ -1,6 +1,6 @@
 -- What the program was to write.
-use Rattle.std.proofs.Common.{◌≡◌, ℕ, ◌<◌, ◌≤◌, ◌↔◌, IsTrue, Bool, true, false, cond, leb, List, [], ◌∷◌, length, get_or, map, codes, String, Option, Some, None, refl, sym, ap, subst, ◌∙◌, inl, inr, arith}
-use Rattle.std.specs.Prelude.{option_map, unwrap_or, string_bytes, slice_index_or}
+use Rattle.std.proofs.Common.{◌≡◌, ℕ, ◌<◌, ◌≤◌, ◌↔◌, IsTrue, Bool, true, false, cond, leb, List, [], ◌∷◌, length, get_or, codes, String, Option, Some, None, refl, sym, ap, subst, ◌∙◌, inl, inr, arith}
+use Rattle.std.specs.Prelude.{option_map, string_bytes}
 use Rattle.std.specs.declared.alloc.Global.{Global}
 use Rattle.std.specs.Io.KnownBytes.{IsAtEnd}
 use Rattle.std.specs.Str.{bytes_eq}
@@ -8,7 +8,7 @@ use Rattle.std.proofs.lemmas.Slice.Eq.{bytes_eq-Decides}
 use Rattle.std.proofs.lemmas.Bool.{leb-true}
 use Rattle.aerie.specs.Input.{HasReadAll}
 use Rattle.aerie.specs.Output.{WritesAll}
-use Rattle.aerie.specs.Program.{AreGood, IsOutput, output_of, unbuilt_line, words_line}
+use Rattle.aerie.specs.Program.{AreGood, IsOutput, output_of}
 use Rattle.aerie.specs.declared.thin.session.Session.{Session}
 use Rattle.aerie.specs.declared.thin.syntax.Text.{Text}
 use Rattle.aerie.specs.thin.Checking.{session_of, session_in}

@@ -1,9 +1,7 @@
 -- What the program answers.
-use Rattle.std.specs.Prelude.{◌≡◌, ℕ, ◌==◌, Bool, ◌||◌, List, [], ◌∷◌, Option, Some, None, String, string_bytes, codes, map, option_map, unwrap_or}
+use Rattle.std.specs.Prelude.{◌≡◌, ℕ, ◌==◌, Bool, ◌||◌, List, [], ◌∷◌, Option, String, string_bytes, codes, map, option_map, unwrap_or}
 use Rattle.std.specs.declared.alloc.Global.{Global}
-use Rattle.std.specs.Io.KnownBytes.{IsAtEnd}
-use Rattle.aerie.specs.Input.{HasRead, HasReadAll}
-use Rattle.aerie.specs.Output.{WritesAll}
+use Rattle.aerie.specs.Input.{HasReadAll}
 use Rattle.aerie.specs.thin.Checking.{session_of}
 use Rattle.aerie.specs.thin.Lines.{text_of}
 

@@ -10,3 +10,4 @@ pub mod Profile
 pub mod RunCases
 pub mod Lines
 pub mod LinesCases
+pub mod ReadingCases

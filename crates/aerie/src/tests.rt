@@ -9,6 +9,7 @@ use std::sync::Wait;
 use std::test::Fail;
 use std::thread::Threads;
 
+/// The first example.
 const FIRST: &str = r#"model m { counter n = 0; discrete n = n;
   activity Bump(by: int) { n += by; delay 10us; n += by; } }
 plan main { start "2030-01-01T00:00:00Z"; duration 100us; }
@@ -62,7 +63,7 @@ fn changed<R: Abort>(rt: &R, alloc: Global, part: &str, by: &str) -> Result<Stri
     format!(in alloc; "{before}{by}{behind}")
 }
 
-/// The text so many times over, with a separator between.
+/// The text so many times over.
 fn repeated(alloc: Global, text: &str, times: usize) -> Result<String, AllocError> {
     let mut all = String::new(alloc);
     for _ in 0..times {
@@ -71,6 +72,7 @@ fn repeated(alloc: Global, text: &str, times: usize) -> Result<String, AllocErro
     Ok(all)
 }
 
+/// Items and arguments in other orders, little white space, a delay of no time, and numbers in other spellings.
 const ORDERS: &str = r#"model m{activity Go(up:int,pause:duration){tank+= -2;delay 0us;tank+=up;
 delay 1min;tank+=pause;}discrete level=tank;counter tank=- 7;}plan p{start"2030-01-01T00:00:00Z";duration 2min;}
 client x{add p at 30sGo(pause=5ms,up=0010);simulate p;}"#;
@@ -80,6 +82,28 @@ const ORDERS_TEXT: &str = r#"[[0,0,0],[0,1,0],[0,1,1]]
 {"client":"x","command":1,"ok":{"attached":true,"branch":"p","outcome":"completed","profiles":[{"name":"level","segments":[[0,-7],[30000000,1],[90000000,5001]]}],"reach":120000000,"revision":1,"spans":[{"arguments":{"pause":5000,"up":10},"end":90000000,"path":"1","result":null,"start":30000000,"type":"Go"}],"violations":[]}}
 "#;
 
+/// The second example: the plan ends before the activity does.
+const HEATER: &str = r#"model rover {
+  counter heaters = 0;
+  discrete heaters = heaters;
+  activity WarmUp(units: int) {
+    heaters += units;
+    delay 30min;
+    heaters += -1;
+    delay 10min;
+    heaters += -1;
+  }
+}
+plan day { start "2030-01-01T00:00:00Z"; duration 1h; }
+client ops { add day at 25min WarmUp(units = 2); simulate day; }
+"#;
+
+const HEATER_TEXT: &str = r#"[[0,0,0],[0,1,0],[0,1,1]]
+{"client":"ops","command":0,"ok":{"branch":"day","id":1,"revision":1}}
+{"client":"ops","command":1,"ok":{"attached":true,"branch":"day","outcome":"completed","profiles":[{"name":"heaters","segments":[[0,0],[1500000000,2],[3300000000,1]]}],"reach":3600000000,"revision":1,"spans":[{"arguments":{"units":2},"end":null,"path":"1","result":null,"start":1500000000,"type":"WarmUp"}],"violations":[]}}
+"#;
+
+/// Effects that cancel, and others as the plan ends, which do not happen.
 const CUT_OFF: &str =
     "\tmodel m { counter n = 0; activity A() { n += 5; n += -5; delay 10us; n += 1; } discrete r = n; }\r\n\tplan main { start \"2030-01-01T00:00:00Z\"; duration 10us; } client c { add main at 0us A(); simulate main; }";
 
@@ -92,6 +116,7 @@ const CUT_OFF_TEXT: &str = r#"[[0,0,0],[0,1,0],[0,1,1]]
 fn thin_sessions_are_performed(rt: HostRuntime) -> Result<(), Fail> {
     let sessions = [
         (FIRST, FIRST_TEXT),
+        (HEATER, HEATER_TEXT),
         (ORDERS, ORDERS_TEXT),
         (CUT_OFF, CUT_OFF_TEXT),
     ];

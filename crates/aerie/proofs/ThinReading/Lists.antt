@@ -1,9 +1,9 @@
 -- A list that is read part by part.
-use Rattle.std.proofs.Common.{◌≡◌, ℕ, zero, suc, ◌+◌, ◌-◌, ◌<◌, ◌≤◌, Bool, true, false, cond, List, [], ◌∷◌, ◌++◌, Option, Some, None, refl, sym, ap, ◌∙◌, append_assoc, append-nil, arith, codes}
+use Rattle.std.proofs.Common.{◌≡◌, ℕ, suc, ◌+◌, ◌-◌, ◌<◌, ◌≤◌, List, [], ◌∷◌, ◌++◌, Option, Some, None, refl, sym, ap, ◌∙◌, append_assoc, append-nil, arith, codes}
 use Rattle.aerie.specs.declared.thin.read_error.ReadError.{ReadError}
 use Rattle.aerie.specs.declared.thin.read_error.ReadError.TheVariants as errors
 use Rattle.aerie.specs.thin.Words.{◌>>=◌, symbol_at}
-use Rattle.aerie.specs.thin.Reading.{or_else, block_at, parts_at}
+use Rattle.aerie.specs.thin.Reading.{block_at, parts_at}
 use Rattle.aerie.specs.thin.Gives.{Fails}
 
 -- what is read, behind the parts that were read before

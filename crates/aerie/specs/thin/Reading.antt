@@ -1,5 +1,5 @@
 -- The grammar of a thin session: what each of its parts is, and the text behind it.
-use Rattle.std.specs.Prelude.{ℕ, zero, suc, ◌==◌, ℤ, pos, neg_ℤ, List, [], ◌∷◌, ◌++◌, length, Option, Some, None, codes, if◌then◌else◌}
+use Rattle.std.specs.Prelude.{ℕ, zero, suc, ◌==◌, ℤ, pos, neg_ℤ, List, [], ◌∷◌, length, Option, Some, None, codes, if◌then◌else◌}
 use Rattle.aerie_base.specs.Names.{name_of}
 use Rattle.aerie.specs.declared.thin.session.Argument.{Argument}
 use Rattle.aerie.specs.declared.thin.syntax.Amount.{Amount}

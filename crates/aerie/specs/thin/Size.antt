@@ -1,5 +1,5 @@
 -- How large a thin session may be.
-use Rattle.std.specs.Prelude.{ℕ, ℤ, Bool, true, List, length, nat_le, nat_lt, ◌&&◌}
+use Rattle.std.specs.Prelude.{ℤ, Bool, true, length, nat_le, nat_lt, ◌&&◌}
 use Rattle.std.specs.Int.RustNames.{unsigned_abs}
 use Rattle.std.specs.List.{list_all}
 use Rattle.aerie.specs.declared.thin.session.Argument.{Argument}

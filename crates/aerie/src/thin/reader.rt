@@ -20,12 +20,10 @@ impl<'a> Reader<'a> {
     pub fn keyword(&mut self, keyword: &[u8]) -> Result<(), ReadError>
         ensures { Gives (λ _. self.new.rest.now) result (keyword_at keyword.now self.old.rest.now) }
     {
-        match keyword_at(self.rest, keyword) {
-            Some(rest) => {
-                self.rest = rest;
-                Ok(())
-            }
-            None => Err(ReadError::NotThin),
+        if self.has_keyword(keyword) {
+            Ok(())
+        } else {
+            Err(ReadError::NotThin)
         }
     }
 
@@ -47,12 +45,10 @@ impl<'a> Reader<'a> {
     pub fn symbol(&mut self, symbol: &[u8]) -> Result<(), ReadError>
         ensures { Gives (λ _. self.new.rest.now) result (symbol_at symbol.now self.old.rest.now) }
     {
-        match symbol_at(self.rest, symbol) {
-            Some(rest) => {
-                self.rest = rest;
-                Ok(())
-            }
-            None => Err(ReadError::NotThin),
+        if self.has_symbol(symbol) {
+            Ok(())
+        } else {
+            Err(ReadError::NotThin)
         }
     }
 

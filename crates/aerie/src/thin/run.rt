@@ -8,7 +8,7 @@ use aerie_base::{List, OutOfMemory, Time};
 use std::alloc::Global;
 
 /// A part of a discrete profile: the value from this time on, until the next segment begins.
-#[derive(Clone, Copy, Debug)]
+#[derive(Clone, Copy)]
 pub struct Segment {
     /// In microseconds from the plan's start.
     pub from: Time,

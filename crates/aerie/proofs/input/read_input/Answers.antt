@@ -1,5 +1,4 @@
-use Rattle.std.proofs.Common.{ℕ, ◌≤◌, ◌<◌, ◌+◌, length, take, arith, inl, length-take, length-drop, length-append, drop}
-use Rattle.std.specs.Prelude.{Result, Ok}
+use Rattle.std.proofs.Common.{ℕ, arith, inl, length-take, length-drop, length-append, drop}
 use Rattle.aerie.proofs.InputReads.{read_on, read_more}
 use Rattle.aerie.proofs.input.read_input.Goals as goal
 

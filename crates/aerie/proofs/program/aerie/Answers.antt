@@ -1,8 +1,4 @@
-use Rattle.std.proofs.Common.{rules, sym, ap, ◌∙◌}
-use Rattle.std.specs.Prelude.{Some, None, option_map}
-use Rattle.aerie.specs.thin.Checking.{session_of}
-use Rattle.aerie.specs.thin.Lines.{text_of}
-use Rattle.aerie.specs.Output.{WritesAll}
+use Rattle.std.proofs.Common.{◌∙◌}
 use Rattle.aerie.proofs.Outputs.{no_session, of_session, read_to_end, written_text}
 use Rattle.aerie.proofs.program.aerie.Goals as goal
 

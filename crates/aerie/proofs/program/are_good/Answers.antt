@@ -1,4 +1,3 @@
-use Rattle.std.proofs.Common.{sym, ap, ◌∙◌, codes}
 use Rattle.aerie.proofs.Outputs.{one_word}
 use Rattle.aerie.proofs.program.are_good.Goals as goal
 

@@ -1,4 +1,4 @@
-use Rattle.std.proofs.Common.{◌++◌, ◌∷◌, [], ap, refl, rules}
+use Rattle.std.proofs.Common.{refl}
 use Rattle.std.proofs.lemmas.Result.{err_from_is_err_and}
 use Rattle.aerie.proofs.ThinReading.Lists.{block_closed, block_more, block_stops, block_full, block_too_long}
 use Rattle.aerie.proofs.thin.grammar.block.Goals as goal

@@ -1,4 +1,4 @@
-use Rattle.std.proofs.Common.{◌++◌, ◌∷◌, [], ap, refl, rules, ◌∙◌}
+use Rattle.std.proofs.Common.{refl}
 use Rattle.std.proofs.lemmas.Result.{err_from_is_err_and}
 use Rattle.aerie.proofs.ThinReading.Lists.{parts_closed, parts_more, parts_stop, parts_unclosed, parts_too_many}
 use Rattle.aerie.proofs.thin.grammar.parts.Goals as goal

@@ -1,4 +1,4 @@
-use Rattle.std.proofs.Common.{◌∙◌, sym, ap, arith}
+use Rattle.std.proofs.Common.{arith}
 use Rattle.aerie.proofs.ThinReading.Digits.{next_digit}
 use Rattle.aerie.proofs.thin.words.decimal_value.Goals as goal
 
