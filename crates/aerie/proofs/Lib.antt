@@ -1,3 +1,4 @@
+pub mod Handing
 pub mod InputReads
 pub mod Outputs
 pub mod ThinReading

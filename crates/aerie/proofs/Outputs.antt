@@ -8,7 +8,7 @@ use Rattle.std.proofs.lemmas.Slice.Eq.{bytes_eq-Decides}
 use Rattle.std.proofs.lemmas.Bool.{leb-true}
 use Rattle.aerie.specs.Input.{HasReadAll}
 use Rattle.aerie.specs.Output.{WritesAll}
-use Rattle.aerie.specs.Program.{AreGood, IsOutput, output_of}
+use Rattle.aerie.specs.Program.{AreGood}
 use Rattle.aerie.specs.declared.thin.session.Session.{Session}
 use Rattle.aerie.specs.declared.thin.syntax.Text.{Text}
 use Rattle.aerie.specs.thin.Checking.{session_of, session_in}
@@ -16,14 +16,6 @@ use Rattle.aerie.specs.thin.Reading.{text_read}
 use Rattle.aerie.specs.thin.Size.{is_small}
 use Rattle.aerie.specs.thin.Words.{◌>>=◌}
 use Rattle.aerie.specs.thin.Lines.{text_of}
-
--- for good words it is the output for the input that was read
-pub for_input : (words : List (String Global)) (before after : Option (List ℕ)) (input text : List ℕ) → AreGood words
-    → HasReadAll before after input → text ≡ output_of input → IsOutput words before after text
-for_input words before after input text good all is = record {
-  for_words = λ bad. absurd (bad good);
-  for_input = λ _. (input, all, is);
-}
 
 -- one word is the words, and it is `run` where the bytes say so
 pub one_word : (words : List (String Global)) (word : String Global) (r : Bool) → 1 ≤ length words → length words < 2 → word ≡ get_or words 0 word

@@ -13,10 +13,11 @@ use aerie_base::OutOfMemory;
 use aerie_edge::{Open, StdSink, StdSource};
 use program::{Status, with_own_counter};
 use std::env;
+use std::io::ErrorKind;
 use std::process::ExitCode;
 use std::rt::Env;
 
-/// The words after the program's name.
+/// The words after the program's name. Where one is no text they are in no grammar, and none are given.
 fn words<R: Env + AllocGlobal>(rt: &R) -> Result<Vec<String>, OutOfMemory> {
     let mut words = Vec::new(rt.alloc());
     match env::args(rt) {
@@ -26,7 +27,8 @@ fn words<R: Env + AllocGlobal>(rt: &R) -> Result<Vec<String>, OutOfMemory> {
             }
             Ok(words)
         }
-        Err(_) => Err(OutOfMemory),
+        Err(error) if error.kind() == ErrorKind::OutOfMemory => Err(OutOfMemory),
+        Err(_) => Ok(words),
     }
 }
 

@@ -1,4 +1,4 @@
-ghost use Rattle.std.specs.Prelude.{◌≡◌, ◌<◌, ◌≤◌, ◌+◌, ◌∷◌, [], ℕ, List, Some, None, ◌↔◌, IsTrue, ◌⊎◌};
+ghost use Rattle.std.specs.Prelude.{◌≡◌, ◌<◌, ◌≤◌, ◌+◌, ℕ, List, Some, None, ◌↔◌, IsTrue, ◌⊎◌};
 ghost use Rattle.std.specs.Io.KnownBytes.{IsAtEnd};
 ghost use Rattle.aerie_edge.specs.Faults.{Rose};
 ghost use Rattle.aerie.specs.Input.{HasRead, HasReadAll};
@@ -54,7 +54,7 @@ fn are_good(words: &[String]) -> bool
 /// replies to the sink. Answers the status that the process ends with: 0 done, 2 the words are not in the grammar,
 /// 3 the session is refused, 4 a read failed, 5 a write failed, 6 want of memory.
 pub fn aerie<R: Threads + Wait + Sync, S: Source, K: Sink, G: Gate, L: Ledger>(
-    _rt: &R,
+    rt: &R,
     alloc: Global,
     words: &[String],
     source: &mut S,

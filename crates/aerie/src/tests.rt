@@ -269,10 +269,12 @@ fn a_write_that_fails_leaves_a_front(rt: HostRuntime) -> Result<(), Fail> {
             FIRST_TEXT.as_bytes().get(..50 * (call - 1))
         );
     }
-    let mut source = SureSource::new(Vec::from_slice(alloc, FIRST.as_bytes())?);
-    let mut sink = MemorySink::new(alloc, 0, Vec::new(alloc));
-    assert_eq!(rt; status_of(&rt, alloc, &mut source, &mut sink)?, 5);
-    assert_eq!(rt; sink.bytes().len(), 0);
+    for session in [FIRST, "no session"] {
+        let mut source = SureSource::new(Vec::from_slice(alloc, session.as_bytes())?);
+        let mut sink = MemorySink::new(alloc, 0, Vec::new(alloc));
+        assert_eq!(rt; status_of(&rt, alloc, &mut source, &mut sink)?, 5);
+        assert_eq!(rt; sink.bytes().len(), 0);
+    }
     Ok(())
 }
 

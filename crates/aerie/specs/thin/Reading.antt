@@ -66,7 +66,7 @@ parts_at part (suc most) text = do
     others ← parts_at part most rest
     Some (first.0 ∷ others.0, others.1))
 
--- the same in parentheses, or nothing in them: the parameters of an activity, or the arguments of a directive; at
+-- parts in parentheses with commas between them, or nothing in the parentheses: the parameters of an activity, or the arguments of a directive; at
 -- most 16
 unfoldable pub listed_at : {A : Type 0} → (List ℕ → Option (A × List ℕ)) → List ℕ → Option (List A × List ℕ)
 listed_at part text = do

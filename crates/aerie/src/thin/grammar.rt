@@ -1,4 +1,3 @@
-ghost use Rattle.std.specs.Prelude.{◌≡◌, ℕ, List as Items, Option};
 ghost use Rattle.aerie.specs.thin.Gives.{Gives};
 ghost use Rattle.aerie.specs.thin.Reading.{amount_at, addition_at, delay_at, statement_at, parameter_at, argument_at, block_at, parts_at, listed_at, counter_at, resource_at, activity_at, model_at, start_at, plan_at, client_at, text_read};
 
@@ -12,8 +11,8 @@ use crate::thin::words::past_space;
 use aerie_base::List;
 use std::alloc::Global;
 
-/// How many parameters an activity may have.
-const MOST_PARTS: usize = 16;
+/// How many parameters an activity may have, and so how many arguments a directive.
+const MOST_LISTED: usize = 16;
 
 /// How many statements a body may have.
 const MOST_STATEMENTS: usize = 64;
@@ -141,7 +140,7 @@ fn parts<T: Part>(alloc: Global, reader: &mut Reader, most: usize) -> Result<Lis
     Err(ReadError::NotThin)
 }
 
-/// Reads the same in parentheses, or nothing in them.
+/// Reads parts in parentheses with commas between them, or nothing in the parentheses.
 #[tactic(auto, unfolding(crate::specs::thin::Reading::listed_at))]
 fn listed<T: Part>(alloc: Global, reader: &mut Reader) -> Result<List<T>, ReadError>
     ensures { Gives (λ parts. (parts, reader.new.rest.now)) result (listed_at T.part_at reader.old.rest.now) }
@@ -150,7 +149,7 @@ fn listed<T: Part>(alloc: Global, reader: &mut Reader) -> Result<List<T>, ReadEr
     if reader.has_symbol(b")") {
         return Ok(List::new(alloc));
     }
-    parts(alloc, reader, MOST_PARTS)
+    parts(alloc, reader, MOST_LISTED)
 }
 
 #[tactic(auto, unfolding(crate::specs::thin::Reading::counter_at))]

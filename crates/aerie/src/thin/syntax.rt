@@ -54,7 +54,9 @@ pub enum Item {
 /// The plan section.
 #[derive(Drop)]
 pub struct Plan {
+    /// The plan's name, which is that of its branch.
     pub branch: Name,
+    /// In microseconds.
     pub duration: Time,
 }
 
@@ -62,10 +64,13 @@ pub struct Plan {
 #[derive(Drop)]
 pub struct Client {
     pub name: Name,
+    /// The branch to which the directive is added.
     pub branch: Name,
+    /// When the directive starts, in microseconds from the plan's start.
     pub start: Time,
     pub activity: Name,
     pub arguments: List<Argument>,
+    /// The branch that is simulated.
     pub simulated: Name,
 }
 

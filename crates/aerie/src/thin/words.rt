@@ -1,6 +1,6 @@
 ghost use Rattle.std.specs.Prelude.{◌≡◌, ◌≤◌, ◌+◌, length, option_map, IfSome};
 ghost use Rattle.std.specs.Str.Parse.{AllDigits, digits_value};
-ghost use Rattle.aerie.specs.thin.Words.{front, behind, begins_with, past_space, is_space, is_word_byte, is_letter, word_at, symbol_at, keyword_at, number_at, unit_len, duration_len, duration_at};
+ghost use Rattle.aerie.specs.thin.Words.{front, behind, begins_with, past_space, is_word_byte, is_letter, word_at, symbol_at, keyword_at, number_at, unit_len, duration_len, duration_at};
 ghost use Rattle.std.specs.Str.{IsAscii};
 ghost use Rattle.std.specs.Char.{is_ascii_digit};
 ghost use Rattle.aerie.specs.thin.Classes.{passes};
@@ -154,14 +154,6 @@ fn unit_len(text: &[u8]) -> usize
     }
 }
 
-/// Bytes that are ASCII, as text.
-pub fn ascii_text(bytes: &[u8]) -> &str
-    requires { IsAscii bytes.now }
-    ensures { result.now ≡ bytes.now }
-{
-    str::from_utf8(bytes).unwrap()
-}
-
 /// How long the digits and the unit in front are.
 fn duration_len(run: &[u8]) -> usize
     ensures len { result ≡ duration_len run.now }
@@ -181,4 +173,12 @@ pub fn duration_at(text: &[u8]) -> Option<(Time, &[u8])>
     let len = duration_len(run);
     let time = read_duration(ascii_text(&run[..len]))?;
     Some((time, &bytes[len..]))
+}
+
+/// Bytes that are ASCII, as text.
+pub fn ascii_text(bytes: &[u8]) -> &str
+    requires { IsAscii bytes.now }
+    ensures { result.now ≡ bytes.now }
+{
+    str::from_utf8(bytes).unwrap()
 }

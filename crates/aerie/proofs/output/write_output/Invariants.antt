@@ -1,6 +1,6 @@
-use Rattle.std.proofs.Common.{◌-◌, ◌≤◌, length, take}
+use Rattle.std.proofs.Common.{◌-◌, ◌≤◌, [], length, take}
 use Rattle.aerie_edge.specs.Written.{Receives}
-use Rattle.aerie.specs.Output.{HandsRests}
+use Rattle.aerie.specs.Output.{HandsOver}
 use Rattle.aerie.proofs.output.write_output.Given as goal
 
 abbrev pub invariant-loop-at : goal.invariant-loop-at
@@ -8,7 +8,7 @@ invariant-loop-at g l = record {
   within : l.at ≤ length l.text;
   received : Receives (g.K.Sink.written l.initial.sink) (g.K.Sink.written l.sink) (take l.at l.text);
   later : g.K.Sink.faults l.initial.sink ≤ g.K.Sink.faults l.sink;
-  rests : HandsRests (g.K.Sink.pieces l.initial.sink) (g.K.Sink.pieces l.sink) l.text;
+  rests : HandsOver (g.K.Sink.pieces l.initial.sink) (g.K.Sink.pieces l.sink) l.text l.at [];
 }
 
 abbrev pub decreases-loop-at : goal.decreases-loop-at
