@@ -1,0 +1,84 @@
+use crate::containers::List;
+use crate::expressions::Expr;
+use crate::linear::Linear;
+use crate::names::Name;
+use crate::numbers::Number;
+use crate::operands::CellRead;
+use crate::statements::Stmt;
+use crate::values::{Kind, Value};
+
+/// An enumeration.
+#[derive(Debug, Drop)]
+pub struct EnumType {
+    /// Its name.
+    pub name: Name,
+    /// The names of its variants, 1 to 256.
+    pub variants: List<Name>,
+}
+
+/// A cell as it is declared.
+#[derive(Clone, Copy, Debug, PartialEq, Eq)]
+pub enum CellStart {
+    /// A counter that begins with this number.
+    Counter(Number),
+    /// A register of a type that begins with this value.
+    Register {
+        /// The type of its values.
+        kind: Kind,
+        /// Its first value.
+        value: Value,
+    },
+    /// An accumulator.
+    Accumulator {
+        /// Its first volume, in millionths of a unit.
+        volume: Number,
+        /// Its first rate, in units a second, from -10^12 to 10^12.
+        rate: i64,
+    },
+}
+
+/// What is shown of the cells over time.
+#[derive(Debug, Drop)]
+pub enum Resource {
+    /// A counter, a register, a conflict flag or a rate.
+    Discrete(CellRead),
+    /// A sum over counters and volumes.
+    Linear(Linear),
+}
+
+/// A parameter of an activity type.
+#[derive(Debug, Drop)]
+pub struct Parameter {
+    /// Its name.
+    pub name: Name,
+    /// Its type.
+    pub kind: Kind,
+    /// Its value where none is given.
+    pub default: Option<Value>,
+}
+
+/// An activity type.
+#[derive(Debug, Drop)]
+pub struct Activity {
+    /// Its name.
+    pub name: Name,
+    /// At most 16 parameters.
+    pub parameters: List<Parameter>,
+    /// The type of its result, where it has one.
+    pub result: Option<Kind>,
+    /// At most 64 truths over the parameters, which a directive's arguments must meet.
+    pub requires_: List<Expr>,
+    /// How many locals it has, parameters included: at most 64.
+    pub slots: u16,
+    /// At most 4,096 statements.
+    pub body: List<Stmt>,
+}
+
+/// A body that begins with the plan and belongs to no directive.
+#[derive(Debug, Drop)]
+pub struct Daemon {
+    /// How many locals it has: at most 64.
+    pub slots: u16,
+    /// At most 4,096 statements.
+    pub body: List<Stmt>,
+}

@@ -1,0 +1,58 @@
+use crate::containers::List;
+use crate::numbers::Time;
+use crate::values::Value;
+
+/// The end of a directive's span to which another one is anchored.
+#[derive(Clone, Copy, Debug, PartialEq, Eq)]
+pub enum Edge {
+    /// Where it begins.
+    Start,
+    /// Where it and all of its children have ended.
+    End,
+}
+
+/// What a directive's start is counted from.
+#[derive(Clone, Copy, Debug, PartialEq, Eq)]
+pub struct Anchor {
+    /// The id of the other directive.
+    pub to: u32,
+    /// Which end of its span.
+    pub edge: Edge,
+}
+
+/// When a directive starts.
+#[derive(Clone, Copy, Debug, PartialEq, Eq)]
+pub struct When {
+    /// The time after the anchor, or after the plan's start where there is none.
+    pub start: Time,
+    /// What the start is counted from.
+    pub anchor: Option<Anchor>,
+}
+
+/// An activity that the plan starts.
+#[derive(Debug, Drop)]
+pub struct Directive {
+    /// Its number in the plan, from 1; no other directive of the branch has or had it.
+    pub id: u32,
+    /// The time after the anchor, or after the plan's start where there is none.
+    pub start: Time,
+    /// What the start is counted from.
+    pub anchor: Option<Anchor>,
+    /// The activity type, counted from 0 in the order of the model.
+    pub kind: u16,
+    /// A value for each parameter, in their order.
+    pub arguments: List<Value>,
+}
+
+/// A plan: directives over a duration.
+#[derive(Debug, Drop)]
+pub struct Plan {
+    /// The place of its model among the models of the session, from 0.
+    pub model: u16,
+    /// How long it lasts, at least 1 microsecond.
+    pub duration: Time,
+    /// The id that the next new directive gets.
+    pub next_id: u32,
+    /// At most 65,536 directives, in order of id.
+    pub directives: List<Directive>,
+}
