@@ -1,0 +1,4 @@
+pub mod Recursion
+pub mod Places
+pub mod Induction
+pub mod PlaceForms
