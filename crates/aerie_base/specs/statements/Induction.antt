@@ -1,6 +1,6 @@
 -- Induction over statements: what holds of each statement without blocks, and of an `if` and a `while` where it holds of
 -- all statements in their blocks, holds of every statement.
-use Rattle.std.proofs.Common.{◌≡◌, List, [], ◌∷◌, true, false, map, refl, sym, ap, ◌∙◌, subst}
+use Rattle.std.proofs.Common.{◌≡◌, List, [], ◌∷◌, true, false, map, sym, ap, ◌∙◌, subst}
 use Rattle.aerie_base.specs.declared.expressions.Expr.{Expr}
 use Rattle.aerie_base.specs.declared.statements.Stmt.{Stmt, If, While, roll-Stmt, ind-Stmt, map-Stmt, out-roll-Stmt}
 use Rattle.aerie_base.specs.declared.statements.Stmt.TheVariants.{rolls-If, rolls-While, outs-If, outs-While}

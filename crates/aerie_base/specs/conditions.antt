@@ -1,0 +1,4 @@
+pub mod Recursion
+pub mod Holding
+pub mod Filling
+pub mod FillingLaw
