@@ -28,7 +28,7 @@ pub use expressions::{Comparison, Expr, Operator};
 pub use faults::Fault;
 pub use linear::{Linear, Term};
 pub use memory::OutOfMemory;
-pub use models::{Activity, CellStart, Daemon, EnumType, Parameter, Resource};
+pub use models::{Activity, CellStart, Daemon, EnumType, Model, Parameter, Resource};
 pub use names::Name;
 pub use numbers::{Number, Time};
 pub use operands::{CellRead, Operand};

@@ -1,3 +1,9 @@
+//! Models: what a mission has and what its activities do.
+
+mod model;
+
+pub use model::Model;
+
 use crate::containers::List;
 use crate::expressions::Expr;
 use crate::linear::Linear;
