@@ -2,3 +2,4 @@ pub mod Recursion
 pub mod Places
 pub mod Induction
 pub mod PlaceForms
+pub mod Cases

@@ -1,4 +1,5 @@
-ghost use Rattle.std.specs.Prelude.{◌≡◌};
+ghost use Rattle.std.specs.Prelude.{◌≡◌, IsTrue};
+ghost use Rattle.aerie_base.specs.models.ValidModel.{valid_model};
 
 use super::{Activity, CellStart, Daemon, EnumType, Resource};
 use crate::containers::List;
@@ -15,8 +16,8 @@ struct Parts {
     pub daemons: List<Daemon>,
 }
 
-/// A model: the cells of a mission, what is shown of them, and what its activities and daemons do. Contracts see its
-/// parts.
+/// A model: the cells of a mission, what is shown of them, and what its activities and daemons do. Its names, types,
+/// ranges, linear forms and sizes are as they have to be (`valid_model`). Contracts see its parts.
 #[derive(Debug, Drop)]
 pub struct Model {
     parts: Parts,
@@ -34,47 +35,82 @@ impl std::marker::Model for Model {
     ghost coded = { Prim.hlevel (codes, expr.the_row.coded, cond.the_row.coded, stmt.the_row.coded) };
 
     ghost view = { λ model. model.parts };
+
+    ghost use Rattle.std.specs.Prelude.{IsTrue};
+    ghost use Rattle.aerie_base.specs.models.ValidModel.{valid_model};
+
+    ghost invariant = { λ model. IsTrue (valid_model model.parts) };
 }
 
 impl Model {
+    /// The model of these parts. It takes no memory.
+    pub fn new(
+        name: Name,
+        enums: Vec<EnumType>,
+        cells: Vec<(Name, CellStart)>,
+        resources: Vec<(Name, Resource)>,
+        activities: Vec<Activity>,
+        daemons: Vec<Daemon>,
+    ) -> Model
+        requires { IsTrue (valid_model (record { name = name; enums = enums.items; cells = cells.items; resources = resources.items; activities = activities.items; daemons = daemons.items })) }
+        ensures { result ≡ record { name = name; enums = enums.items; cells = cells.items; resources = resources.items; activities = activities.items; daemons = daemons.items } }
+    {
+        Model {
+            parts: Parts {
+                name,
+                enums: List::from_vec(enums),
+                cells: List::from_vec(cells),
+                resources: List::from_vec(resources),
+                activities: List::from_vec(activities),
+                daemons: List::from_vec(daemons),
+            },
+        }
+    }
+
     /// Its name.
     pub fn name(&self) -> &Name
-        ensures { result.now ≡ self.now.name }
+        ensures value { result.now ≡ self.now.name }
+        ensures valid { IsTrue (valid_model self.now) }
     {
         &self.parts.name
     }
 
     /// Its enumerations, in the order of their declarations.
     pub fn enums(&self) -> &[EnumType]
-        ensures { result.now ≡ self.now.enums }
+        ensures value { result.now ≡ self.now.enums }
+        ensures valid { IsTrue (valid_model self.now) }
     {
         self.parts.enums.as_slice()
     }
 
     /// Its cells with their names, in the order of their declarations.
     pub fn cells(&self) -> &[(Name, CellStart)]
-        ensures { result.now ≡ self.now.cells }
+        ensures value { result.now ≡ self.now.cells }
+        ensures valid { IsTrue (valid_model self.now) }
     {
         self.parts.cells.as_slice()
     }
 
     /// Its resources with their names, in the order of their declarations.
     pub fn resources(&self) -> &[(Name, Resource)]
-        ensures { result.now ≡ self.now.resources }
+        ensures value { result.now ≡ self.now.resources }
+        ensures valid { IsTrue (valid_model self.now) }
     {
         self.parts.resources.as_slice()
     }
 
     /// Its activity types, in the order of their declarations.
     pub fn activities(&self) -> &[Activity]
-        ensures { result.now ≡ self.now.activities }
+        ensures value { result.now ≡ self.now.activities }
+        ensures valid { IsTrue (valid_model self.now) }
     {
         self.parts.activities.as_slice()
     }
 
     /// Its daemons, in the order of their declarations.
     pub fn daemons(&self) -> &[Daemon]
-        ensures { result.now ≡ self.now.daemons }
+        ensures value { result.now ≡ self.now.daemons }
+        ensures valid { IsTrue (valid_model self.now) }
     {
         self.parts.daemons.as_slice()
     }

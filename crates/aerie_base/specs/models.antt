@@ -1,0 +1,14 @@
+pub mod Names
+pub mod Limits
+pub mod Values
+pub mod Cells
+pub mod Expressions
+pub mod Conditions
+pub mod Bodies
+pub mod BodyForms
+pub mod Activities
+pub mod Resources
+pub mod ValidModel
+pub mod ValidParts
+pub mod Cases
+pub mod PartCases

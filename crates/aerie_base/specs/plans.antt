@@ -1,0 +1,2 @@
+pub mod OfModel
+pub mod Cases
