@@ -1,5 +1,6 @@
 pub mod Recursion
 pub mod Places
 pub mod Induction
+pub mod Bridge
 pub mod PlaceForms
 pub mod Cases
