@@ -24,7 +24,7 @@ mod values;
 pub use arguments::{RawArgument, RawValue};
 pub use conditions::{Cond, Simple};
 pub use containers::{Boxed, List, Shared};
-pub use durations::read_duration;
+pub use durations::{read_duration, write_duration};
 pub use expressions::{Comparison, Expr, Operator};
 pub use faults::Fault;
 pub use linear::{Linear, Term};
