@@ -2,7 +2,6 @@
 -- under one are those from it on, up to the first that is not under it.
 use Rattle.std.specs.Prelude.{◌≡◌, ◌↔◌, ℕ, ◌<◌, ◌&&◌, List, [], ◌∷◌, ◌++◌, nat_eq, Bool, true, false, IsTrue, refl}
 use Rattle.std.proofs.Common.{◌∙◌, ap, sym}
-use Rattle.std.specs.Bool.{Decides}
 use Rattle.std.specs.Cmp.{nat_cmp_is, unsigned_tied}
 use Rattle.std.specs.Cmp.Lexicographic.{slice_cmp}
 use Rattle.std.specs.Ordering.{nat_cmp, is_eq, is_gt, ordering_reverse, ordering_then}

@@ -1,12 +1,12 @@
 -- The path of a task: the directive or daemon that it comes from, and the number of each child on the way down to it.
 -- A path is the list of its numbers as they are compared: 0 for a directive or 1 for a daemon, then the id, then the
 -- numbers of the children, each counted from 0 in the order in which its parent made it.
-use Rattle.std.specs.Prelude.{◌≡◌, ℕ, ◌+◌, ◌^◌, ◌&&◌, List, [], ◌∷◌, ◌++◌, length, nat_eq, nat_le, nat_lt, Bool, true, false, Option, Some, None, if◌then◌else◌, replicate, refl}
+use Rattle.std.specs.Prelude.{◌≡◌, ℕ, ◌&&◌, List, [], ◌∷◌, ◌++◌, length, nat_eq, nat_le, nat_lt, Bool, true, false, Option, Some, None, if◌then◌else◌, replicate, refl}
 use Rattle.std.specs.List.{list_all}
 use Rattle.std.specs.Ordering.{nat_cmp}
 use Rattle.std.specs.Cmp.Lexicographic.{slice_cmp}
 use Rattle.std.specs.declared.cmp.Ordering.{Ordering}
-use Rattle.std.specs.declared.cmp.Ordering.TheVariants.{Less, Equal, Greater}
+use Rattle.std.specs.declared.cmp.Ordering.TheVariants.{Less, Equal}
 
 -- how many children a path names at most
 abbrev pub child_limit : ℕ
@@ -48,6 +48,10 @@ abbrev pub children_of : List ℕ → List ℕ
 children_of [] = []
 children_of (kind ∷ []) = []
 children_of (kind ∷ id ∷ children) = children
+
+-- the path with these parts
+abbrev pub path_of : Bool → ℕ → List ℕ → List ℕ
+path_of daemon id children = if daemon then daemon_path id children else directive_path id children
 
 -- whether these are the numbers of a path
 abbrev pub is_path : List ℕ → Bool

@@ -7,7 +7,7 @@ ghost use Rattle.std.specs.Cmp.Rules.{hashing};
 ghost use Rattle.std.proofs.Common.{rules};
 ghost use Rattle.std.specs.Hash as fed;
 ghost use Rattle.std.specs.Cmp.Lexicographic.{pointwise, slice_cmp, nat_list_eq_equiv, nat_list_cmp_total, texts_po, texts_ties};
-ghost use Rattle.aerie_base.specs.Paths.{root, daemon_root, is_daemon, id_of, children_of, is_path, may_have_children, child_of, is_under, path_cmp};
+ghost use Rattle.aerie_base.specs.Paths.{root, daemon_root, is_daemon, id_of, children_of, path_of, is_path, may_have_children, child_of, is_under, path_cmp};
 ghost use Rattle.aerie_base.specs.PathOrder.{AnyUnder};
 ghost use Rattle.std.specs.BTreeSet.{contains};
 
@@ -101,9 +101,10 @@ impl Path {
         self.id
     }
 
-    /// The number of each child on the way down.
+    /// The number of each child on the way down. With the other two accessors it says the whole path.
     pub fn children(&self) -> &[u32]
         ensures children { result.now ≡ children_of self.now }
+        ensures whole { self.now ≡ path_of (is_daemon self.now) (id_of self.now) (children_of self.now) }
         ensures path { IsTrue (is_path self.now) }
     {
         self.children.as_slice()

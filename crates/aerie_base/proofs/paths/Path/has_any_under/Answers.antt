@@ -1,5 +1,5 @@
 -- The first path from this one on tells, and where there is none, none is under it.
-use Rattle.std.proofs.Common.{◌≡◌, true, false, sym, subst}
+use Rattle.std.proofs.Common.{sym, subst}
 use Rattle.std.specs.declared.ops.Bound.TheVariants.{Included, Unbounded}
 use Rattle.std.specs.BTreeSet.{IsKeyRangeOf}
 use Rattle.std.proofs.lemmas.Bool.{true≢false}
