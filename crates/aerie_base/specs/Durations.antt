@@ -1,6 +1,7 @@
 -- The text of a duration: digits and at once a unit, as "2min".
-use Rattle.std.specs.Prelude.{◌≡◌, ℕ, ◌*◌, nat_eq, List, take, drop, Bool, Option, Some, None, option_and_then, if◌then◌else◌, codes, refl}
+use Rattle.std.specs.Prelude.{◌≡◌, ℕ, ◌*◌, nat_eq, List, ◌++◌, take, drop, Bool, Option, Some, None, option_and_then, if◌then◌else◌, codes, refl}
 use Rattle.std.specs.Char.{is_ascii_digit}
+use Rattle.std.specs.Fmt.{decimal, digits}
 use Rattle.std.specs.List.{prefix_len}
 use Rattle.std.specs.Str.Parse.{digits_value}
 use Rattle.std.specs.Cmp.Lexicographic.{pointwise}
@@ -35,6 +36,10 @@ duration_of text =
     let count = digit_count text in
     if nat_eq count 0 then None
     else of_unit (digits_value 10 (take count text)) (drop count text)
+
+-- how a duration of so many microseconds is written: their number in digits without leading zeros, and `us`
+abbrev pub duration_text : ℕ → List ℕ
+duration_text micros = decimal micros ++ codes "us"
 
 -- ---- worked cases
 
@@ -88,3 +93,11 @@ no_text = refl
 
 pub a_sign : duration_of (codes "-5us") ≡ None
 a_sign = refl
+
+pub two_minutes_written : duration_text 120_000_000 ≡ codes "120000000us"
+unfolding digits
+two_minutes_written = refl
+
+pub nothing_written : duration_text 0 ≡ codes "0us"
+unfolding digits
+nothing_written = refl

@@ -1,13 +1,15 @@
 //! The text of a duration.
 
-ghost use Rattle.std.specs.Prelude.{◌≡◌, ◌<◌, ◌*◌, ◌^◌, Some, None, if◌then◌else◌, nat_le, IsTrue};
+ghost use Rattle.std.specs.Prelude.{◌≡◌, ◌<◌, ◌*◌, ◌^◌, Some, None, if◌then◌else◌, nat_le, IsTrue, IfOk, string_bytes};
 ghost use Rattle.std.specs.Char.{is_ascii_digit};
 ghost use Rattle.std.specs.List.{list_all, prefix_len};
 ghost use Rattle.std.specs.Str.Parse.{digits_value};
 ghost use Rattle.aerie_base.specs.Ranges.{time_of, time_limit};
-ghost use Rattle.aerie_base.specs.Durations.{digit_count, duration_of, of_unit, unit_micros};
+ghost use Rattle.aerie_base.specs.Durations.{digit_count, duration_of, duration_text, of_unit, unit_micros};
 
+use crate::memory::OutOfMemory;
 use crate::numbers::Time;
+use std::alloc::Global;
 
 /// The longest duration, in microseconds.
 const LONGEST: u64 = 1_000_000_000_000_000;
@@ -26,6 +28,16 @@ pub fn read_duration(text: &str) -> Option<Time>
     let micros = unit_micros(&bytes[count..])?;
     let number = number_within_range(&bytes[..count])?;
     time_of_product(number, micros)
+}
+
+/// Writes a duration as microseconds: the digits, and `us`. `read_duration` reads the same time from it.
+#[tactic(auto, using(crate::proofs::Digits::written_is_read))]
+pub fn write_duration(alloc: Global, time: Time) -> Result<String, OutOfMemory>
+    ensures text { IfOk result (λ text. string_bytes text ≡ duration_text time) }
+    ensures read_back { duration_of (duration_text time) ≡ Some time }
+{
+    let text = format!(in alloc; "{}us", time.get())?;
+    Ok(text)
 }
 
 /// How many digits stand in front.
@@ -114,6 +126,21 @@ mod tests {
                 micros,
                 "of {text}"
             );
+        }
+    }
+
+    #[test]
+    fn writes_microseconds(rt: HostRuntime) {
+        let cases = [
+            (120_000_000, "120000000us"),
+            (0, "0us"),
+            (7, "7us"),
+            (1_000_000_000_000_000, "1000000000000000us"),
+        ];
+        for (micros, text) in cases {
+            let time = Time::new(micros).expect(&rt, "a time");
+            let written = write_duration(rt.alloc(), time).expect(&rt, "memory");
+            assert_eq!(&rt; written.as_str(), text);
         }
     }
 }
