@@ -1,6 +1,10 @@
+ghost use Rattle.std.specs.Prelude.{◌≡◌, IfOk};
+
+use crate::memory::OutOfMemory;
 use crate::names::Name;
 use crate::numbers::Number;
 use crate::texts::Text;
+use std::alloc::Global;
 
 /// The value of an argument as it is written, before the model says what its words stand for.
 #[derive(Debug, Drop)]
@@ -20,4 +24,29 @@ pub struct RawArgument {
     pub name: Name,
     /// The value.
     pub value: RawValue,
+}
+
+impl RawValue {
+    /// An equal value.
+    pub fn copy(&self, _alloc: Global) -> Result<RawValue, OutOfMemory>
+        ensures { IfOk result (λ copy. copy ≡ self.now) }
+    {
+        match self {
+            RawValue::Int(number) => Ok(RawValue::Int(*number)),
+            RawValue::Truth(truth) => Ok(RawValue::Truth(*truth)),
+            RawValue::Word(word) => Ok(RawValue::Word(word.copy()?)),
+        }
+    }
+}
+
+impl RawArgument {
+    /// An equal argument.
+    pub fn copy(&self, alloc: Global) -> Result<RawArgument, OutOfMemory>
+        ensures { IfOk result (λ copy. copy ≡ self.now) }
+    {
+        Ok(RawArgument {
+            name: self.name.copy()?,
+            value: self.value.copy(alloc)?,
+        })
+    }
 }

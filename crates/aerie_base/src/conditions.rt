@@ -1,8 +1,12 @@
+ghost use Rattle.std.specs.Prelude.{◌≡◌, IfOk};
+
 use crate::containers::Boxed;
 use crate::expressions::Comparison;
 use crate::linear::Linear;
+use crate::memory::OutOfMemory;
 use crate::operands::Operand;
 use crate::values::Value;
+use std::alloc::Global;
 
 /// A side of an equality within a condition.
 #[derive(Clone, Copy, Debug, PartialEq, Eq)]
@@ -44,4 +48,42 @@ pub enum Cond {
     And(Boxed<Cond>, Boxed<Cond>),
     /// `||`
     Or(Boxed<Cond>, Boxed<Cond>),
+}
+
+impl Cond {
+    /// An equal condition.
+    pub fn copy(&self, alloc: Global) -> Result<Cond, OutOfMemory>
+        ensures { IfOk result (λ copy. copy ≡ self.now) }
+    {
+        match self {
+            Cond::Literal(truth) => Ok(Cond::Literal(*truth)),
+            Cond::Flag(operand) => Ok(Cond::Flag(*operand)),
+            Cond::Same { left, right, equal } => Ok(Cond::Same {
+                left: *left,
+                right: *right,
+                equal: *equal,
+            }),
+            Cond::Compare { left, how, right } => Ok(Cond::Compare {
+                left: left.copy(alloc)?,
+                how: *how,
+                right: right.copy(alloc)?,
+            }),
+            Cond::Not(inner) => {
+                let inner = inner.get().copy(alloc)?;
+                Ok(Cond::Not(Boxed::new(alloc, inner)?))
+            }
+            Cond::And(left, right) => {
+                let left = left.get().copy(alloc)?;
+                let left = Boxed::new(alloc, left)?;
+                let right = right.get().copy(alloc)?;
+                Ok(Cond::And(left, Boxed::new(alloc, right)?))
+            }
+            Cond::Or(left, right) => {
+                let left = left.get().copy(alloc)?;
+                let left = Boxed::new(alloc, left)?;
+                let right = right.get().copy(alloc)?;
+                Ok(Cond::Or(left, Boxed::new(alloc, right)?))
+            }
+        }
+    }
 }

@@ -4,6 +4,7 @@
 mod arguments;
 mod conditions;
 mod containers;
+mod copies;
 mod durations;
 mod expressions;
 mod faults;

@@ -1,5 +1,10 @@
+ghost use Rattle.std.specs.Prelude.{◌≡◌, IfOk};
+
 use crate::containers::List;
+use crate::copies::copy_list;
+use crate::memory::OutOfMemory;
 use crate::operands::Operand;
+use std::alloc::Global;
 
 /// A part of a linear form.
 #[derive(Clone, Copy, Debug, PartialEq, Eq)]
@@ -17,4 +22,16 @@ pub struct Linear {
     pub terms: List<Term>,
     /// What is added to the terms.
     pub constant: i128,
+}
+
+impl Linear {
+    /// An equal form.
+    pub fn copy(&self, alloc: Global) -> Result<Linear, OutOfMemory>
+        ensures { IfOk result (λ copy. copy ≡ self.now) }
+    {
+        Ok(Linear {
+            terms: copy_list(alloc, &self.terms)?,
+            constant: self.constant,
+        })
+    }
 }

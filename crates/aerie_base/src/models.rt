@@ -1,17 +1,22 @@
 //! Models: what a mission has and what its activities do.
 
+ghost use Rattle.std.specs.Prelude.{◌≡◌, IfOk};
+
 mod model;
 
 pub use model::Model;
 
 use crate::containers::List;
+use crate::copies::copy_list;
 use crate::expressions::Expr;
 use crate::linear::Linear;
+use crate::memory::OutOfMemory;
 use crate::names::Name;
 use crate::numbers::Number;
 use crate::operands::CellRead;
-use crate::statements::Stmt;
+use crate::statements::{Stmt, copy_block};
 use crate::values::{Kind, Value};
+use std::alloc::Global;
 
 /// An enumeration.
 #[derive(Debug, Drop)]
@@ -87,4 +92,69 @@ pub struct Daemon {
     pub slots: u16,
     /// At most 4,096 statements.
     pub body: List<Stmt>,
+}
+
+impl EnumType {
+    /// An equal enumeration.
+    pub fn copy(&self, alloc: Global) -> Result<EnumType, OutOfMemory>
+        ensures { IfOk result (λ copy. copy ≡ self.now) }
+    {
+        Ok(EnumType {
+            name: self.name.copy()?,
+            variants: copy_list(alloc, &self.variants)?,
+        })
+    }
+}
+
+impl Resource {
+    /// An equal resource.
+    pub fn copy(&self, alloc: Global) -> Result<Resource, OutOfMemory>
+        ensures { IfOk result (λ copy. copy ≡ self.now) }
+    {
+        match self {
+            Resource::Discrete(read) => Ok(Resource::Discrete(*read)),
+            Resource::Linear(form) => Ok(Resource::Linear(form.copy(alloc)?)),
+        }
+    }
+}
+
+impl Parameter {
+    /// An equal parameter.
+    pub fn copy(&self, _alloc: Global) -> Result<Parameter, OutOfMemory>
+        ensures { IfOk result (λ copy. copy ≡ self.now) }
+    {
+        Ok(Parameter {
+            name: self.name.copy()?,
+            kind: self.kind,
+            default: self.default,
+        })
+    }
+}
+
+impl Activity {
+    /// An equal activity type.
+    pub fn copy(&self, alloc: Global) -> Result<Activity, OutOfMemory>
+        ensures { IfOk result (λ copy. copy ≡ self.now) }
+    {
+        Ok(Activity {
+            name: self.name.copy()?,
+            parameters: copy_list(alloc, &self.parameters)?,
+            result: self.result,
+            requires_: copy_list(alloc, &self.requires_)?,
+            slots: self.slots,
+            body: copy_block(alloc, &self.body)?,
+        })
+    }
+}
+
+impl Daemon {
+    /// An equal daemon.
+    pub fn copy(&self, alloc: Global) -> Result<Daemon, OutOfMemory>
+        ensures { IfOk result (λ copy. copy ≡ self.now) }
+    {
+        Ok(Daemon {
+            slots: self.slots,
+            body: copy_block(alloc, &self.body)?,
+        })
+    }
 }

@@ -1,6 +1,11 @@
+ghost use Rattle.std.specs.Prelude.{◌≡◌, IfOk};
+
 use crate::containers::List;
+use crate::copies::copy_list;
+use crate::memory::OutOfMemory;
 use crate::numbers::Time;
 use crate::values::Value;
+use std::alloc::Global;
 
 /// The end of a directive's span to which another one is anchored.
 #[derive(Clone, Copy, Debug, PartialEq, Eq)]
@@ -55,4 +60,33 @@ pub struct Plan {
     pub next_id: u32,
     /// At most 65,536 directives, in order of id.
     pub directives: List<Directive>,
+}
+
+impl Directive {
+    /// An equal directive.
+    pub fn copy(&self, alloc: Global) -> Result<Directive, OutOfMemory>
+        ensures { IfOk result (λ copy. copy ≡ self.now) }
+    {
+        Ok(Directive {
+            id: self.id,
+            start: self.start,
+            anchor: self.anchor,
+            kind: self.kind,
+            arguments: copy_list(alloc, &self.arguments)?,
+        })
+    }
+}
+
+impl Plan {
+    /// An equal plan.
+    pub fn copy(&self, alloc: Global) -> Result<Plan, OutOfMemory>
+        ensures { IfOk result (λ copy. copy ≡ self.now) }
+    {
+        Ok(Plan {
+            model: self.model,
+            duration: self.duration,
+            next_id: self.next_id,
+            directives: copy_list(alloc, &self.directives)?,
+        })
+    }
 }

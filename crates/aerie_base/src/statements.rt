@@ -1,6 +1,11 @@
+ghost use Rattle.std.specs.Prelude.{◌≡◌, IfOk};
+
 use crate::conditions::Cond;
 use crate::containers::List;
+use crate::copies::copy_list;
 use crate::expressions::Expr;
+use crate::memory::OutOfMemory;
+use std::alloc::Global;
 
 /// What a statement does to a cell.
 #[derive(Debug, Drop)]
@@ -77,4 +82,79 @@ pub enum Stmt {
     },
     /// `return`, with a value exactly in activities that have a result.
     Return(Option<Expr>),
+}
+
+impl Emission {
+    /// An equal emission.
+    pub fn copy(&self, alloc: Global) -> Result<Emission, OutOfMemory>
+        ensures { IfOk result (λ copy. copy ≡ self.now) }
+    {
+        match self {
+            Emission::Add(value) => Ok(Emission::Add(value.copy(alloc)?)),
+            Emission::Set(value) => Ok(Emission::Set(value.copy(alloc)?)),
+            Emission::Volume(value) => Ok(Emission::Volume(value.copy(alloc)?)),
+            Emission::Rate(value) => Ok(Emission::Rate(value.copy(alloc)?)),
+        }
+    }
+}
+
+impl Stmt {
+    /// An equal statement.
+    #[cycle(copy)]
+    pub fn copy(&self, alloc: Global) -> Result<Stmt, OutOfMemory>
+        ensures { IfOk result (λ copy. copy ≡ self.now) }
+    {
+        match self {
+            Stmt::Let { slot, value } => Ok(Stmt::Let {
+                slot: *slot,
+                value: value.copy(alloc)?,
+            }),
+            Stmt::Assign { slot, value } => Ok(Stmt::Assign {
+                slot: *slot,
+                value: value.copy(alloc)?,
+            }),
+            Stmt::Emit { cell, what } => Ok(Stmt::Emit {
+                cell: *cell,
+                what: what.copy(alloc)?,
+            }),
+            Stmt::Delay(length) => Ok(Stmt::Delay(length.copy(alloc)?)),
+            Stmt::WaitUntil(cond) => Ok(Stmt::WaitUntil(cond.copy(alloc)?)),
+            Stmt::Spawn { kind, arguments } => Ok(Stmt::Spawn {
+                kind: *kind,
+                arguments: copy_list(alloc, arguments)?,
+            }),
+            Stmt::Call {
+                kind,
+                arguments,
+                into,
+            } => Ok(Stmt::Call {
+                kind: *kind,
+                arguments: copy_list(alloc, arguments)?,
+                into: *into,
+            }),
+            Stmt::If { test, yes, no } => Ok(Stmt::If {
+                test: test.copy(alloc)?,
+                yes: copy_block(alloc, yes)?,
+                no: copy_block(alloc, no)?,
+            }),
+            Stmt::While { test, body } => Ok(Stmt::While {
+                test: test.copy(alloc)?,
+                body: copy_block(alloc, body)?,
+            }),
+            Stmt::Return(None) => Ok(Stmt::Return(None)),
+            Stmt::Return(Some(value)) => Ok(Stmt::Return(Some(value.copy(alloc)?))),
+        }
+    }
+}
+
+/// An equal block.
+#[cycle(copy)]
+pub fn copy_block(alloc: Global, block: &List<Stmt>) -> Result<List<Stmt>, OutOfMemory>
+    ensures { IfOk result (λ copies. copies ≡ block.now) }
+{
+    let mut copies = List::new(alloc);
+    for stmt in block.as_slice() {
+        copies.push(stmt.copy(alloc)?)?;
+    }
+    Ok(copies)
 }
