@@ -1,4 +1,4 @@
-ghost use Rattle.std.specs.Prelude.{◌≡◌, IfOk};
+ghost use Rattle.std.specs.Prelude.{◌≡◌, ◌↔◌, IsTrue, IfOk};
 
 use crate::memory::OutOfMemory;
 use crate::names::Name;
@@ -37,6 +37,18 @@ impl RawValue {
             RawValue::Word(word) => Ok(RawValue::Word(word.copy()?)),
         }
     }
+
+    /// Whether the two are the same value.
+    pub fn is_same(&self, other: &RawValue) -> bool
+        ensures { IsTrue result ↔ (self.now ≡ other.now) }
+    {
+        match (self, other) {
+            (RawValue::Int(number), RawValue::Int(other_number)) => number == other_number,
+            (RawValue::Truth(truth), RawValue::Truth(other_truth)) => truth == other_truth,
+            (RawValue::Word(word), RawValue::Word(other_word)) => word.is_same(other_word),
+            _ => false,
+        }
+    }
 }
 
 impl RawArgument {
@@ -48,5 +60,12 @@ impl RawArgument {
             name: self.name.copy()?,
             value: self.value.copy(alloc)?,
         })
+    }
+
+    /// Whether the two are the same argument.
+    pub fn is_same(&self, other: &RawArgument) -> bool
+        ensures { IsTrue result ↔ (self.now ≡ other.now) }
+    {
+        self.name.is_same(&other.name) && self.value.is_same(&other.value)
     }
 }

@@ -1,4 +1,4 @@
-ghost use Rattle.std.specs.Prelude.{◌≡◌, IfOk};
+ghost use Rattle.std.specs.Prelude.{◌≡◌, ◌↔◌, IsTrue, IfOk};
 
 use crate::containers::Boxed;
 use crate::expressions::Comparison;
@@ -15,6 +15,15 @@ pub enum Simple {
     Literal(Value),
     /// A local or a register.
     Operand(Operand),
+}
+
+impl Simple {
+    /// Whether the two are the same side.
+    pub fn is_same(&self, other: &Simple) -> bool
+        ensures { IsTrue result ↔ (self.now ≡ other.now) }
+    {
+        self == other
+    }
 }
 
 /// What a task waits for. A condition never faults.
@@ -84,6 +93,40 @@ impl Cond {
                 let right = right.get().copy(alloc)?;
                 Ok(Cond::Or(left, Boxed::new(alloc, right)?))
             }
+        }
+    }
+
+    /// Whether the two are the same condition.
+    pub fn is_same(&self, other: &Cond) -> bool
+        ensures { IsTrue result ↔ (self.now ≡ other.now) }
+    {
+        match (self, other) {
+            (Cond::Literal(truth), Cond::Literal(other_truth)) => truth == other_truth,
+            (Cond::Flag(operand), Cond::Flag(other_operand)) => operand == other_operand,
+            (
+                Cond::Same { left, right, equal },
+                Cond::Same {
+                    left: other_left,
+                    right: other_right,
+                    equal: other_equal,
+                },
+            ) => left.is_same(other_left) && right.is_same(other_right) && equal == other_equal,
+            (
+                Cond::Compare { left, how, right },
+                Cond::Compare {
+                    left: other_left,
+                    how: other_how,
+                    right: other_right,
+                },
+            ) => how == other_how && left.is_same(other_left) && right.is_same(other_right),
+            (Cond::Not(inner), Cond::Not(other_inner)) => inner.get().is_same(other_inner.get()),
+            (Cond::And(left, right), Cond::And(other_left, other_right)) => {
+                left.get().is_same(other_left.get()) && right.get().is_same(other_right.get())
+            }
+            (Cond::Or(left, right), Cond::Or(other_left, other_right)) => {
+                left.get().is_same(other_left.get()) && right.get().is_same(other_right.get())
+            }
+            _ => false,
         }
     }
 }

@@ -1,4 +1,4 @@
-ghost use Rattle.std.specs.Prelude.{◌≡◌, IfOk};
+ghost use Rattle.std.specs.Prelude.{◌≡◌, ◌↔◌, IsTrue, IfOk};
 
 use crate::containers::Boxed;
 use crate::memory::OutOfMemory;
@@ -82,6 +82,29 @@ impl Expr {
                 let right = Boxed::new(alloc, right)?;
                 Ok(Expr::Binary(*operator, left, right))
             }
+        }
+    }
+
+    /// Whether the two are the same expression.
+    pub fn is_same(&self, other: &Expr) -> bool
+        ensures { IsTrue result ↔ (self.now ≡ other.now) }
+    {
+        match (self, other) {
+            (Expr::Literal(value), Expr::Literal(other_value)) => value == other_value,
+            (Expr::Operand(operand), Expr::Operand(other_operand)) => operand == other_operand,
+            (Expr::Not(inner), Expr::Not(other_inner)) => inner.get().is_same(other_inner.get()),
+            (Expr::Negate(inner), Expr::Negate(other_inner)) => {
+                inner.get().is_same(other_inner.get())
+            }
+            (
+                Expr::Binary(operator, left, right),
+                Expr::Binary(other_operator, other_left, other_right),
+            ) => {
+                operator == other_operator
+                    && left.get().is_same(other_left.get())
+                    && right.get().is_same(other_right.get())
+            }
+            _ => false,
         }
     }
 }

@@ -1,9 +1,9 @@
-ghost use Rattle.std.specs.Prelude.{◌≡◌, IfOk};
+ghost use Rattle.std.specs.Prelude.{◌≡◌, ◌↔◌, IsTrue, IfOk};
 
 use crate::containers::List;
-use crate::copies::copy_list;
 use crate::memory::OutOfMemory;
 use crate::operands::Operand;
+use crate::plain_data::{copy_list, same_list};
 use std::alloc::Global;
 
 /// A part of a linear form.
@@ -33,5 +33,12 @@ impl Linear {
             terms: copy_list(alloc, &self.terms)?,
             constant: self.constant,
         })
+    }
+
+    /// Whether the two are the same form.
+    pub fn is_same(&self, other: &Linear) -> bool
+        ensures { IsTrue result ↔ (self.now ≡ other.now) }
+    {
+        self.constant == other.constant && same_list(self.terms.as_slice(), other.terms.as_slice())
     }
 }

@@ -1,20 +1,20 @@
 //! Models: what a mission has and what its activities do.
 
-ghost use Rattle.std.specs.Prelude.{◌≡◌, IfOk};
+ghost use Rattle.std.specs.Prelude.{◌≡◌, ◌↔◌, IsTrue, IfOk};
 
 mod model;
 
 pub use model::Model;
 
 use crate::containers::List;
-use crate::copies::copy_list;
 use crate::expressions::Expr;
 use crate::linear::Linear;
 use crate::memory::OutOfMemory;
 use crate::names::Name;
 use crate::numbers::Number;
 use crate::operands::CellRead;
-use crate::statements::{Stmt, copy_block};
+use crate::plain_data::{copy_list, same_list};
+use crate::statements::{Stmt, copy_block, same_block};
 use crate::values::{Kind, Value};
 use std::alloc::Global;
 
@@ -104,6 +104,14 @@ impl EnumType {
             variants: copy_list(alloc, &self.variants)?,
         })
     }
+
+    /// Whether the two are the same enumeration.
+    pub fn is_same(&self, other: &EnumType) -> bool
+        ensures { IsTrue result ↔ (self.now ≡ other.now) }
+    {
+        self.name.is_same(&other.name)
+            && same_list(self.variants.as_slice(), other.variants.as_slice())
+    }
 }
 
 impl Resource {
@@ -114,6 +122,17 @@ impl Resource {
         match self {
             Resource::Discrete(read) => Ok(Resource::Discrete(*read)),
             Resource::Linear(form) => Ok(Resource::Linear(form.copy(alloc)?)),
+        }
+    }
+
+    /// Whether the two are the same resource.
+    pub fn is_same(&self, other: &Resource) -> bool
+        ensures { IsTrue result ↔ (self.now ≡ other.now) }
+    {
+        match (self, other) {
+            (Resource::Discrete(read), Resource::Discrete(other_read)) => read == other_read,
+            (Resource::Linear(form), Resource::Linear(other_form)) => form.is_same(other_form),
+            _ => false,
         }
     }
 }
@@ -128,6 +147,13 @@ impl Parameter {
             kind: self.kind,
             default: self.default,
         })
+    }
+
+    /// Whether the two are the same parameter.
+    pub fn is_same(&self, other: &Parameter) -> bool
+        ensures { IsTrue result ↔ (self.now ≡ other.now) }
+    {
+        self.name.is_same(&other.name) && self.kind == other.kind && self.default == other.default
     }
 }
 
@@ -145,6 +171,18 @@ impl Activity {
             body: copy_block(alloc, &self.body)?,
         })
     }
+
+    /// Whether the two are the same activity type.
+    pub fn is_same(&self, other: &Activity) -> bool
+        ensures { IsTrue result ↔ (self.now ≡ other.now) }
+    {
+        self.name.is_same(&other.name)
+            && same_list(self.parameters.as_slice(), other.parameters.as_slice())
+            && self.result == other.result
+            && same_list(self.requires_.as_slice(), other.requires_.as_slice())
+            && self.slots == other.slots
+            && same_block(self.body.as_slice(), other.body.as_slice())
+    }
 }
 
 impl Daemon {
@@ -156,5 +194,12 @@ impl Daemon {
             slots: self.slots,
             body: copy_block(alloc, &self.body)?,
         })
+    }
+
+    /// Whether the two are the same daemon.
+    pub fn is_same(&self, other: &Daemon) -> bool
+        ensures { IsTrue result ↔ (self.now ≡ other.now) }
+    {
+        self.slots == other.slots && same_block(self.body.as_slice(), other.body.as_slice())
     }
 }

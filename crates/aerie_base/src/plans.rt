@@ -1,9 +1,9 @@
-ghost use Rattle.std.specs.Prelude.{◌≡◌, IfOk};
+ghost use Rattle.std.specs.Prelude.{◌≡◌, ◌↔◌, IsTrue, IfOk};
 
 use crate::containers::List;
-use crate::copies::copy_list;
 use crate::memory::OutOfMemory;
 use crate::numbers::Time;
+use crate::plain_data::{copy_list, same_list};
 use crate::values::Value;
 use std::alloc::Global;
 
@@ -75,6 +75,17 @@ impl Directive {
             arguments: copy_list(alloc, &self.arguments)?,
         })
     }
+
+    /// Whether the two are the same directive.
+    pub fn is_same(&self, other: &Directive) -> bool
+        ensures { IsTrue result ↔ (self.now ≡ other.now) }
+    {
+        self.id == other.id
+            && self.start == other.start
+            && self.anchor == other.anchor
+            && self.kind == other.kind
+            && same_list(self.arguments.as_slice(), other.arguments.as_slice())
+    }
 }
 
 impl Plan {
@@ -88,5 +99,15 @@ impl Plan {
             next_id: self.next_id,
             directives: copy_list(alloc, &self.directives)?,
         })
+    }
+
+    /// Whether the two are the same plan.
+    pub fn is_same(&self, other: &Plan) -> bool
+        ensures { IsTrue result ↔ (self.now ≡ other.now) }
+    {
+        self.model == other.model
+            && self.duration == other.duration
+            && self.next_id == other.next_id
+            && same_list(self.directives.as_slice(), other.directives.as_slice())
     }
 }

@@ -1,10 +1,10 @@
-ghost use Rattle.std.specs.Prelude.{◌≡◌, IfOk};
+ghost use Rattle.std.specs.Prelude.{◌≡◌, ◌↔◌, IsTrue, IfOk};
 
 use crate::conditions::Cond;
 use crate::containers::List;
-use crate::copies::copy_list;
 use crate::expressions::Expr;
 use crate::memory::OutOfMemory;
+use crate::plain_data::{copy_list, same_list};
 use std::alloc::Global;
 
 /// What a statement does to a cell.
@@ -96,6 +96,19 @@ impl Emission {
             Emission::Rate(value) => Ok(Emission::Rate(value.copy(alloc)?)),
         }
     }
+
+    /// Whether the two are the same emission.
+    pub fn is_same(&self, other: &Emission) -> bool
+        ensures { IsTrue result ↔ (self.now ≡ other.now) }
+    {
+        match (self, other) {
+            (Emission::Add(value), Emission::Add(other_value)) => value.is_same(other_value),
+            (Emission::Set(value), Emission::Set(other_value)) => value.is_same(other_value),
+            (Emission::Volume(value), Emission::Volume(other_value)) => value.is_same(other_value),
+            (Emission::Rate(value), Emission::Rate(other_value)) => value.is_same(other_value),
+            _ => false,
+        }
+    }
 }
 
 impl Stmt {
@@ -145,6 +158,83 @@ impl Stmt {
             Stmt::Return(Some(value)) => Ok(Stmt::Return(Some(value.copy(alloc)?))),
         }
     }
+
+    /// Whether the two are the same statement.
+    #[cycle(same)]
+    pub fn is_same(&self, other: &Stmt) -> bool
+        ensures { IsTrue result ↔ (self.now ≡ other.now) }
+    {
+        match (self, other) {
+            (
+                Stmt::Let { slot, value },
+                Stmt::Let {
+                    slot: other_slot,
+                    value: other_value,
+                },
+            ) => slot == other_slot && value.is_same(other_value),
+            (
+                Stmt::Assign { slot, value },
+                Stmt::Assign {
+                    slot: other_slot,
+                    value: other_value,
+                },
+            ) => slot == other_slot && value.is_same(other_value),
+            (
+                Stmt::Emit { cell, what },
+                Stmt::Emit {
+                    cell: other_cell,
+                    what: other_what,
+                },
+            ) => cell == other_cell && what.is_same(other_what),
+            (Stmt::Delay(length), Stmt::Delay(other_length)) => length.is_same(other_length),
+            (Stmt::WaitUntil(cond), Stmt::WaitUntil(other_cond)) => cond.is_same(other_cond),
+            (
+                Stmt::Spawn { kind, arguments },
+                Stmt::Spawn {
+                    kind: other_kind,
+                    arguments: other_arguments,
+                },
+            ) => kind == other_kind && same_list(arguments.as_slice(), other_arguments.as_slice()),
+            (
+                Stmt::Call {
+                    kind,
+                    arguments,
+                    into,
+                },
+                Stmt::Call {
+                    kind: other_kind,
+                    arguments: other_arguments,
+                    into: other_into,
+                },
+            ) => {
+                kind == other_kind
+                    && into == other_into
+                    && same_list(arguments.as_slice(), other_arguments.as_slice())
+            }
+            (
+                Stmt::If { test, yes, no },
+                Stmt::If {
+                    test: other_test,
+                    yes: other_yes,
+                    no: other_no,
+                },
+            ) => test.is_same(other_test)
+                && same_block(yes.as_slice(), other_yes.as_slice())
+                && same_block(no.as_slice(), other_no.as_slice()),
+            (
+                Stmt::While { test, body },
+                Stmt::While {
+                    test: other_test,
+                    body: other_body,
+                },
+            ) => test.is_same(other_test) && same_block(body.as_slice(), other_body.as_slice()),
+            (Stmt::Return(None), Stmt::Return(None)) => true,
+            (Stmt::Return(Some(value)), Stmt::Return(Some(other_value))) => {
+                value.is_same(other_value)
+            }
+            _ => false,
+        }
+    }
 }
 
 /// An equal block.
@@ -157,4 +247,20 @@ pub fn copy_block(alloc: Global, block: &List<Stmt>) -> Result<List<Stmt>, OutOf
         copies.push(stmt.copy(alloc)?)?;
     }
     Ok(copies)
+}
+
+/// Whether the two blocks are the same: as long, with the same statement at each place.
+#[cycle(same)]
+pub fn same_block(block: &[Stmt], other: &[Stmt]) -> bool
+    ensures { IsTrue result ↔ (block.now ≡ other.now) }
+{
+    if block.len() != other.len() {
+        return false;
+    }
+    for at in 0..block.len() {
+        if !block[at].is_same(&other[at]) {
+            return false;
+        }
+    }
+    true
 }

@@ -1,5 +1,5 @@
 use Rattle.std.proofs.Common.{◌≡◌, take}
-use Rattle.aerie_base.proofs.copies.copy_list.Given as goal
+use Rattle.aerie_base.proofs.plain_data.copy_list.Given as goal
 
 -- so many copies were made as items were passed, each equal
 abbrev pub invariant-loop-item : goal.invariant-loop-item
