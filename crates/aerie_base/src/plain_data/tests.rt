@@ -75,48 +75,76 @@ fn block(alloc: Global) -> Result<List<Stmt>, OutOfMemory> {
     Ok(block)
 }
 
-/// A statement of each form; two `if`s differ in their second blocks alone.
-fn statements(alloc: Global) -> Result<List<Stmt>, OutOfMemory> {
+/// Statements that set locals and emit, and others with no list in them.
+fn simple_statements(alloc: Global) -> Result<List<Stmt>, OutOfMemory> {
+    let value = Expr::Literal(TRUTH);
     let mut list = block(alloc)?;
-    list.push(Stmt::Let {
-        slot: 1,
-        value: Expr::Literal(TRUTH),
-    })?;
-    list.push(Stmt::Assign {
-        slot: 1,
-        value: Expr::Literal(TRUTH),
-    })?;
-    list.push(Stmt::Emit {
-        cell: 2,
-        what: Emission::Volume(Expr::Literal(TRUTH)),
-    })?;
+    list.push(Stmt::Let { slot: 1, value })?;
+    let value = Expr::Literal(TRUTH);
+    list.push(Stmt::Assign { slot: 1, value })?;
+    let what = Emission::Volume(Expr::Literal(TRUTH));
+    list.push(Stmt::Emit { cell: 2, what })?;
     list.push(Stmt::WaitUntil(Cond::Literal(true)))?;
+    list.push(Stmt::Return(None))?;
+    list.push(Stmt::Return(Some(Expr::Literal(TRUTH))))?;
+    Ok(list)
+}
+
+/// Two `if`s that differ in their second blocks alone, and a `while` of them.
+fn nested_statements(alloc: Global) -> Result<List<Stmt>, OutOfMemory> {
+    let mut list = List::new(alloc);
+    for has_else in [false, true] {
+        list.push(choice(alloc, has_else)?)?;
+    }
+    let mut body = List::new(alloc);
+    body.push(choice(alloc, true)?)?;
+    list.push(Stmt::While {
+        test: Expr::Literal(TRUTH),
+        body,
+    })?;
+    Ok(list)
+}
+
+/// An `if` of simple blocks.
+fn choice(alloc: Global, has_else: bool) -> Result<Stmt, OutOfMemory> {
+    let yes = block(alloc)?;
+    let no = if has_else {
+        block(alloc)?
+    } else {
+        List::new(alloc)
+    };
+    let test = Expr::Literal(TRUTH);
+    Ok(Stmt::If { test, yes, no })
+}
+
+/// Three ways to begin a child.
+fn children(alloc: Global) -> Result<List<Stmt>, OutOfMemory> {
+    let mut list = List::new(alloc);
     list.push(Stmt::Spawn {
         kind: 0,
         arguments: expressions(alloc)?,
     })?;
-    list.push(Stmt::Call {
-        kind: 0,
-        arguments: expressions(alloc)?,
-        into: Some(1),
-    })?;
-    list.push(Stmt::If {
-        test: Expr::Literal(TRUTH),
-        yes: block(alloc)?,
-        no: List::new(alloc),
-    })?;
-    list.push(Stmt::If {
-        test: Expr::Literal(TRUTH),
-        yes: block(alloc)?,
-        no: block(alloc)?,
-    })?;
-    list.push(Stmt::While {
-        test: Expr::Literal(TRUTH),
-        body: block(alloc)?,
-    })?;
-    list.push(Stmt::Return(None))?;
-    list.push(Stmt::Return(Some(Expr::Literal(TRUTH))))?;
+    for into in [None, Some(1)] {
+        list.push(Stmt::Call {
+            kind: 0,
+            arguments: expressions(alloc)?,
+            into,
+        })?;
+    }
     Ok(list)
+}
+
+/// Whether a copy of each statement is the same as the statement at its own place alone.
+fn copies_each(alloc: Global, block: &List<Stmt>) -> Result<bool, OutOfMemory> {
+    for (at, stmt) in block.as_slice().iter().enumerate() {
+        let copy = stmt.copy(alloc)?;
+        for (place, other) in block.as_slice().iter().enumerate() {
+            if copy.is_same(other) != (at == place) {
+                return Ok(false);
+            }
+        }
+    }
+    Ok(true)
 }
 
 #[test]
@@ -147,13 +175,12 @@ fn copies_and_compares_conditions(rt: HostRuntime) {
 #[test]
 fn copies_and_compares_statements(rt: HostRuntime) {
     let alloc = rt.alloc();
-    let list = statements(alloc).expect(&rt, "memory");
-    for (at, item) in list.as_slice().iter().enumerate() {
-        let copy = item.copy(alloc).expect(&rt, "memory");
-        for (place, other) in list.as_slice().iter().enumerate() {
-            assert_eq!(&rt; copy.is_same(other), at == place, "{at} and {place}");
-        }
-    }
+    let simple = simple_statements(alloc).expect(&rt, "memory");
+    assert_eq!(&rt; copies_each(alloc, &simple), Ok(true));
+    let nested = nested_statements(alloc).expect(&rt, "memory");
+    assert_eq!(&rt; copies_each(alloc, &nested), Ok(true));
+    let children = children(alloc).expect(&rt, "memory");
+    assert_eq!(&rt; copies_each(alloc, &children), Ok(true));
 }
 
 #[test]
@@ -173,13 +200,62 @@ fn copies_and_compares_emissions(rt: HostRuntime) {
     }
 }
 
-/// A parameter with this default.
-fn parameter(name: Name, default: Option<Value>) -> Parameter {
-    Parameter {
+fn enumeration(alloc: Global, name: &Name) -> Result<EnumType, OutOfMemory> {
+    let mut variants = List::new(alloc);
+    variants.push(name.copy()?)?;
+    let name = name.copy()?;
+    Ok(EnumType { name, variants })
+}
+
+fn parameter(name: &Name, default: Option<Value>) -> Result<Parameter, OutOfMemory> {
+    let name = name.copy()?;
+    let kind = Kind::Truth;
+    Ok(Parameter {
         name,
-        kind: Kind::Truth,
+        kind,
         default,
-    }
+    })
+}
+
+fn daemon(alloc: Global) -> Result<Daemon, OutOfMemory> {
+    let body = nested_statements(alloc)?;
+    Ok(Daemon { slots: 3, body })
+}
+
+fn activity(alloc: Global, name: &Name) -> Result<Activity, OutOfMemory> {
+    let mut parameters = List::new(alloc);
+    parameters.push(parameter(name, Some(TRUTH))?)?;
+    Ok(Activity {
+        name: name.copy()?,
+        parameters,
+        result: Some(Kind::Int),
+        requires_: expressions(alloc)?,
+        slots: 3,
+        body: children(alloc)?,
+    })
+}
+
+/// Whether a copy of each part of a model is the same.
+fn copies_parts(alloc: Global, name: &Name) -> Result<bool, OutOfMemory> {
+    let modes = enumeration(alloc, name)?;
+    let daemon = daemon(alloc)?;
+    let activity = activity(alloc, name)?;
+    Ok(
+        modes.copy(alloc)?.is_same(&modes)
+            && daemon.copy(alloc)?.is_same(&daemon)
+            && activity.copy(alloc)?.is_same(&activity),
+    )
+}
+
+/// Whether a copy of each is the same, and the two are not.
+fn tells_resources_apart(
+    alloc: Global,
+    one: &Resource,
+    other: &Resource,
+) -> Result<bool, OutOfMemory> {
+    let copy = one.copy(alloc)?;
+    let other_copy = other.copy(alloc)?;
+    Ok(copy.is_same(one) && other_copy.is_same(other) && !copy.is_same(other))
 }
 
 #[test]
@@ -188,48 +264,18 @@ fn copies_and_compares_parts_of_a_model(rt: HostRuntime) {
     let name = Name::new(alloc, "science")
         .expect(&rt, "memory")
         .expect(&rt, "a name");
-    let mut variants = List::new(alloc);
-    variants
-        .push(name.copy().expect(&rt, "memory"))
-        .expect(&rt, "memory");
-    let modes = EnumType {
-        name: name.copy().expect(&rt, "memory"),
-        variants,
-    };
-    assert!(&rt; modes.copy(alloc).expect(&rt, "memory").is_same(&modes));
+    assert_eq!(&rt; copies_parts(alloc, &name), Ok(true));
+    let given = parameter(&name, Some(TRUTH)).expect(&rt, "memory");
+    let wanted = parameter(&name, None).expect(&rt, "memory");
+    assert!(&rt; !given.is_same(&wanted));
+}
 
+#[test]
+fn copies_and_compares_resources(rt: HostRuntime) {
+    let alloc = rt.alloc();
     let read = Resource::Discrete(CellRead::Conflicted(1));
     let sum = Resource::Linear(linear(alloc, 7).expect(&rt, "memory"));
-    assert!(&rt; read.copy(alloc).expect(&rt, "memory").is_same(&read));
-    assert!(&rt; sum.copy(alloc).expect(&rt, "memory").is_same(&sum));
-    assert!(&rt; !sum.is_same(&read));
-
-    let daemon = Daemon {
-        slots: 3,
-        body: statements(alloc).expect(&rt, "memory"),
-    };
-    assert!(&rt; daemon.copy(alloc).expect(&rt, "memory").is_same(&daemon));
-
-    let given = parameter(name.copy().expect(&rt, "memory"), Some(TRUTH));
-    let wanted = parameter(name.copy().expect(&rt, "memory"), None);
-    assert!(&rt; !given.is_same(&wanted));
-    let mut parameters = List::new(alloc);
-    parameters.push(given).expect(&rt, "memory");
-    parameters.push(wanted).expect(&rt, "memory");
-    let activity = Activity {
-        name,
-        parameters,
-        result: Some(Kind::Int),
-        requires_: expressions(alloc).expect(&rt, "memory"),
-        slots: 3,
-        body: statements(alloc).expect(&rt, "memory"),
-    };
-    assert!(&rt;
-        activity
-            .copy(alloc)
-            .expect(&rt, "memory")
-            .is_same(&activity)
-    );
+    assert_eq!(&rt; tells_resources_apart(alloc, &read, &sum), Ok(true));
 }
 
 /// A directive with this anchor.
@@ -245,31 +291,36 @@ fn directive(alloc: Global, anchor: Option<Anchor>, start: Time) -> Result<Direc
     })
 }
 
-#[test]
-fn copies_and_compares_plans(rt: HostRuntime) {
-    let alloc = rt.alloc();
-    let time = Time::new(60).expect(&rt, "a time");
-    let anchor = Anchor {
+/// Two directives that differ in their anchors alone.
+fn directives(alloc: Global, start: Time) -> Result<List<Directive>, OutOfMemory> {
+    let to_first = Anchor {
         to: 1,
         edge: Edge::End,
     };
-    let free = directive(alloc, None, time).expect(&rt, "memory");
-    let anchored = directive(alloc, Some(anchor), time).expect(&rt, "memory");
-    assert!(&rt; same_values(free.arguments.as_slice(), anchored.arguments.as_slice()));
-    assert!(&rt; !same_values(free.arguments.as_slice(), &[]));
-    assert!(&rt; !free.is_same(&anchored));
-    let mut directives = List::new(alloc);
-    directives.push(free).expect(&rt, "memory");
-    directives.push(anchored).expect(&rt, "memory");
+    let mut list = List::new(alloc);
+    for anchor in [None, Some(to_first)] {
+        list.push(directive(alloc, anchor, start)?)?;
+    }
+    Ok(list)
+}
+
+#[test]
+fn copies_and_compares_plans(rt: HostRuntime) {
+    let alloc = rt.alloc();
+    let duration = Time::new(60).expect(&rt, "a time");
     let plan = Plan {
         model: 0,
-        duration: time,
+        duration,
         next_id: 3,
-        directives,
+        directives: directives(alloc, duration).expect(&rt, "memory"),
     };
     let copy = plan.copy(alloc).expect(&rt, "memory");
     assert!(&rt; copy.is_same(&plan));
-    assert_eq!(&rt; copy.directives.len(), 2);
+    if let [free, anchored] = copy.directives.as_slice() {
+        assert!(&rt; !free.is_same(anchored));
+        assert!(&rt; same_values(free.arguments.as_slice(), anchored.arguments.as_slice()));
+        assert!(&rt; !same_values(free.arguments.as_slice(), &[]));
+    }
 }
 
 #[test]
