@@ -1,5 +1,10 @@
+ghost use Rattle.std.specs.Prelude.{◌≡◌, ◌↔◌, IsTrue, IfOk};
+
 use crate::containers::List;
+use crate::memory::OutOfMemory;
 use crate::operands::Operand;
+use crate::plain_data::{copy_list, same_list};
+use std::alloc::Global;
 
 /// A part of a linear form.
 #[derive(Clone, Copy, Debug, PartialEq, Eq)]
@@ -17,4 +22,23 @@ pub struct Linear {
     pub terms: List<Term>,
     /// What is added to the terms.
     pub constant: i128,
+}
+
+impl Linear {
+    /// An equal form.
+    pub fn copy(&self, alloc: Global) -> Result<Linear, OutOfMemory>
+        ensures { IfOk result (λ copy. copy ≡ self.now) }
+    {
+        Ok(Linear {
+            terms: copy_list(alloc, &self.terms)?,
+            constant: self.constant,
+        })
+    }
+
+    /// Whether the two are the same form.
+    pub fn is_same(&self, other: &Linear) -> bool
+        ensures { IsTrue result ↔ (self.now ≡ other.now) }
+    {
+        self.constant == other.constant && same_list(self.terms.as_slice(), other.terms.as_slice())
+    }
 }

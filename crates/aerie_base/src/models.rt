@@ -1,5 +1,7 @@
 //! Models: what a mission has and what its activities do.
 
+ghost use Rattle.std.specs.Prelude.{◌≡◌, ◌↔◌, IsTrue, IfOk};
+
 mod model;
 
 pub use model::Model;
@@ -7,11 +9,14 @@ pub use model::Model;
 use crate::containers::List;
 use crate::expressions::Expr;
 use crate::linear::Linear;
+use crate::memory::OutOfMemory;
 use crate::names::Name;
 use crate::numbers::Number;
 use crate::operands::CellRead;
-use crate::statements::Stmt;
+use crate::plain_data::{copy_list, same_list};
+use crate::statements::{Stmt, copy_block, same_block};
 use crate::values::{Kind, Value};
+use std::alloc::Global;
 
 /// An enumeration.
 #[derive(Debug, Drop)]
@@ -87,4 +92,114 @@ pub struct Daemon {
     pub slots: u16,
     /// At most 4,096 statements.
     pub body: List<Stmt>,
+}
+
+impl EnumType {
+    /// An equal enumeration.
+    pub fn copy(&self, alloc: Global) -> Result<EnumType, OutOfMemory>
+        ensures { IfOk result (λ copy. copy ≡ self.now) }
+    {
+        Ok(EnumType {
+            name: self.name.copy()?,
+            variants: copy_list(alloc, &self.variants)?,
+        })
+    }
+
+    /// Whether the two are the same enumeration.
+    pub fn is_same(&self, other: &EnumType) -> bool
+        ensures { IsTrue result ↔ (self.now ≡ other.now) }
+    {
+        self.name.is_same(&other.name)
+            && same_list(self.variants.as_slice(), other.variants.as_slice())
+    }
+}
+
+impl Resource {
+    /// An equal resource.
+    pub fn copy(&self, alloc: Global) -> Result<Resource, OutOfMemory>
+        ensures { IfOk result (λ copy. copy ≡ self.now) }
+    {
+        match self {
+            Resource::Discrete(read) => Ok(Resource::Discrete(*read)),
+            Resource::Linear(form) => Ok(Resource::Linear(form.copy(alloc)?)),
+        }
+    }
+
+    /// Whether the two are the same resource.
+    pub fn is_same(&self, other: &Resource) -> bool
+        ensures { IsTrue result ↔ (self.now ≡ other.now) }
+    {
+        match (self, other) {
+            (Resource::Discrete(read), Resource::Discrete(other_read)) => read == other_read,
+            (Resource::Linear(form), Resource::Linear(other_form)) => form.is_same(other_form),
+            _ => false,
+        }
+    }
+}
+
+impl Parameter {
+    /// An equal parameter.
+    pub fn copy(&self, _alloc: Global) -> Result<Parameter, OutOfMemory>
+        ensures { IfOk result (λ copy. copy ≡ self.now) }
+    {
+        Ok(Parameter {
+            name: self.name.copy()?,
+            kind: self.kind,
+            default: self.default,
+        })
+    }
+
+    /// Whether the two are the same parameter.
+    pub fn is_same(&self, other: &Parameter) -> bool
+        ensures { IsTrue result ↔ (self.now ≡ other.now) }
+    {
+        self.name.is_same(&other.name) && self.kind == other.kind && self.default == other.default
+    }
+}
+
+impl Activity {
+    /// An equal activity type.
+    pub fn copy(&self, alloc: Global) -> Result<Activity, OutOfMemory>
+        ensures { IfOk result (λ copy. copy ≡ self.now) }
+    {
+        Ok(Activity {
+            name: self.name.copy()?,
+            parameters: copy_list(alloc, &self.parameters)?,
+            result: self.result,
+            requires_: copy_list(alloc, &self.requires_)?,
+            slots: self.slots,
+            body: copy_block(alloc, &self.body)?,
+        })
+    }
+
+    /// Whether the two are the same activity type.
+    pub fn is_same(&self, other: &Activity) -> bool
+        ensures { IsTrue result ↔ (self.now ≡ other.now) }
+    {
+        self.name.is_same(&other.name)
+            && same_list(self.parameters.as_slice(), other.parameters.as_slice())
+            && self.result == other.result
+            && same_list(self.requires_.as_slice(), other.requires_.as_slice())
+            && self.slots == other.slots
+            && same_block(self.body.as_slice(), other.body.as_slice())
+    }
+}
+
+impl Daemon {
+    /// An equal daemon.
+    pub fn copy(&self, alloc: Global) -> Result<Daemon, OutOfMemory>
+        ensures { IfOk result (λ copy. copy ≡ self.now) }
+    {
+        Ok(Daemon {
+            slots: self.slots,
+            body: copy_block(alloc, &self.body)?,
+        })
+    }
+
+    /// Whether the two are the same daemon.
+    pub fn is_same(&self, other: &Daemon) -> bool
+        ensures { IsTrue result ↔ (self.now ≡ other.now) }
+    {
+        self.slots == other.slots && same_block(self.body.as_slice(), other.body.as_slice())
+    }
 }

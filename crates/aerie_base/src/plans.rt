@@ -1,6 +1,11 @@
+ghost use Rattle.std.specs.Prelude.{◌≡◌, ◌↔◌, IsTrue, IfOk};
+
 use crate::containers::List;
+use crate::memory::OutOfMemory;
 use crate::numbers::Time;
+use crate::plain_data::{copy_list, same_list};
 use crate::values::Value;
+use std::alloc::Global;
 
 /// The end of a directive's span to which another one is anchored.
 #[derive(Clone, Copy, Debug, PartialEq, Eq)]
@@ -55,4 +60,54 @@ pub struct Plan {
     pub next_id: u32,
     /// At most 65,536 directives, in order of id.
     pub directives: List<Directive>,
+}
+
+impl Directive {
+    /// An equal directive.
+    pub fn copy(&self, alloc: Global) -> Result<Directive, OutOfMemory>
+        ensures { IfOk result (λ copy. copy ≡ self.now) }
+    {
+        Ok(Directive {
+            id: self.id,
+            start: self.start,
+            anchor: self.anchor,
+            kind: self.kind,
+            arguments: copy_list(alloc, &self.arguments)?,
+        })
+    }
+
+    /// Whether the two are the same directive.
+    pub fn is_same(&self, other: &Directive) -> bool
+        ensures { IsTrue result ↔ (self.now ≡ other.now) }
+    {
+        self.id == other.id
+            && self.start == other.start
+            && self.anchor == other.anchor
+            && self.kind == other.kind
+            && same_list(self.arguments.as_slice(), other.arguments.as_slice())
+    }
+}
+
+impl Plan {
+    /// An equal plan.
+    pub fn copy(&self, alloc: Global) -> Result<Plan, OutOfMemory>
+        ensures { IfOk result (λ copy. copy ≡ self.now) }
+    {
+        Ok(Plan {
+            model: self.model,
+            duration: self.duration,
+            next_id: self.next_id,
+            directives: copy_list(alloc, &self.directives)?,
+        })
+    }
+
+    /// Whether the two are the same plan.
+    pub fn is_same(&self, other: &Plan) -> bool
+        ensures { IsTrue result ↔ (self.now ≡ other.now) }
+    {
+        self.model == other.model
+            && self.duration == other.duration
+            && self.next_id == other.next_id
+            && same_list(self.directives.as_slice(), other.directives.as_slice())
+    }
 }

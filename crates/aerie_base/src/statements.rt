@@ -1,6 +1,11 @@
+ghost use Rattle.std.specs.Prelude.{◌≡◌, ◌↔◌, IsTrue, IfOk};
+
 use crate::conditions::Cond;
 use crate::containers::List;
 use crate::expressions::Expr;
+use crate::memory::OutOfMemory;
+use crate::plain_data::{copy_list, same_list};
+use std::alloc::Global;
 
 /// What a statement does to a cell.
 #[derive(Debug, Drop)]
@@ -77,4 +82,185 @@ pub enum Stmt {
     },
     /// `return`, with a value exactly in activities that have a result.
     Return(Option<Expr>),
+}
+
+impl Emission {
+    /// An equal emission.
+    pub fn copy(&self, alloc: Global) -> Result<Emission, OutOfMemory>
+        ensures { IfOk result (λ copy. copy ≡ self.now) }
+    {
+        match self {
+            Emission::Add(value) => Ok(Emission::Add(value.copy(alloc)?)),
+            Emission::Set(value) => Ok(Emission::Set(value.copy(alloc)?)),
+            Emission::Volume(value) => Ok(Emission::Volume(value.copy(alloc)?)),
+            Emission::Rate(value) => Ok(Emission::Rate(value.copy(alloc)?)),
+        }
+    }
+
+    /// Whether the two are the same emission.
+    pub fn is_same(&self, other: &Emission) -> bool
+        ensures { IsTrue result ↔ (self.now ≡ other.now) }
+    {
+        match (self, other) {
+            (Emission::Add(value), Emission::Add(other_value)) => value.is_same(other_value),
+            (Emission::Set(value), Emission::Set(other_value)) => value.is_same(other_value),
+            (Emission::Volume(value), Emission::Volume(other_value)) => value.is_same(other_value),
+            (Emission::Rate(value), Emission::Rate(other_value)) => value.is_same(other_value),
+            _ => false,
+        }
+    }
+}
+
+impl Stmt {
+    /// An equal statement.
+    #[cycle(copy)]
+    pub fn copy(&self, alloc: Global) -> Result<Stmt, OutOfMemory>
+        ensures { IfOk result (λ copy. copy ≡ self.now) }
+    {
+        match self {
+            Stmt::Let { slot, value } => Ok(Stmt::Let {
+                slot: *slot,
+                value: value.copy(alloc)?,
+            }),
+            Stmt::Assign { slot, value } => Ok(Stmt::Assign {
+                slot: *slot,
+                value: value.copy(alloc)?,
+            }),
+            Stmt::Emit { cell, what } => Ok(Stmt::Emit {
+                cell: *cell,
+                what: what.copy(alloc)?,
+            }),
+            Stmt::Delay(length) => Ok(Stmt::Delay(length.copy(alloc)?)),
+            Stmt::WaitUntil(cond) => Ok(Stmt::WaitUntil(cond.copy(alloc)?)),
+            Stmt::Spawn { kind, arguments } => Ok(Stmt::Spawn {
+                kind: *kind,
+                arguments: copy_list(alloc, arguments)?,
+            }),
+            Stmt::Call {
+                kind,
+                arguments,
+                into,
+            } => Ok(Stmt::Call {
+                kind: *kind,
+                arguments: copy_list(alloc, arguments)?,
+                into: *into,
+            }),
+            Stmt::If { test, yes, no } => Ok(Stmt::If {
+                test: test.copy(alloc)?,
+                yes: copy_block(alloc, yes)?,
+                no: copy_block(alloc, no)?,
+            }),
+            Stmt::While { test, body } => Ok(Stmt::While {
+                test: test.copy(alloc)?,
+                body: copy_block(alloc, body)?,
+            }),
+            Stmt::Return(None) => Ok(Stmt::Return(None)),
+            Stmt::Return(Some(value)) => Ok(Stmt::Return(Some(value.copy(alloc)?))),
+        }
+    }
+
+    /// Whether the two are the same statement.
+    #[cycle(same)]
+    pub fn is_same(&self, other: &Stmt) -> bool
+        ensures { IsTrue result ↔ (self.now ≡ other.now) }
+    {
+        match (self, other) {
+            (
+                Stmt::Let { slot, value },
+                Stmt::Let {
+                    slot: other_slot,
+                    value: other_value,
+                },
+            ) => slot == other_slot && value.is_same(other_value),
+            (
+                Stmt::Assign { slot, value },
+                Stmt::Assign {
+                    slot: other_slot,
+                    value: other_value,
+                },
+            ) => slot == other_slot && value.is_same(other_value),
+            (
+                Stmt::Emit { cell, what },
+                Stmt::Emit {
+                    cell: other_cell,
+                    what: other_what,
+                },
+            ) => cell == other_cell && what.is_same(other_what),
+            (Stmt::Delay(length), Stmt::Delay(other_length)) => length.is_same(other_length),
+            (Stmt::WaitUntil(cond), Stmt::WaitUntil(other_cond)) => cond.is_same(other_cond),
+            (
+                Stmt::Spawn { kind, arguments },
+                Stmt::Spawn {
+                    kind: other_kind,
+                    arguments: other_arguments,
+                },
+            ) => kind == other_kind && same_list(arguments.as_slice(), other_arguments.as_slice()),
+            (
+                Stmt::Call {
+                    kind,
+                    arguments,
+                    into,
+                },
+                Stmt::Call {
+                    kind: other_kind,
+                    arguments: other_arguments,
+                    into: other_into,
+                },
+            ) => {
+                kind == other_kind
+                    && into == other_into
+                    && same_list(arguments.as_slice(), other_arguments.as_slice())
+            }
+            (
+                Stmt::If { test, yes, no },
+                Stmt::If {
+                    test: other_test,
+                    yes: other_yes,
+                    no: other_no,
+                },
+            ) => test.is_same(other_test)
+                && same_block(yes.as_slice(), other_yes.as_slice())
+                && same_block(no.as_slice(), other_no.as_slice()),
+            (
+                Stmt::While { test, body },
+                Stmt::While {
+                    test: other_test,
+                    body: other_body,
+                },
+            ) => test.is_same(other_test) && same_block(body.as_slice(), other_body.as_slice()),
+            (Stmt::Return(None), Stmt::Return(None)) => true,
+            (Stmt::Return(Some(value)), Stmt::Return(Some(other_value))) => {
+                value.is_same(other_value)
+            }
+            _ => false,
+        }
+    }
+}
+
+/// An equal block.
+#[cycle(copy)]
+pub fn copy_block(alloc: Global, block: &List<Stmt>) -> Result<List<Stmt>, OutOfMemory>
+    ensures { IfOk result (λ copies. copies ≡ block.now) }
+{
+    let mut copies = List::new(alloc);
+    for stmt in block.as_slice() {
+        copies.push(stmt.copy(alloc)?)?;
+    }
+    Ok(copies)
+}
+
+/// Whether the two blocks are the same: as long, with the same statement at each place.
+#[cycle(same)]
+pub fn same_block(block: &[Stmt], other: &[Stmt]) -> bool
+    ensures { IsTrue result ↔ (block.now ≡ other.now) }
+{
+    if block.len() != other.len() {
+        return false;
+    }
+    for at in 0..block.len() {
+        if !block[at].is_same(&other[at]) {
+            return false;
+        }
+    }
+    true
 }

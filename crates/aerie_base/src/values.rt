@@ -1,3 +1,5 @@
+ghost use Rattle.std.specs.Prelude.{◌≡◌, ◌↔◌, IsTrue};
+
 use crate::numbers::Number;
 
 /// What a parameter, a local or a register holds.
@@ -14,6 +16,15 @@ pub enum Value {
         /// Which of its variants.
         number: u16,
     },
+}
+
+impl Value {
+    /// Whether the two are the same value.
+    pub fn is_same(&self, other: &Value) -> bool
+        ensures { IsTrue result ↔ (self.now ≡ other.now) }
+    {
+        self == other
+    }
 }
 
 /// The type of a value.
