@@ -1,0 +1,5 @@
+pub mod Arithmetic
+pub mod Evaluation
+pub mod Readings
+pub mod Recursion
+pub mod Typing
