@@ -1,5 +1,7 @@
-ghost use Rattle.std.specs.Prelude.{◌≡◌, IsSome};
+ghost use Rattle.std.specs.Prelude.{◌≡◌, IfOk, IsSome, Some};
+ghost use Rattle.aerie_base.specs.expressions.Arithmetic.{value_kind};
 ghost use Rattle.aerie_base.specs.expressions.Evaluation.{evaluated, evaluated_by_fold, of_operand};
+ghost use Rattle.aerie_base.specs.expressions.Faults.{MayFault};
 ghost use Rattle.aerie_base.specs.expressions.Typing.{kind_of, kind_by_fold, operand_kind, slot_kinds};
 
 use crate::arithmetic::{combined, decided, denied, negated};
@@ -20,6 +22,8 @@ pub fn eval<K: Look>(expr: &Expr, locals: &[Value], cells: &mut K) -> Result<Val
     ensures same_kinds { K.kinds cells.new ≡ K.kinds cells.old }
     ensures same_values { K.values cells.new ≡ K.values cells.old }
     ensures still { K.still cells.new ≡ K.still cells.old }
+    ensures typed { IfOk result (λ value. kind_of expr.now (slot_kinds locals.now) (K.kinds cells.old) ≡ Some (value_kind value)) }
+    ensures faults { MayFault result }
 {
     eval_by_fold(expr, locals, cells)
 }
