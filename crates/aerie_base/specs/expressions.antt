@@ -3,6 +3,7 @@ mod Cases
 pub mod Dependence
 pub mod Evaluation
 pub mod Faults
+pub mod PlainReads
 pub mod Readings
 pub mod Recursion
 pub mod Soundness
