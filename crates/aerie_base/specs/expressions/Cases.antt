@@ -1,6 +1,6 @@
 -- Worked cases of values, faults, types and notes.
 use Rattle.std.specs.Prelude.{◌≡◌, ℕ, ℤ, pos, negsuc, Bool, true, false, List, [], ◌∷◌, map, Option, Some, None, Ok, Err, refl}
-use Rattle.aerie_base.specs.expressions.Arithmetic.{Outcome, value_kind}
+use Rattle.aerie_base.specs.expressions.Arithmetic.{Outcome}
 use Rattle.aerie_base.specs.expressions.Recursion.{node_not, node_negate, node_binary}
 use Rattle.aerie_base.specs.expressions.Evaluation.{evaluated}
 use Rattle.aerie_base.specs.expressions.Typing.{kind_of, slot_kinds}
@@ -87,7 +87,7 @@ sums : map outcome (
     ∷ node_negate (slot 1)
     ∷ node_negate (number (pos 0))
     ∷ []
-  ) ≡ Ok (Int (pos 5)) ∷ Ok (Int (pos 9)) ∷ Ok (Int (negsuc 13)) ∷ Ok (Int (pos 6)) ∷ Ok (Int (pos 2)) ∷ Ok (Int (pos 0)) ∷ []
+    ) ≡ Ok (Int (pos 5)) ∷ Ok (Int (pos 9)) ∷ Ok (Int (negsuc 13)) ∷ Ok (Int (pos 6)) ∷ Ok (Int (pos 2)) ∷ Ok (Int (pos 0)) ∷ []
 unfolding evaluated locals values nothing_noted
 sums = refl
 
@@ -98,7 +98,7 @@ quotients : map outcome (
     ∷ binary operator.Divide (number (pos 7)) (number (negsuc 1))
     ∷ binary operator.Divide (number (negsuc 6)) (number (negsuc 1))
     ∷ []
-  ) ≡ Ok (Int (pos 3)) ∷ Ok (Int (negsuc 2)) ∷ Ok (Int (negsuc 2)) ∷ Ok (Int (pos 3)) ∷ []
+    ) ≡ Ok (Int (pos 3)) ∷ Ok (Int (negsuc 2)) ∷ Ok (Int (negsuc 2)) ∷ Ok (Int (pos 3)) ∷ []
 unfolding evaluated
 quotients = refl
 
@@ -109,7 +109,7 @@ remainders : map outcome (
     ∷ binary operator.Remainder (number (pos 7)) (number (negsuc 1))
     ∷ binary operator.Remainder (number (negsuc 6)) (number (negsuc 1))
     ∷ []
-  ) ≡ Ok (Int (pos 1)) ∷ Ok (Int (negsuc 0)) ∷ Ok (Int (pos 1)) ∷ Ok (Int (negsuc 0)) ∷ []
+    ) ≡ Ok (Int (pos 1)) ∷ Ok (Int (negsuc 0)) ∷ Ok (Int (pos 1)) ∷ Ok (Int (negsuc 0)) ∷ []
 unfolding evaluated
 remainders = refl
 
@@ -129,7 +129,7 @@ equalities : map outcome (
     ∷ binary (operator.Compare by.Equal) (truth false) (cell (Conflicted 2))
     ∷ binary (operator.Compare by.Unequal) (truth false) (slot 2)
     ∷ []
-  ) ≡ answers (true ∷ false ∷ true ∷ true ∷ true ∷ [])
+    ) ≡ answers (true ∷ false ∷ true ∷ true ∷ true ∷ [])
 unfolding evaluated locals values nothing_noted
 equalities = refl
 
@@ -143,7 +143,7 @@ truths : map outcome (
     ∷ node_not (truth true)
     ∷ node_not (truth false)
     ∷ []
-  ) ≡ answers (true ∷ false ∷ false ∷ false ∷ true ∷ true ∷ false ∷ true ∷ [])
+    ) ≡ answers (true ∷ false ∷ false ∷ false ∷ true ∷ true ∷ false ∷ true ∷ [])
 unfolding evaluated
 truths = refl
 
@@ -158,7 +158,7 @@ limits : map outcome (
     ∷ cell (Volume 1)
     ∷ cell (Rate 1)
     ∷ []
-  ) ≡ Ok (Int (pos 1_000_000_000_000_000_000))
+    ) ≡ Ok (Int (pos 1_000_000_000_000_000_000))
     ∷ Err Range
     ∷ Ok (Int (negsuc 999_999_999_999_999_999))
     ∷ Err Range
@@ -182,7 +182,7 @@ first_faults : map outcome (
     ∷ node_negate no_quotient
     ∷ node_not no_test
     ∷ []
-  ) ≡ Err Divide
+    ) ≡ Err Divide
     ∷ Err Range
     ∷ Err Divide
     ∷ Err Range
@@ -203,7 +203,7 @@ decided_by_the_left : map outcome (
     ∷ binary operator.Or (truth false) no_test
     ∷ binary operator.And no_test (truth false)
     ∷ []
-  ) ≡ Ok (Truth false) ∷ Err Divide ∷ Ok (Truth true) ∷ Err Divide ∷ Err Divide ∷ []
+    ) ≡ Ok (Truth false) ∷ Err Divide ∷ Ok (Truth true) ∷ Err Divide ∷ Err Divide ∷ []
 unfolding evaluated locals values nothing_noted
 decided_by_the_left = refl
 
@@ -220,7 +220,7 @@ notes : map noted (
     ∷ binary operator.Plus (cell (Counter 0)) (cell (Volume 1))
     ∷ binary operator.Or no_test test
     ∷ []
-  ) ≡ (false ∷ false ∷ false ∷ [])
+    ) ≡ (false ∷ false ∷ false ∷ [])
     ∷ (true ∷ false ∷ false ∷ [])
     ∷ (true ∷ false ∷ true ∷ [])
     ∷ (false ∷ false ∷ true ∷ [])
@@ -256,7 +256,7 @@ well_typed : map type_of (
     ∷ binary operator.And (slot 2) (node_not (cell (Conflicted 2)))
     ∷ node_negate (slot 1)
     ∷ []
-  ) ≡ Some kind.Int
+    ) ≡ Some kind.Int
     ∷ Some (kind.Enum 0)
     ∷ Some kind.Int
     ∷ Some kind.Int
@@ -283,6 +283,6 @@ not_well_typed : map type_of (
     ∷ node_not (slot 0)
     ∷ node_negate (slot 2)
     ∷ []
-  ) ≡ None ∷ None ∷ None ∷ None ∷ None ∷ None ∷ None ∷ None ∷ None ∷ None ∷ None ∷ None ∷ []
+    ) ≡ None ∷ None ∷ None ∷ None ∷ None ∷ None ∷ None ∷ None ∷ None ∷ None ∷ None ∷ None ∷ []
 unfolding kind_of locals kinds
 not_well_typed = refl

@@ -1,11 +1,10 @@
 -- What the outcome of an expression depends on: what is read of the cells that are then noted, and nothing else of the
 -- cells. Flags only rise.
-use Rattle.std.specs.Prelude.{◌≡◌, ℕ, zero, suc, Bool, true, false, List, [], ◌∷◌, length, get_or, Option, Some, None, Ok, Err}
-use mathlib.Core.Path.{refl, sym, ap, subst, ◌∙◌}
+use Rattle.std.specs.Prelude.{◌≡◌, ℕ, zero, suc, Bool, true, List, [], ◌∷◌, length, get_or, Option, Some, None, Ok, Err}
+use mathlib.Core.Path.{refl, ap, ◌∙◌}
 use Rattle.aerie_base.specs.expressions.Arithmetic.{Outcome, combined, decided, negated, denied}
 use Rattle.aerie_base.specs.expressions.Readings.{reading, cell_of, also}
-use Rattle.aerie_base.specs.expressions.Recursion.{expr_gives}
-use Rattle.aerie_base.specs.expressions.Evaluation.{Noted, evaluated, then_made, on_value, unless_decided, in_order, of_operand}
+use Rattle.aerie_base.specs.expressions.Evaluation.{Noted, evaluated, then_made, on_value, unless_decided, in_order}
 use Rattle.aerie_base.specs.declared.values.Value.{Value}
 use Rattle.aerie_base.specs.declared.operands.CellRead.{CellRead}
 use Rattle.aerie_base.specs.declared.operands.Operand.TheVariants.{Read, Local}

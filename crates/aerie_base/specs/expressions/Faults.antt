@@ -1,10 +1,9 @@
 -- Which faults expressions have.
-use Rattle.std.specs.Prelude.{◌≡◌, ⊤, ℤ, ◌+ℤ◌, ◌-ℤ◌, ◌*ℤ◌, neg_ℤ, Bool, true, false, List, Option, Some, None, Result, Ok, Err, IfErr, IsTrue, if◌then◌else◌}
+use Rattle.std.specs.Prelude.{ℤ, ◌+ℤ◌, ◌-ℤ◌, ◌*ℤ◌, neg_ℤ, Bool, true, false, List, Option, Some, None, Ok, Err, IfErr, IsTrue, if◌then◌else◌}
 use Rattle.std.specs.Int.RustNames.{int_div, int_rem}
 use mathlib.Core.Path.{refl}
-use Rattle.aerie_base.specs.expressions.Arithmetic.{Outcome, number_in, ranged, is_zero, divided, combined, decided, negated, denied}
+use Rattle.aerie_base.specs.expressions.Arithmetic.{Outcome, number_in, ranged, is_zero, combined, decided, negated, denied}
 use Rattle.aerie_base.specs.expressions.Readings.{reading, on_number, rate_ranged, is_rate}
-use Rattle.aerie_base.specs.expressions.Recursion.{expr_gives}
 use Rattle.aerie_base.specs.expressions.Evaluation.{Noted, evaluated, then_made, on_value, unless_decided, in_order}
 use Rattle.aerie_base.specs.Ranges.{is_number}
 use Rattle.aerie_base.specs.declared.values.Value.{Value}

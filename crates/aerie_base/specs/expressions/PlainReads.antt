@@ -1,6 +1,6 @@
 -- A plain place to read from, for tests: a whole number for each cell (0 past the last), in whatever range. A conflict
 -- flag is whether the number is not 0.
-use Rattle.std.specs.Prelude.{◌≡◌, ⊤, ℤ, pos, Bool, not, List, Option, None, Some, slice_index_or}
+use Rattle.std.specs.Prelude.{◌≡◌, ℤ, pos, not, List, Option, None, Some, slice_index_or}
 use mathlib.Core.Path.{refl, ap, subst, ◌∙◌}
 use Rattle.aerie_base.specs.expressions.Arithmetic.{is_zero, value_kind}
 use Rattle.aerie_base.specs.expressions.Readings.{cell_of, MayHave, AreReadings}

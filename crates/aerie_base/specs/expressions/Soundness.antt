@@ -1,20 +1,18 @@
 -- What the type of an expression says: its value has that type.
-use Rattle.std.specs.Prelude.{◌≡◌, ⊤, ℕ, ℤ, ◌+ℤ◌, ◌-ℤ◌, ◌*ℤ◌, neg_ℤ, Bool, true, false, not, ◌&&◌, List, [], ◌∷◌, Option, Some, None, is_some, IsSome, Result, Ok, Err, IfOk, IfErr, IsTrue, zero, suc, if◌then◌else◌, slice_get, slice_index_or, pos}
+use Rattle.std.specs.Prelude.{◌≡◌, ℕ, ℤ, ◌+ℤ◌, ◌-ℤ◌, ◌*ℤ◌, neg_ℤ, Bool, true, false, ◌&&◌, List, [], ◌∷◌, Option, Some, None, is_some, IsSome, Ok, Err, IfOk, zero, suc, if◌then◌else◌, slice_index_or, pos}
 use Rattle.std.specs.Int.RustNames.{int_div, int_rem}
 use mathlib.Core.Path.{refl, sym, ap, subst, ◌∙◌}
 use mathlib.Core.Bool.{true≢false}
-use Rattle.aerie_base.specs.expressions.Arithmetic.{Outcome, value_kind, number_in, truth_in, ranged, is_zero, divided, combined, decided, negated, denied}
+use Rattle.aerie_base.specs.expressions.Arithmetic.{Outcome, value_kind, number_in, truth_in, ranged, is_zero, combined, decided, negated, denied}
 use Rattle.aerie_base.specs.expressions.Readings.{reading, on_number, rate_ranged, is_rate, AreReadings}
-use Rattle.aerie_base.specs.expressions.Recursion.{expr_gives}
-use Rattle.aerie_base.specs.expressions.Evaluation.{Noted, evaluated, then_made, on_value, unless_decided, in_order, of_operand}
-use Rattle.aerie_base.specs.expressions.Typing.{kind_of, given, keeps, may_compare, same_kind, combined_kind, of_both, operand_kind, slot_kinds}
+use Rattle.aerie_base.specs.expressions.Evaluation.{Noted, evaluated, then_made, on_value, unless_decided, in_order}
+use Rattle.aerie_base.specs.expressions.Typing.{kind_of, given, keeps, may_compare, same_kind, combined_kind, of_both, slot_kinds}
 use Rattle.aerie_base.specs.Ranges.{is_number}
 use Rattle.aerie_base.specs.declared.values.Kind.{Kind}
 use Rattle.aerie_base.specs.declared.values.Kind.TheVariants as kind
 use Rattle.aerie_base.specs.declared.values.Value.{Value}
 use Rattle.aerie_base.specs.declared.values.Value.TheVariants.{Int, Truth, Variant}
-use Rattle.aerie_base.specs.declared.faults.Fault.{Fault}
-use Rattle.aerie_base.specs.declared.faults.Fault.TheVariants.{Range, Divide, NegativeDelay, TooDeep}
+use Rattle.aerie_base.specs.declared.faults.Fault.TheVariants.{Range, Divide}
 use Rattle.aerie_base.specs.declared.operands.CellRead.{CellRead}
 use Rattle.aerie_base.specs.declared.operands.CellRead.TheVariants as read
 use Rattle.aerie_base.specs.declared.operands.Operand.TheVariants.{Read, Local}

@@ -110,10 +110,16 @@ fn combined_kind(operator: Operator, left: Kind, right: Kind) -> Option<Kind>
 {
     match operator {
         Operator::Or | Operator::And => {
-            given(same_kind(left, Kind::Truth) && same_kind(right, Kind::Truth), Kind::Truth)
+            given(
+                same_kind(left, Kind::Truth) && same_kind(right, Kind::Truth),
+                Kind::Truth,
+            )
         }
         Operator::Compare(how) => given(may_compare(how, left, right), Kind::Truth),
-        _ => given(same_kind(left, Kind::Int) && same_kind(right, Kind::Int), Kind::Int),
+        _ => given(
+            same_kind(left, Kind::Int) && same_kind(right, Kind::Int),
+            Kind::Int,
+        ),
     }
 }
 
@@ -185,7 +191,12 @@ fn negate(alloc: Global, inner: Option<Expr>) -> Option<Expr> {
     Some(Expr::Negate(boxed(alloc, inner)?))
 }
 
-fn both(alloc: Global, left: Option<Expr>, operator: Operator, right: Option<Expr>) -> Option<Expr> {
+fn both(
+    alloc: Global,
+    left: Option<Expr>,
+    operator: Operator,
+    right: Option<Expr>,
+) -> Option<Expr> {
     let left = boxed(alloc, left)?;
     let right = boxed(alloc, right)?;
     Some(Expr::Binary(operator, left, right))
@@ -195,7 +206,12 @@ fn both(alloc: Global, left: Option<Expr>, operator: Operator, right: Option<Exp
 /// expression is not there or not well typed.
 fn answer(alloc: Global, expr: Option<Expr>) -> Option<(Result<Value, Fault>, [bool; 3])> {
     let expr = expr?;
-    let locals = [int(7)?, int(-2)?, Value::Truth(true), Value::Variant { kind: 0, number: 1 }];
+    let locals = [
+        int(7)?,
+        int(-2)?,
+        Value::Truth(true),
+        Value::Variant { kind: 0, number: 1 },
+    ];
     kind_of(&expr, &locals)?;
     let mut noted = List::new(alloc);
     noted.push(false).ok()?;
@@ -221,12 +237,30 @@ fn computes_sums_quotients_and_comparisons(rt: HostRuntime) {
         (Operator::Times, int(-14)),
         (Operator::Divide, int(-3)),
         (Operator::Remainder, int(1)),
-        (Operator::Compare(Comparison::Equal), Some(Value::Truth(false))),
-        (Operator::Compare(Comparison::Unequal), Some(Value::Truth(true))),
-        (Operator::Compare(Comparison::Less), Some(Value::Truth(false))),
-        (Operator::Compare(Comparison::AtMost), Some(Value::Truth(false))),
-        (Operator::Compare(Comparison::More), Some(Value::Truth(true))),
-        (Operator::Compare(Comparison::AtLeast), Some(Value::Truth(true))),
+        (
+            Operator::Compare(Comparison::Equal),
+            Some(Value::Truth(false)),
+        ),
+        (
+            Operator::Compare(Comparison::Unequal),
+            Some(Value::Truth(true)),
+        ),
+        (
+            Operator::Compare(Comparison::Less),
+            Some(Value::Truth(false)),
+        ),
+        (
+            Operator::Compare(Comparison::AtMost),
+            Some(Value::Truth(false)),
+        ),
+        (
+            Operator::Compare(Comparison::More),
+            Some(Value::Truth(true)),
+        ),
+        (
+            Operator::Compare(Comparison::AtLeast),
+            Some(Value::Truth(true)),
+        ),
         (Operator::And, None),
         (Operator::Or, None),
     ];
@@ -244,13 +278,35 @@ fn gives_the_first_fault_and_notes_the_cells_that_were_read(rt: HostRuntime) {
     let flag = CellRead::Conflicted(2);
     let quotient = both(alloc, whole(1), Operator::Divide, whole(0));
     let sum = both(alloc, cell(counter), Operator::Plus, quotient);
-    assert_eq!(&rt; answer(alloc, sum), Some((Err(Fault::Divide), [true, false, false])));
+    assert_eq!(&rt;
+        answer(alloc, sum),
+        Some((Err(Fault::Divide), [true, false, false]))
+    );
     let sum = both(alloc, cell(volume), Operator::Plus, cell(counter));
-    assert_eq!(&rt; answer(alloc, sum), Some((Err(Fault::Range), [false, true, false])));
-    let test = both(alloc, cell(counter), Operator::Compare(Comparison::More), negate(alloc, whole(1)));
+    assert_eq!(&rt;
+        answer(alloc, sum),
+        Some((Err(Fault::Range), [false, true, false]))
+    );
+    let test = both(
+        alloc,
+        cell(counter),
+        Operator::Compare(Comparison::More),
+        negate(alloc, whole(1)),
+    );
     let both_tests = both(alloc, cell(flag), Operator::And, test);
-    assert_eq!(&rt; answer(alloc, both_tests), Some((Ok(Value::Truth(false)), [false, false, true])));
-    let test = both(alloc, cell(counter), Operator::Compare(Comparison::Less), whole(6));
+    assert_eq!(&rt;
+        answer(alloc, both_tests),
+        Some((Ok(Value::Truth(false)), [false, false, true]))
+    );
+    let test = both(
+        alloc,
+        cell(counter),
+        Operator::Compare(Comparison::Less),
+        whole(6),
+    );
     let either = both(alloc, not(alloc, truth(true)), Operator::Or, test);
-    assert_eq!(&rt; answer(alloc, either), Some((Ok(Value::Truth(true)), [true, false, false])));
+    assert_eq!(&rt;
+        answer(alloc, either),
+        Some((Ok(Value::Truth(true)), [true, false, false]))
+    );
 }
