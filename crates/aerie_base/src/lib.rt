@@ -2,12 +2,15 @@
 #![tactic(auto)]
 
 mod arguments;
+mod arithmetic;
 mod conditions;
 mod containers;
 mod durations;
+mod evaluation;
 mod expressions;
 mod faults;
 mod linear;
+mod looks;
 mod memory;
 mod models;
 mod names;
@@ -26,9 +29,11 @@ pub use arguments::{RawArgument, RawValue};
 pub use conditions::{Cond, Simple};
 pub use containers::{Boxed, List, Shared};
 pub use durations::{read_duration, write_duration};
+pub use evaluation::eval;
 pub use expressions::{Comparison, Expr, Operator};
 pub use faults::Fault;
 pub use linear::{Linear, Term};
+pub use looks::Look;
 pub use memory::OutOfMemory;
 pub use models::{Activity, CellStart, Daemon, EnumType, Model, Parameter, Resource};
 pub use names::Name;

@@ -13,7 +13,8 @@ use Rattle.aerie_base.specs.declared.conditions.Simple.TheVariants as simple
 use Rattle.aerie_base.specs.declared.conditions.Cond.{Cond, Literal, Flag, Same, Compare, Not, And, Or}
 use Rattle.aerie_base.specs.declared.conditions.Cond.TheOpen.{Cond-F}
 use Rattle.aerie_base.specs.conditions.Recursion.{cond_gives}
-use Rattle.aerie_base.specs.conditions.Holding.{number_in, truth_in, local_value}
+use Rattle.aerie_base.specs.conditions.Holding.{local_value}
+use Rattle.aerie_base.specs.expressions.Arithmetic.{number_in, truth_in}
 
 -- a literal for a local, a read as it is
 abbrev pub filled_operand : List Value → Operand → Simple

@@ -12,21 +12,11 @@ use Rattle.aerie_base.specs.declared.conditions.Simple.TheVariants as simple
 use Rattle.aerie_base.specs.declared.conditions.Cond.{Cond}
 use Rattle.aerie_base.specs.declared.conditions.Cond.TheOpen.{Cond-F}
 use Rattle.aerie_base.specs.conditions.Recursion.{cond_gives}
-use Rattle.aerie_base.specs.Comparisons.{same_value, compares}
+use Rattle.aerie_base.specs.expressions.Arithmetic.{number_in, truth_in, same_value, compares}
 
 -- what each read of a cell has; a number may be out of its range
 abbrev pub Readings : Type 0
 Readings = CellRead → Value
-
--- the number that a value is
-abbrev pub number_in : Value → ℤ
-number_in (Int number) = number
-number_in _ = pos 0
-
--- the truth that a value is
-abbrev pub truth_in : Value → Bool
-truth_in (Truth truth) = truth
-truth_in _ = false
 
 -- a local that is not set has 0
 abbrev pub local_value : List Value → ℕ → Value
@@ -61,7 +51,7 @@ holds_step (Cond-F.Same left right equal) readings locals =
     let same = same_value (side_value readings locals left) (side_value readings locals right) in
     if equal then same else not same
 holds_step (Cond-F.Compare left how right) readings locals =
-    compares how (linear_value readings locals left) (linear_value readings locals right)
+    compares how (Int (linear_value readings locals left)) (Int (linear_value readings locals right))
 holds_step (Cond-F.Not part) readings locals = not (part readings locals)
 holds_step (Cond-F.And left right) readings locals = left readings locals && right readings locals
 holds_step (Cond-F.Or left right) readings locals = left readings locals || right readings locals

@@ -28,10 +28,10 @@ is_rate number = nat_le (unsigned_abs number) rate_limit
 abbrev pub IsRate : ℤ → Type 0
 IsRate number = unsigned_abs number ≤ rate_limit
 
-abbrev rate_ranged : ℤ → Outcome
+abbrev pub rate_ranged : ℤ → Outcome
 rate_ranged number = if is_rate number then Ok (Int number) else Err Range
 
-abbrev on_number : (ℤ → Outcome) → Value → Outcome
+abbrev pub on_number : (ℤ → Outcome) → Value → Outcome
 on_number f (Int number) = f number
 on_number f (Truth truth) = Ok (Truth truth)
 on_number f (Variant of number) = Ok (Variant of number)
@@ -54,8 +54,8 @@ MayHave (Rate cell) of = of ≡ kind.Int
 
 -- each read that there is has a value of its type, and a type that such a read may have
 pub record AreReadings (kinds : CellRead → Option Kind) (values : CellRead → Value) : Type 0 where
-  of_kind : (read : CellRead) (of : Kind) → kinds read ≡ Some of → value_kind (values read) ≡ of
-  sorts : (read : CellRead) (of : Kind) → kinds read ≡ Some of → MayHave read of
+  pub of_kind : (read : CellRead) (of : Kind) → kinds read ≡ Some of → value_kind (values read) ≡ of
+  pub sorts : (read : CellRead) (of : Kind) → kinds read ≡ Some of → MayHave read of
 
 -- the flags by cell of what was read, and one cell more
 abbrev pub also : ℕ → List Bool → List Bool

@@ -2,11 +2,12 @@
 -- and of what its parts gave. `fold-Expr` is the same recursion, in the form in which a function's proof takes it; it
 -- does not compute.
 use Rattle.std.specs.Prelude.{◌≡◌}
-use Rattle.aerie_base.specs.declared.expressions.Expr.{Expr, Literal, Operand, Not', Negate', Binary', Row_of-Expr, end_of-Expr, more_of-Expr, fold-Expr, fold_out-Expr, out-Expr}
+use Rattle.aerie_base.specs.declared.expressions.Expr.{Expr, Literal, Operand, Not, Not', Negate, Negate', Binary, Binary', Row_of-Expr, end_of-Expr, more_of-Expr, fold-Expr, fold_out-Expr, out-Expr}
+use Rattle.aerie_base.specs.declared.expressions.Operator.{Operator}
 use Rattle.aerie_base.specs.declared.expressions.Expr.TheOpen.{Expr-F}
 use Rattle.aerie_base.specs.declared.expressions.Expr.TheBlock.{hidden-the_row-Expr-0, shape-the_row-Expr-0, shown-the_row-Expr-0}
 use denote.Hole.Carrier.{hidden, shown, out}
-use mathlib.Core.Path.{sym, ap, ◌∙◌}
+use mathlib.Core.Path.{refl, sym, ap, ◌∙◌}
 
 abbrev mutual
   -- what the layers of an expression give; the value in front is for a part that is not there, and never comes
@@ -22,6 +23,29 @@ abbrev mutual
   pub expr_row_gives : (A : Type 0) → A → (Expr-F A → A) → {m : _} → Row_of-Expr m → A
   expr_row_gives A none f end_of-Expr = none
   expr_row_gives A none f (more_of-Expr expr rest) = expr_gives A none f expr
+
+-- expressions of their parts, on which the recursion computes
+abbrev pub node_not : Expr → Expr
+node_not inner = Not' tt (more_of-Expr inner end_of-Expr)
+
+abbrev pub node_negate : Expr → Expr
+node_negate inner = Negate' tt (more_of-Expr inner end_of-Expr)
+
+abbrev pub node_binary : Operator → Expr → Expr → Expr
+node_binary operator left right = Binary' operator tt (more_of-Expr left end_of-Expr) tt (more_of-Expr right end_of-Expr)
+
+-- they are the type's own
+pub node_not_is : (inner : Expr) → node_not inner ≡ Not inner
+unfolding hidden-the_row-Expr-0 shape-the_row-Expr-0 hidden
+node_not_is inner = refl
+
+pub node_negate_is : (inner : Expr) → node_negate inner ≡ Negate inner
+unfolding hidden-the_row-Expr-0 shape-the_row-Expr-0 hidden
+node_negate_is inner = refl
+
+pub node_binary_is : (operator : Operator) (left right : Expr) → node_binary operator left right ≡ Binary operator left right
+unfolding hidden-the_row-Expr-0 shape-the_row-Expr-0 hidden
+node_binary_is operator left right = refl
 
 -- both recursions are one
 pub gives_fold : (A : Type 0) (none : A) (f : Expr-F A → A) (expr : Expr) → expr_gives A none f expr ≡ fold-Expr A f expr

@@ -1,11 +1,12 @@
 -- The type of an expression.
-use Rattle.std.specs.Prelude.{ℕ, Bool, true, false, ◌&&◌, nat_eq, List, Option, Some, None, option_map, slice_get}
+use Rattle.std.specs.Prelude.{◌≡◌, ℕ, Bool, true, false, ◌&&◌, nat_eq, List, Option, Some, None, option_map, slice_get}
 use Rattle.aerie_base.specs.expressions.Arithmetic.{value_kind}
-use Rattle.aerie_base.specs.expressions.Recursion.{expr_gives}
+use Rattle.aerie_base.specs.expressions.Recursion.{expr_gives, gives_fold}
 use Rattle.aerie_base.specs.declared.values.Kind.{Kind}
 use Rattle.aerie_base.specs.declared.values.Kind.TheVariants.{Int, Truth, Enum}
 use Rattle.aerie_base.specs.declared.values.Value.{Value}
 use Rattle.aerie_base.specs.declared.operands.CellRead.{CellRead}
+use Rattle.aerie_base.specs.declared.operands.Operand.{Operand}
 use Rattle.aerie_base.specs.declared.operands.Operand.TheVariants.{Read, Local}
 use Rattle.aerie_base.specs.declared.expressions.Comparison.{Comparison}
 use Rattle.aerie_base.specs.declared.expressions.Comparison.TheVariants as by
@@ -66,11 +67,14 @@ of_both operator (Some left) (Some right) = combined_kind operator left right
 abbrev pub Typing : Type 0
 Typing = (ℕ → Option Kind) → (CellRead → Option Kind) → Option Kind
 
+abbrev pub operand_kind : Operand → Typing
+operand_kind (Local slot) slots reads = slots slot
+operand_kind (Read read) slots reads = reads read
+
 -- the type of one layer by the types of its parts
 abbrev pub layer_kind : Expr-F Typing → Typing
 layer_kind (Expr-F.Literal value) slots reads = Some (value_kind value)
-layer_kind (Expr-F.Operand (Local slot)) slots reads = slots slot
-layer_kind (Expr-F.Operand (Read read)) slots reads = reads read
+layer_kind (Expr-F.Operand operand) slots reads = operand_kind operand slots reads
 layer_kind (Expr-F.Not inner) slots reads = keeps Truth (inner slots reads)
 layer_kind (Expr-F.Negate inner) slots reads = keeps Int (inner slots reads)
 layer_kind (Expr-F.Binary operator left right) slots reads = of_both operator (left slots reads) (right slots reads)
@@ -90,3 +94,8 @@ kind_of = expr_gives Typing no_kind layer_kind
 -- the types of the slots that hold these values
 abbrev pub slot_kinds : List Value → ℕ → Option Kind
 slot_kinds locals slot = option_map value_kind (slice_get locals slot)
+
+-- both are one
+pub kind_is : (expr : Expr) → kind_of expr ≡ kind_by_fold expr
+unfolding kind_of
+kind_is expr = gives_fold Typing no_kind layer_kind expr
