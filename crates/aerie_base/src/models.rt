@@ -4,8 +4,6 @@ ghost use Rattle.std.specs.Prelude.{◌≡◌, ◌↔◌, IsTrue, IfOk};
 
 mod model;
 
-pub use model::Model;
-
 use crate::containers::List;
 use crate::expressions::Expr;
 use crate::linear::Linear;
@@ -16,6 +14,7 @@ use crate::operands::CellRead;
 use crate::plain_data::{copy_list, same_list};
 use crate::statements::{Stmt, copy_block, same_block};
 use crate::values::{Kind, Value};
+pub use model::Model;
 use std::alloc::Global;
 
 /// An enumeration.

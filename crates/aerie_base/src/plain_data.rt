@@ -6,7 +6,7 @@ use crate::containers::List;
 use crate::expressions::Expr;
 use crate::linear::Term;
 use crate::memory::OutOfMemory;
-use crate::models::Parameter;
+use crate::models::{Activity, CellStart, Daemon, EnumType, Parameter, Resource};
 use crate::names::Name;
 use crate::plans::Directive;
 use crate::values::Value;
@@ -116,6 +116,67 @@ impl PlainData for Directive {
 
     fn equals(&self, other: &Directive) -> bool {
         self.is_same(other)
+    }
+}
+
+impl PlainData for EnumType {
+    fn copied(&self, alloc: Global) -> Result<EnumType, OutOfMemory> {
+        self.copy(alloc)
+    }
+
+    fn equals(&self, other: &EnumType) -> bool {
+        self.is_same(other)
+    }
+}
+
+impl PlainData for Resource {
+    fn copied(&self, alloc: Global) -> Result<Resource, OutOfMemory> {
+        self.copy(alloc)
+    }
+
+    fn equals(&self, other: &Resource) -> bool {
+        self.is_same(other)
+    }
+}
+
+impl PlainData for Activity {
+    fn copied(&self, alloc: Global) -> Result<Activity, OutOfMemory> {
+        self.copy(alloc)
+    }
+
+    fn equals(&self, other: &Activity) -> bool {
+        self.is_same(other)
+    }
+}
+
+impl PlainData for Daemon {
+    fn copied(&self, alloc: Global) -> Result<Daemon, OutOfMemory> {
+        self.copy(alloc)
+    }
+
+    fn equals(&self, other: &Daemon) -> bool {
+        self.is_same(other)
+    }
+}
+
+impl PlainData for CellStart {
+    fn copied(&self, _alloc: Global) -> Result<CellStart, OutOfMemory> {
+        Ok(*self)
+    }
+
+    fn equals(&self, other: &CellStart) -> bool {
+        self == other
+    }
+}
+
+impl<A: PlainData + Drop, B: PlainData + Drop> PlainData for (A, B) {
+    fn copied(&self, alloc: Global) -> Result<(A, B), OutOfMemory> {
+        let first = self.0.copied(alloc)?;
+        Ok((first, self.1.copied(alloc)?))
+    }
+
+    fn equals(&self, other: &(A, B)) -> bool {
+        self.0.equals(&other.0) && self.1.equals(&other.1)
     }
 }
 

@@ -1,4 +1,4 @@
-use super::{copy_list, same_list, same_values};
+use super::{PlainData, copy_list, same_list, same_values};
 use crate::arguments::{RawArgument, RawValue};
 use crate::conditions::{Cond, Simple};
 use crate::containers::{Boxed, List};
@@ -247,15 +247,14 @@ fn copies_parts(alloc: Global, name: &Name) -> Result<bool, OutOfMemory> {
     )
 }
 
-/// Whether a copy of each is the same, and the two are not.
-fn tells_resources_apart(
-    alloc: Global,
-    one: &Resource,
-    other: &Resource,
-) -> Result<bool, OutOfMemory> {
-    let copy = one.copy(alloc)?;
-    let other_copy = other.copy(alloc)?;
-    Ok(copy.is_same(one) && other_copy.is_same(other) && !copy.is_same(other))
+/// Two resources of one name.
+fn resources(alloc: Global, name: &Name) -> Result<List<(Name, Resource)>, OutOfMemory> {
+    let mut list = List::new(alloc);
+    let read = Resource::Discrete(CellRead::Conflicted(1));
+    list.push((name.copy()?, read))?;
+    let sum = Resource::Linear(linear(alloc, 7)?);
+    list.push((name.copy()?, sum))?;
+    Ok(list)
 }
 
 #[test]
@@ -271,11 +270,19 @@ fn copies_and_compares_parts_of_a_model(rt: HostRuntime) {
 }
 
 #[test]
-fn copies_and_compares_resources(rt: HostRuntime) {
+fn copies_and_compares_named_resources(rt: HostRuntime) {
     let alloc = rt.alloc();
-    let read = Resource::Discrete(CellRead::Conflicted(1));
-    let sum = Resource::Linear(linear(alloc, 7).expect(&rt, "memory"));
-    assert_eq!(&rt; tells_resources_apart(alloc, &read, &sum), Ok(true));
+    let name = Name::new(alloc, "power")
+        .expect(&rt, "memory")
+        .expect(&rt, "a name");
+    let list = resources(alloc, &name).expect(&rt, "memory");
+    let copies = copy_list(alloc, &list).expect(&rt, "memory");
+    assert!(&rt; same_list(list.as_slice(), copies.as_slice()));
+    let differ = match copies.as_slice() {
+        [read, sum] => !read.equals(sum),
+        _ => false,
+    };
+    assert!(&rt; differ);
 }
 
 /// A directive with this anchor.
@@ -316,6 +323,7 @@ fn copies_and_compares_plans(rt: HostRuntime) {
     };
     let copy = plan.copy(alloc).expect(&rt, "memory");
     assert!(&rt; copy.is_same(&plan));
+    assert_eq!(&rt; copy.directives.len(), 2);
     if let [free, anchored] = copy.directives.as_slice() {
         assert!(&rt; !free.is_same(anchored));
         assert!(&rt; same_values(free.arguments.as_slice(), anchored.arguments.as_slice()));
