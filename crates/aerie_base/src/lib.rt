@@ -41,7 +41,7 @@ pub use numbers::{Number, Time};
 pub use operands::{CellRead, Operand};
 pub use paths::Path;
 pub use places::Place;
-pub use plain_data::same_values;
+pub use plain_data::{PlainData, copy_list, same_list, same_values};
 pub use plans::{Anchor, Directive, Edge, Plan, When};
 pub use statements::{Emission, Stmt};
 pub use steps::Steps;

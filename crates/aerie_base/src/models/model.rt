@@ -1,9 +1,12 @@
-ghost use Rattle.std.specs.Prelude.{◌≡◌, IsTrue};
+ghost use Rattle.std.specs.Prelude.{◌≡◌, ◌↔◌, IsTrue, IfOk};
 ghost use Rattle.aerie_base.specs.models.ValidModel.{valid_model};
 
 use super::{Activity, CellStart, Daemon, EnumType, Resource};
 use crate::containers::List;
+use crate::memory::OutOfMemory;
 use crate::names::Name;
+use crate::plain_data::{copy_list, same_list};
+use std::alloc::Global;
 
 /// The parts of a model.
 #[derive(Debug, Drop)]
@@ -113,5 +116,52 @@ impl Model {
         ensures valid { IsTrue (valid_model self.now) }
     {
         self.parts.daemons.as_slice()
+    }
+
+    /// An equal model.
+    pub fn copy(&self, alloc: Global) -> Result<Model, OutOfMemory>
+        ensures { IfOk result (λ copy. copy ≡ self.now) }
+    {
+        let parts = self.parts.copy(alloc)?;
+        Ok(Model { parts })
+    }
+
+    /// Whether the two are the same model, at a cost linear in its size.
+    pub fn is_same(&self, other: &Model) -> bool
+        ensures { IsTrue result ↔ (self.now ≡ other.now) }
+    {
+        self.parts.is_same(&other.parts)
+    }
+}
+
+impl Parts {
+    fn copy(&self, alloc: Global) -> Result<Parts, OutOfMemory>
+        ensures { IfOk result (λ copy. copy ≡ self.now) }
+    {
+        let name = self.name.copy()?;
+        let enums = copy_list(alloc, &self.enums)?;
+        let cells = copy_list(alloc, &self.cells)?;
+        let resources = copy_list(alloc, &self.resources)?;
+        let activities = copy_list(alloc, &self.activities)?;
+        let daemons = copy_list(alloc, &self.daemons)?;
+        Ok(Parts {
+            name,
+            enums,
+            cells,
+            resources,
+            activities,
+            daemons,
+        })
+    }
+
+    fn is_same(&self, other: &Parts) -> bool
+        ensures { IsTrue result ↔ (self.now ≡ other.now) }
+    {
+        self.name.is_same(&other.name)
+            && same_list(self.enums.as_slice(), other.enums.as_slice())
+            && same_list(self.cells.as_slice(), other.cells.as_slice())
+            && same_list(self.resources.as_slice(), other.resources.as_slice())
+            && same_list(self.activities.as_slice(), other.activities.as_slice())
+            && same_list(self.daemons.as_slice(), other.daemons.as_slice())
     }
 }
