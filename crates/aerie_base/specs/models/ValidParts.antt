@@ -1,5 +1,5 @@
 -- What is known of each part of a valid model.
-use Rattle.std.proofs.Common.{◌&&◌, Bool, IsTrue, arith}
+use Rattle.std.proofs.Common.{◌≡◌, refl, [], ◌&&◌, Bool, IsTrue, arith}
 use Rattle.aerie_base.specs.declared.models.model.Parts.{Parts}
 use Rattle.aerie_base.specs.models.ValidModel.{valid_model, has_good_names, has_good_enums, has_good_cells, has_good_resources, has_good_activities, has_good_daemons}
 
@@ -29,3 +29,8 @@ unfolding valid_model
 are_good model valid =
     let all : Six _ _ _ _ _ _ = six _ _ _ _ _ _ valid in
     record { names = all.first; enums = all.second; cells = all.third; resources = all.fourth; activities = all.fifth; daemons = all.sixth }
+
+-- a model of no parts but a name is valid
+pub nothing_is_valid : (model : Parts) → model.enums ≡ [] → model.cells ≡ [] → model.resources ≡ [] → model.activities ≡ [] → model.daemons ≡ [] → IsTrue (valid_model model)
+unfolding valid_model has_good_names has_good_enums has_good_cells has_good_resources has_good_activities has_good_daemons
+nothing_is_valid model e c r a d = rw (e, c, r, a, d) refl

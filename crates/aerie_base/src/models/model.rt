@@ -165,3 +165,44 @@ impl Parts {
             && same_list(self.daemons.as_slice(), other.daemons.as_slice())
     }
 }
+
+#[cfg(test)]
+mod tests {
+    use super::*;
+
+    /// A model of no parts but a name.
+    fn empty(alloc: Global, name: Name) -> Model {
+        Model::new(
+            name,
+            Vec::new(alloc),
+            Vec::new(alloc),
+            Vec::new(alloc),
+            Vec::new(alloc),
+            Vec::new(alloc),
+        )
+    }
+
+    fn named(alloc: Global, text: &str) -> Result<Option<Model>, OutOfMemory> {
+        match Name::new(alloc, text)? {
+            Some(name) => Ok(Some(empty(alloc, name))),
+            None => Ok(None),
+        }
+    }
+
+    #[test]
+    fn copies_and_compares_models(rt: HostRuntime) {
+        let alloc = rt.alloc();
+        let model = named(alloc, "mission")
+            .expect(&rt, "memory")
+            .expect(&rt, "a name");
+        let other = named(alloc, "orbiter")
+            .expect(&rt, "memory")
+            .expect(&rt, "a name");
+        let copy = model.copy(alloc).expect(&rt, "memory");
+        assert!(&rt; model.is_same(&copy));
+        assert!(&rt; !model.is_same(&other));
+        assert_eq!(&rt; copy.name().as_str(), "mission");
+        assert_eq!(&rt; copy.enums().len() + copy.cells().len() + copy.resources().len(), 0);
+        assert_eq!(&rt; copy.activities().len() + copy.daemons().len(), 0);
+    }
+}
