@@ -1,0 +1,4 @@
+pub mod Digits
+pub mod Instants
+pub mod Years
+pub mod Texts
