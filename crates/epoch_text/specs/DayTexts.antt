@@ -1,5 +1,5 @@
 -- The text of an instant by the place of its day in the year, as "2028-366T23:59:59.999999".
-use Rattle.std.specs.Prelude.{◌≡◌, ℕ, zero, suc, ◌+◌, ◌-◌, ◌/◌, ◌%◌, nat_lt, List, ◌++◌, if◌then◌else◌, codes, ℤ, pos, unsigned_abs, ◌+ℤ◌, refl}
+use Rattle.std.specs.Prelude.{◌≡◌, ℕ, zero, suc, ◌+◌, ◌-◌, ◌/◌, ◌%◌, nat_lt, List, ◌++◌, if◌then◌else◌, codes, ℤ, pos, neg_ℤ, unsigned_abs, ◌+ℤ◌, refl}
 use Rattle.std.specs.Fmt.{digits}
 use Rattle.jiff.specs.Words.{days_in_year, ordinal}
 use Rattle.jiff_core.specs.declared.civil.datetime.DateTime.{DateTime}
@@ -48,3 +48,27 @@ day_text_of start time = text_since_1900 (since_1900 (start +ℤ pos time))
 pub last_of_a_leap_year : day_text_of (pos 1_861_919_999_999_999) 0 ≡ codes "2028-366T23:59:59.999999"
 unfolding day_in_year digits
 last_of_a_leap_year = refl
+
+pub next_microsecond : day_text_of (pos 1_861_919_999_999_999) 1 ≡ codes "2029-001T00:00:00.000000"
+unfolding day_in_year digits
+next_microsecond = refl
+
+pub half_a_second_before_the_epoch : day_text_of (neg_ℤ (pos 500_000)) 0 ≡ codes "1969-365T23:59:59.500000"
+unfolding day_in_year digits
+half_a_second_before_the_epoch = refl
+
+pub day_after_no_leap_day : day_text_of (pos 4_107_542_400_000_000) 0 ≡ codes "2100-060T00:00:00.000000"
+unfolding day_in_year digits
+day_after_no_leap_day = refl
+
+pub first_of_all : day_text_of (neg_ℤ (pos 2_208_988_800_000_000)) 0 ≡ codes "1900-001T00:00:00.000000"
+unfolding day_in_year digits
+first_of_all = refl
+
+pub last_of_all : day_text_of (pos 221_876_927_999_999_999) 0 ≡ codes "9000-365T23:59:59.999999"
+unfolding day_in_year digits
+last_of_all = refl
+
+pub last_time_of_all : day_text_of (pos 221_876_927_999_999_999) 1_000_000_000_000_000 ≡ codes "9032-253T01:46:39.999999"
+unfolding day_in_year digits
+last_time_of_all = refl
