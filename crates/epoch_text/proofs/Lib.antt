@@ -1,4 +1,5 @@
 pub mod Digits
 pub mod Instants
-pub mod Years
+pub mod ReadBack
 pub mod Texts
+pub mod Years

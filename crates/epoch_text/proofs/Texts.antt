@@ -10,7 +10,7 @@ use Rattle.epoch_text.specs.DayTexts.{shown_text, since_1900, text_since_1900}
 use Rattle.epoch_text.specs.Ranges.{IsShown}
 use Rattle.epoch_text.proofs.Years.{since_1900_is, year_of_shown}
 
-not_negative : (z : ℤ) → pos 0 ≤ℤ z → pos (unsigned_abs z) ≡ z
+pub not_negative : (z : ℤ) → pos 0 ≤ℤ z → pos (unsigned_abs z) ≡ z
 not_negative (pos n) h = refl
 not_negative (negsuc n) h = absurd (omega (arith, signed_arith))
 

@@ -24,6 +24,14 @@ pub day_after : days_from_civil (pos 9001) 1 1 ≡ pos 2_568_020
 unfolding days_from_civil day_count days_of_years days_of_months
 day_after = refl
 
+pub last_day : days_from_civil (pos 9000) 12 31 ≡ pos 2_568_019
+unfolding days_from_civil day_count days_of_years days_of_months
+last_day = refl
+
+pub far_day : days_from_civil (pos 9100) 1 1 ≡ pos 2_604_179
+unfolding days_from_civil day_count days_of_years days_of_months
+far_day = refl
+
 long_after : days_from_civil (pos 9099) 12 31 ≡ pos 2_604_178
 unfolding days_from_civil day_count days_of_years days_of_months
 long_after = refl
@@ -111,7 +119,7 @@ year_of_shown date low high = (
 )
 
 -- the day after so many whole years
-next_year : (year : ℕ) → days_from_civil (pos (year + 1)) 1 1 ≡ days_from_civil (pos year) 1 1 +ℤ pos (days_in_year (pos year))
+pub next_year : (year : ℕ) → days_from_civil (pos (year + 1)) 1 1 ≡ days_from_civil (pos year) 1 1 +ℤ pos (days_in_year (pos year))
 next_year year =
     omega (
       arith,
