@@ -283,6 +283,7 @@ same_instant : (year place micros : ℕ) (instant : ℤ) → pos micros ≡ inst
     ≡ instant
 same_instant year place micros instant e d = omega (arith, signed_arith, first_day)
 
+-- so no two instants of a start's years have one text, and each text is the right one
 pub read_back : (start : ℤ) (time : ℕ) → IsStart (start +ℤ pos time) → start_of (day_text_of start time) ≡ Some (start +ℤ pos time)
 read_back start time range =
     let instant : ℤ = start +ℤ pos time in
