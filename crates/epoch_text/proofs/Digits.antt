@@ -1,0 +1,136 @@
+-- Digits of a text of fixed form, and the number that they write.
+use Rattle.std.proofs.Common.{◌≡◌, ℕ, zero, suc, ◌+◌, ◌-◌, ◌*◌, ◌^◌, ◌<◌, ◌≤◌, List, [], ◌∷◌, ◌++◌, length, take, drop, get_or, Bool, true, false, nat_eq, Option, None, Some, codes, refl, ◌∙◌, ap, arith, length-drop, length-take}
+use Rattle.std.specs.Char.{is_ascii_digit, digit_value}
+use Rattle.std.specs.List.{list_all}
+use Rattle.std.specs.Str.Parse.{digits_value, AllDigits}
+use Rattle.std.proofs.lemmas.Bool.Decides.{nat_tests}
+use Rattle.std.proofs.lemmas.List.Folds.{list_all_at, list_all-append}
+use Rattle.std.proofs.lemmas.Int.Digits.{digits_value_more, digits_value-lt}
+use Rattle.std.proofs.lemmas.Str.Parse.{digits_value-take-le}
+use Rattle.epoch_text.specs.Clocks.{are_fraction_digits, fraction_of, micros_of, seconds_of, without_zone}
+use Rattle.epoch_text.specs.Forms.{fits, has_form, sign_of}
+
+-- the value of one digit
+digit_value_is : (byte : ℕ) → is_ascii_digit byte ≡ true → digit_value byte ≡ byte - 48
+digit_value_is byte e = grind (arith, nat_tests)
+
+digit_value_small : (byte : ℕ) → is_ascii_digit byte ≡ true → digit_value byte < 10
+digit_value_small byte e = grind (arith, nat_tests)
+
+-- each of the digits is one
+digit_at : (digits : List ℕ) (i : ℕ) → list_all is_ascii_digit digits ≡ true → i < length digits → is_ascii_digit (get_or digits i 0) ≡ true
+digit_at digits i all within = go (is_ascii_digit (get_or digits i 0)) refl
+  where
+    go : (v : Bool) → is_ascii_digit (get_or digits i 0) ≡ v → is_ascii_digit (get_or digits i 0) ≡ true
+    go true e = e
+    go false e = let none : list_all is_ascii_digit digits ≡ false = list_all_at is_ascii_digit digits i 0 within e in cc
+
+-- one more digit is ten times the number and that digit
+pub value_more : (digits : List ℕ) (i : ℕ) → list_all is_ascii_digit digits ≡ true → i < length digits →
+    digits_value 10 (take (i + 1) digits) ≡ digits_value 10 (take i digits) * 10 + (get_or digits i 0 - 48)
+value_more digits i all within =
+    digits_value_more 10 digits i within
+    ∙ ap (λ n. digits_value 10 (take i digits) * 10 + n) (digit_value_is (get_or digits i 0) (digit_at digits i all within))
+
+all_digits : (digits : List ℕ) → list_all is_ascii_digit digits ≡ true → AllDigits 10 digits
+all_digits [] e = tt
+all_digits (byte ∷ digits) e =
+    let here : is_ascii_digit byte ≡ true = grind (arith, nat_tests) in
+    let behind : list_all is_ascii_digit digits ≡ true = grind (arith, nat_tests) in
+    (digit_value_small byte here, all_digits digits behind)
+
+-- so many digits write a number below that power of ten
+pub value_bound : (digits : List ℕ) → list_all is_ascii_digit digits ≡ true → digits_value 10 digits < 10 ^ length digits
+value_bound digits e = digits_value-lt 10 digits (all_digits digits e)
+
+power_small : (n : ℕ) → n ≤ 6 → 10 ^ n ≤ 1_000_000
+power_small zero h = omega arith
+power_small (suc zero) h = omega arith
+power_small (suc (suc zero)) h = omega arith
+power_small (suc (suc (suc zero))) h = omega arith
+power_small (suc (suc (suc (suc zero)))) h = omega arith
+power_small (suc (suc (suc (suc (suc zero))))) h = omega arith
+power_small (suc (suc (suc (suc (suc (suc zero)))))) h = omega arith
+power_small (suc (suc (suc (suc (suc (suc (suc n))))))) h = absurd (omega arith)
+
+-- the first of up to six digits write a number below a million
+pub value_small : (digits : List ℕ) (i : ℕ) → list_all is_ascii_digit digits ≡ true → length digits ≤ 6 → digits_value 10 (take i digits) < 1_000_000
+value_small digits i all few =
+    omega (arith, digits_value-take-le 10 digits i (omega arith), value_bound digits all, power_small (length digits) few)
+
+-- a byte is a digit where the form has 0
+sign_is : (byte sign : ℕ) → nat_eq (sign_of byte) sign ≡ true → is_ascii_digit byte ≡ nat_eq sign 48
+sign_is byte sign e = grind (arith, nat_tests)
+
+fits_take : (n : ℕ) (text form : List ℕ) → length text ≡ length form → fits text form ≡ true →
+    list_all is_ascii_digit (take n text) ≡ list_all (λ sign. nat_eq sign 48) (take n form)
+fits_take zero text form same e = refl
+fits_take (suc n) [] [] same e = refl
+fits_take (suc n) [] (sign ∷ form) same e = absurd (omega arith)
+fits_take (suc n) (byte ∷ text) [] same e = absurd (omega arith)
+fits_take (suc n) (byte ∷ text) (sign ∷ form) same e =
+    let here : nat_eq (sign_of byte) sign ≡ true = grind (arith, nat_tests) in
+    let behind : fits text form ≡ true = grind (arith, nat_tests) in
+    let first = sign_is byte sign here in
+    let rest = fits_take n text form (omega arith) behind in
+    rw (first, rest) refl
+
+fits_nothing : (text : List ℕ) → fits text [] ≡ true
+fits_nothing [] = refl
+fits_nothing (byte ∷ text) = refl
+
+fits_drop : (i : ℕ) (text form : List ℕ) → fits text form ≡ true → fits (drop i text) (drop i form) ≡ true
+fits_drop zero text form e = e
+fits_drop (suc i) [] form e = refl
+fits_drop (suc i) (byte ∷ text) [] e = fits_nothing (drop i text)
+fits_drop (suc i) (byte ∷ text) (sign ∷ form) e = let behind : fits text form ≡ true = grind (arith, nat_tests) in fits_drop i text form behind
+
+form_fits : (text form : List ℕ) → has_form text form ≡ true → fits text form ≡ true
+form_fits text form e = grind (arith, nat_tests)
+
+-- a text of a form is as long as that
+pub form_length : (text form : List ℕ) → has_form text form ≡ true → length text ≡ length form
+form_length text form e = grind (arith, nat_tests)
+
+-- where the form has zeros, the text has digits
+pub form_digits : (text form : List ℕ) (i n : ℕ) → has_form text form ≡ true →
+    list_all is_ascii_digit (take n (drop i text)) ≡ list_all (λ sign. nat_eq sign 48) (take n (drop i form))
+form_digits text form i n e =
+    let same = form_length text form e in
+    let parts : length (drop i text) ≡ length (drop i form) = omega (arith, length-drop i text, length-drop i form) in
+    fits_take n (drop i text) (drop i form) parts (fits_drop i text form (form_fits text form e))
+
+zeros_behind : (n : ℕ) → list_all is_ascii_digit (drop n (codes "000000")) ≡ true
+zeros_behind zero = refl
+zeros_behind (suc zero) = refl
+zeros_behind (suc (suc zero)) = refl
+zeros_behind (suc (suc (suc zero))) = refl
+zeros_behind (suc (suc (suc (suc zero)))) = refl
+zeros_behind (suc (suc (suc (suc (suc zero))))) = refl
+zeros_behind (suc (suc (suc (suc (suc (suc n)))))) = none n
+  where
+    none : (n : ℕ) → list_all is_ascii_digit (drop {A = ℕ} n []) ≡ true
+    none zero = refl
+    none (suc n) = refl
+
+-- the digits of a fraction, with zeros behind, are digits
+pub filled_digits : (digits : List ℕ) → are_fraction_digits digits ≡ true → list_all is_ascii_digit (digits ++ drop (length digits) (codes "000000")) ≡ true
+filled_digits digits e =
+    let front : list_all is_ascii_digit digits ≡ true = grind (arith, nat_tests) in
+    list_all-append is_ascii_digit digits (drop (length digits) (codes "000000")) ∙ rw (front, zeros_behind (length digits)) refl
+
+-- less than a time of day says none
+short_form : (text form : List ℕ) → length text < length form → has_form text form ≡ false
+short_form text form h = grind (arith, nat_tests)
+
+none_without_seconds : (clock : List ℕ) → seconds_of (take 8 clock) ≡ None → micros_of clock ≡ None
+none_without_seconds clock e = go (fraction_of (without_zone (drop 8 clock))) refl
+  where
+    go : (fraction : Option ℕ) → fraction_of (without_zone (drop 8 clock)) ≡ fraction → micros_of clock ≡ None
+    go None f = rw f refl
+    go (Some micros) f = rw (f, e) refl
+
+pub too_short : (clock : List ℕ) → length clock < 8 → micros_of clock ≡ None
+too_short clock h =
+    let front : length (take 8 clock) < 8 = omega (arith, length-take 8 clock) in
+    none_without_seconds clock (rw (short_form (take 8 clock) (codes "00:00:00") front) refl)

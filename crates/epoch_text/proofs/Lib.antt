@@ -1,0 +1,5 @@
+pub mod Digits
+pub mod Instants
+pub mod ReadBack
+pub mod Texts
+pub mod Years
