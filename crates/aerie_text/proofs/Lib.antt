@@ -1,0 +1,4 @@
+pub mod Beginnings
+pub mod Figures
+pub mod Reading
+pub mod Units

@@ -1,0 +1,31 @@
+-- JSON that answers are made of, as the data that it says.
+use Rattle.std.specs.Prelude.{◌≡◌, ℕ, ◌∷◌, [], ◌++◌, List, String, codes, map, string_bytes, refl}
+use Rattle.std.specs.declared.alloc.Global.{Global}
+use Rattle.serde_json.specs.Data.{Data, Members, member, no_members, put, string, object, null}
+use Rattle.serde_json.specs.View.{view}
+use Rattle.serde_json.specs.Written.{compact_text}
+use Rattle.serde_json.specs.declared.value.Value.{Value}
+
+-- the members of an object into which these are put one after another: those of one name follow one another, so the
+-- last stays
+abbrev pub with_fields : Members → List (List ℕ × Data) → Members
+with_fields members [] = members
+with_fields members (field ∷ later) = with_fields (put field.0 field.1 members) later
+
+-- the object of these fields
+abbrev pub object_of : List (List ℕ × Data) → Data
+object_of fields = object (with_fields no_members fields)
+
+-- a field as the bytes of its name and the data that it holds
+abbrev pub field_data : String Global × Value → List ℕ × Data
+field_data field = (string_bytes field.0, view field.1)
+
+-- a line of output: the compact text of the data, and a line feed
+abbrev pub line_of : Data → List ℕ
+line_of data_ = compact_text data_ ++ 10 ∷ []
+
+-- ---- worked cases
+
+-- the keys stand in the order of their bytes, and the last value of a key stays
+pub in_order : line_of (object_of ((codes "b", null) ∷ (codes "a", null) ∷ (codes "b", string (codes "x")) ∷ [])) ≡ codes "{\"a\":null,\"b\":\"x\"}\n"
+in_order = refl

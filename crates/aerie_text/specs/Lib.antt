@@ -1,0 +1,9 @@
+pub mod Bytes
+pub mod Gaps
+pub mod Json
+pub mod Numerals
+pub mod Places
+pub mod Quotes
+pub mod Symbols
+pub mod TokenAt
+pub mod Tokens
