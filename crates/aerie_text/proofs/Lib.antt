@@ -1,4 +1,5 @@
 pub mod Beginnings
+pub mod Columns
 pub mod Figures
 pub mod Reading
 pub mod Units

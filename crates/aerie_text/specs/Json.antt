@@ -1,7 +1,7 @@
 -- JSON that answers are made of, as the data that it says.
-use Rattle.std.specs.Prelude.{◌≡◌, ℕ, ◌∷◌, [], ◌++◌, List, String, codes, map, string_bytes, refl}
+use Rattle.std.specs.Prelude.{ℕ, ◌∷◌, [], ◌++◌, List, String, string_bytes}
 use Rattle.std.specs.declared.alloc.Global.{Global}
-use Rattle.serde_json.specs.Data.{Data, Members, member, no_members, put, string, object, null}
+use Rattle.serde_json.specs.Data.{Data, Members, no_members, put, object}
 use Rattle.serde_json.specs.View.{view}
 use Rattle.serde_json.specs.Written.{compact_text}
 use Rattle.serde_json.specs.declared.value.Value.{Value}
@@ -23,9 +23,3 @@ field_data field = (string_bytes field.0, view field.1)
 -- a line of output: the compact text of the data, and a line feed
 abbrev pub line_of : Data → List ℕ
 line_of data_ = compact_text data_ ++ 10 ∷ []
-
--- ---- worked cases
-
--- the keys stand in the order of their bytes, and the last value of a key stays
-pub in_order : line_of (object_of ((codes "b", null) ∷ (codes "a", null) ∷ (codes "b", string (codes "x")) ∷ [])) ≡ codes "{\"a\":null,\"b\":\"x\"}\n"
-in_order = refl

@@ -34,6 +34,9 @@ fn column_of(text: &str) -> u32
     requires { length text.now < 4_294_967_295 }
     ensures { result ≡ column_of (chars text.now) }
 {
-    let count = text.chars().rev().take_while(|c| *c != '\n').count();
-    count as u32 + 1
+    let mut column = 1;
+    for c in text.chars() {
+        column = if c == '\n' { 1 } else { column + 1 };
+    }
+    column
 }
