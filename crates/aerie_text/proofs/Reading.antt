@@ -1,6 +1,6 @@
 -- What is read from a place on, in the steps of the scanner.
 use Rattle.std.proofs.Common.{◌≡◌, ℕ, zero, suc, ◌+◌, ◌-◌, ◌<◌, ◌≤◌, ◌∙◌, List, [], ◌∷◌, ◌++◌, length, take, drop, Option, Some, None, Result, Ok, Err, refl, ap, subst, sym, arith, append_assoc, append-nil}
-use Rattle.std.specs.Prelude.{IsErr, IsErrAnd, MatchResult}
+use Rattle.std.specs.Prelude.{IfOk, IsErr, IsErrAnd, MatchResult}
 use Rattle.std.proofs.lemmas.List.{drop-drop, drop_all, length-drop}
 use Rattle.aerie_text.specs.Gaps.{gap_len}
 use Rattle.aerie_text.specs.TokenAt.{token_at}
@@ -125,3 +125,11 @@ bad_read tokens text at e total lt g bad so_far place named =
 pub err_case : {T E : Type 0} (r : Result T E) (P : T → Type 0) (Q R : E → Type 0) → IsErr r → IsErrAnd r R → ((e : E) → R e → Q e) → MatchResult r P Q
 err_case (Ok x) P Q R is and leads = absurd (cc)
 err_case (Err e) P Q R is and leads = leads e and
+
+pub ok_case : {T E : Type 0} (r : Result T E) (P S : T → Type 0) (Q : E → Type 0) → MatchResult r P Q → ((x : T) → P x → S x) → IfOk r S
+ok_case (Ok x) P S Q cases leads = leads x cases
+ok_case (Err e) P S Q cases leads = tt
+
+pub bad_case : {T : Type 0} (r : Result T TextError) (P : T → Type 0) (S : ℕ → Type 0) → MatchResult r P (λ e. (at : ℕ) → e ≡ BadToken at → S at) → (at : ℕ) → r ≡ Err (BadToken at) → S at
+bad_case (Ok x) P S cases at e = absurd (cc)
+bad_case (Err bad) P S cases at e = cases at (cc)

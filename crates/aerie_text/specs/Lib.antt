@@ -1,4 +1,5 @@
 pub mod Bytes
+pub mod Cut
 pub mod Gaps
 pub mod Json
 pub mod Numerals

@@ -1,6 +1,8 @@
 //! A text cut into tokens.
 
-ghost use Rattle.std.specs.Prelude.{◌≡◌, ◌≤◌, ◌<◌, ℕ, Ok, Err, MatchResult, IfOk, length, drop};
+ghost use Rattle.std.specs.Prelude.{◌≡◌, ◌≤◌, ◌<◌, ℕ, Ok, Err, MatchResult, IfOk, All, length, drop};
+ghost use Rattle.std.specs.Str.{IsCharBoundary};
+ghost use Rattle.aerie_text.specs.Cut.{AreTokens, IsAtEdges, IsFirstBad};
 ghost use Rattle.aerie_text.specs.Tokens.{found_at, tokens_of};
 ghost use Rattle.aerie_text.specs.TokenAt.{token_at};
 ghost use Rattle.aerie_text.specs.declared.text_error.TextError.TheVariants.{BadToken};
@@ -15,6 +17,18 @@ use std::alloc::Global;
 /// The tokens of a text, in order. `BadToken` names the first place where no token begins, which is behind the white
 /// space and the comments that follow the last token. It goes over the text once, and no text is copied.
 pub fn tokens(alloc: Global, text: &str) -> Result<List<Token>, TextError>
+    ensures exact { IfOk result (λ tokens. tokens_of text.now ≡ Ok tokens) }
+    ensures cut { IfOk result (λ tokens. AreTokens text.now 0 tokens (length text.now)) }
+    ensures edges { IfOk result (λ tokens. All (IsAtEdges text.now) tokens) }
+    ensures refused { (at : ℕ) → result ≡ Err (BadToken at) → tokens_of text.now ≡ Err at }
+    ensures first { (at : ℕ) → result ≡ Err (BadToken at) → IsFirstBad text.now at }
+    ensures edge { (at : ℕ) → result ≡ Err (BadToken at) → IsCharBoundary text.now at }
+{
+    scan(alloc, text)
+}
+
+/// The tokens of a text, read one after another.
+fn scan(alloc: Global, text: &str) -> Result<List<Token>, TextError>
     ensures exact { MatchResult result (λ tokens. tokens_of text.now ≡ Ok tokens) (λ e. (at : ℕ) → e ≡ BadToken at → tokens_of text.now ≡ Err at) }
 {
     let bytes = text.as_bytes();

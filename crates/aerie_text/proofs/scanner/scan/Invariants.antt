@@ -1,7 +1,7 @@
 -- The tokens so far, with those that are read behind the place, are those of the text.
 use Rattle.std.proofs.Common.{◌≡◌, ◌≤◌, ◌-◌, length, drop}
 use Rattle.aerie_text.specs.Tokens.{tokens_from, tokens_of, with_tokens}
-use Rattle.aerie_text.proofs.scanner.tokens.Given as goal
+use Rattle.aerie_text.proofs.scanner.scan.Given as goal
 
 abbrev pub invariant-loop-at : goal.invariant-loop-at
 invariant-loop-at l = record {
