@@ -7,4 +7,5 @@ pub mod Places
 pub mod Quotes
 pub mod Symbols
 pub mod TokenAt
+pub mod TokenTexts
 pub mod Tokens

@@ -11,6 +11,8 @@ mod places;
 mod quotes;
 mod scanner;
 mod symbols;
+#[cfg(test)]
+mod tests;
 mod text_error;
 mod token;
 
