@@ -43,7 +43,7 @@ begins_at test xs i e = elim (cases_lt i (length xs)) [ inl lt ↦ (lt, rw (drop
 
 -- ---- runs
 
-run_positive : (test : ℕ → Bool) (b : ℕ) (bs : List ℕ) → test b ≡ true → 0 < prefix_len test (b ∷ bs)
+pub run_positive : (test : ℕ → Bool) (b : ℕ) (bs : List ℕ) → test b ≡ true → 0 < prefix_len test (b ∷ bs)
 run_positive test b bs e = rw e (omega arith)
 
 run_facts : (test : ℕ → Bool) → ((b : ℕ) → test b ≡ true → b < 128) → (b : ℕ) (bs : List ℕ) → test b ≡ true → Facts (b ∷ bs) (prefix_len test (b ∷ bs))

@@ -17,6 +17,7 @@ use Rattle.aerie_text.specs.Cut.{AreTokens, no_more, one_more, IsBad, IsBlank, n
 use Rattle.aerie_text.specs.declared.token.Token.{Token}
 use Rattle.aerie_text.specs.declared.token.TokenKind.{TokenKind}
 use Rattle.aerie_text.proofs.Beginnings.{Facts, token_facts}
+use Rattle.aerie_text.proofs.Extents.{none_matches, read_longest}
 use Rattle.aerie_text.proofs.Reading.{bad_step, end_step, gap_step, token_step}
 
 pub gap_within : (text : List ℕ) → gap_len text ≤ length text
@@ -47,7 +48,12 @@ is_token : (text : List ℕ) (at : ℕ) (kind : TokenKind) (n : ℕ) → at < le
 is_token text at kind n lt e =
     let facts = token_facts (drop at text) kind n e in
     let len : at + n - at ≡ n = omega arith in
-    record { rises = omega (arith, facts.positive); within = omega (arith, facts.within, length-drop at text); longest = rw len e }
+    record {
+      rises = omega (arith, facts.positive);
+      within = omega (arith, facts.within, length-drop at text);
+      read = rw len e;
+      longest = rw len (read_longest (drop at text) kind n e);
+    }
 
 says_end : (text : List ℕ) (at : ℕ) → at ≤ length text → length text ≤ at → Says text at (tokens_from at 0 (drop at text))
 says_end text at within le =
@@ -68,7 +74,7 @@ says (suc bound) text at within le =
         let inside : gap_len (drop at text) ≤ length (drop at text) = gap_within (drop at text) in
         rw (gap_step text at (gap_len (drop at text)) lt refl positive inside)
         (says_gap text at _ positive (later (at + gap_len (drop at text)) (omega arith) (omega (arith, length-drop at text))))
-    go lt zero None e t later = rw (bad_step text at lt e t) ([], no_more at at (nothing at), record { within = lt; no_gap = e; no_token = t })
+    go lt zero None e t later = rw (bad_step text at lt e t) ([], no_more at at (nothing at), record { within = lt; no_gap = e; not_read = t; no_token = none_matches (drop at text) t })
     go lt zero (Some (kind, n)) e t later =
         let facts = token_facts (drop at text) kind n t in
         rw (token_step text at kind n e t facts.positive facts.within)
@@ -131,7 +137,7 @@ blank_edge text at to utf8 edge (gap here there positive blank) = blank_edge tex
 
 token_edges : (text : List ℕ) (t : Token) → IsUtf8 text → IsTokenOf text t → IsAtEdges text t
 token_edges text t utf8 is =
-    let facts = token_facts (drop t.from text) t.kind (t.to - t.from) is.longest in
+    let facts = token_facts (drop t.from text) t.kind (t.to - t.from) is.read in
     let place : t.from + (t.to - t.from) ≡ t.to = omega (arith, is.rises) in
     (edge_before text t.from (omega (arith, is.rises, is.within)) facts.first,
     subst (IsCharBoundary text) place (edge_behind text t.from (t.to - t.from) utf8 facts.positive (omega (arith, is.rises, is.within)) facts.last))
