@@ -77,9 +77,10 @@ digit_ascii b e = grind (arith, nat_tests)
 -- what stands in front is no longer than the text
 pub fits : (u text : List ℕ) → take (length u) text ≡ u → length u ≤ length text
 fits u text front = elim (cases_lt (length text) (length u)) [
-    inl lt ↦ let whole : take (length u) text ≡ text = take_all (length u) text (omega arith) in
+  | inl lt ↦ let whole : take (length u) text ≡ text = take_all (length u) text (omega arith) in
       omega (arith, ap length front, ap length whole)
-  | inr le ↦ le ]
+  | inr le ↦ le
+]
 
 unit_within : (text : List ℕ) → unit_len text ≤ length text
 unit_within text = go (unit_in_front text)
@@ -112,6 +113,7 @@ digits_facts b bs kind n digit e = go _ _ _ refl refl refl
   where
     text : List ℕ
     text = b ∷ bs
+
     go : (v1 v2 v3 : Bool) → is_duration (take (duration_len (b ∷ bs)) (b ∷ bs)) ≡ v1 → begins_with is_word_byte (drop (prefix_len is_ascii_digit (b ∷ bs)) (b ∷ bs)) ≡ v2
         → fits_number (take (prefix_len is_ascii_digit (b ∷ bs)) (b ∷ bs)) ≡ v3 → Facts (b ∷ bs) n
     go true v2 v3 e1 e2 e3 = subst (Facts (b ∷ bs)) (ap (λ (x : TokenKind × ℕ). x.1) (some_is _ _ (rw e1 at e))) (duration_facts b bs digit)
@@ -162,6 +164,7 @@ which test text (u ∷ us) e all = go (starts_with nat_eq text u) refl (λ later
   where
     parts : (test u ≡ true) × (list_all test us ≡ true)
     parts = split_and (test u) (list_all test us) all
+
     go : (v : Bool) → starts_with nat_eq text u ≡ v → (list_any (λ symbol. starts_with nat_eq text symbol) us ≡ true → (u : List ℕ) × (test u ≡ true) × (take (length u) text ≡ u)) → (u : List ℕ) × (test u ≡ true) × (take (length u) text ≡ u)
     go true t later = (u, parts.0, sym ((bytes_eq-Decides u (take (length u) text)).0 t))
     go false t later = later (rw t at e)
@@ -175,7 +178,7 @@ double_facts text e =
     let ascii = ascii_of u parts.1 in
     let long = fits u text found.2 in
     let at : (i : ℕ) → i < length u → get_or text i 0 < 128 =
-        λ i lt. subst (λ (x : ℕ). x < 128) (ap (λ (l : List ℕ). get_or l i 0) (sym found.2) ∙ get_or-take (length u) text i 0 lt) (ascii i) in
+    λ i lt. subst (λ (x : ℕ). x < 128) (ap (λ (l : List ℕ). get_or l i 0) (sym found.2) ∙ get_or-take (length u) text i 0 lt) (ascii i) in
     record { positive = omega arith; within = omega arith; first = at 0 (omega arith); last = at 1 (omega arith) }
 
 single_below : (byte : ℕ) (symbols : List ℕ) → list_any (λ symbol. nat_eq byte symbol) symbols ≡ true → list_all (λ c. nat_lt c 128) symbols ≡ true → byte < 128
@@ -184,6 +187,7 @@ single_below byte (c ∷ cs) e all = go (nat_eq byte c) refl (λ later. single_b
   where
     parts : (nat_lt c 128 ≡ true) × (list_all (λ c. nat_lt c 128) cs ≡ true)
     parts = split_and (nat_lt c 128) (list_all (λ c. nat_lt c 128) cs) all
+
     go : (v : Bool) → nat_eq byte c ≡ v → (list_any (λ symbol. nat_eq byte symbol) cs ≡ true → byte < 128) → byte < 128
     go true t later = omega (arith, eqb-true byte c t, ltb-true c 128 parts.0)
     go false t later = later (rw t at e)

@@ -64,8 +64,9 @@ says : (bound : ℕ) (text : List ℕ) (at : ℕ) → at ≤ length text → len
 says zero text at within le = says_end text at within (omega arith)
 says (suc bound) text at within le =
     elim (cases_lt at (length text)) [
-      inl lt ↦ go lt (gap_len (drop at text)) (token_at (drop at text)) refl refl (λ to further inside. says bound text to inside (omega arith))
-    | inr past ↦ says_end text at within past ]
+      | inl lt ↦ go lt (gap_len (drop at text)) (token_at (drop at text)) refl refl (λ to further inside. says bound text to inside (omega arith))
+      | inr past ↦ says_end text at within past
+    ]
   where
     go : at < length text → (g : ℕ) (found : Option (TokenKind × ℕ)) → gap_len (drop at text) ≡ g → token_at (drop at text) ≡ found
         → ((to : ℕ) → at < to → to ≤ length text → Says text to (tokens_from to 0 (drop to text))) → Says text at (tokens_from at 0 (drop at text))
@@ -116,6 +117,7 @@ gap_edge text at utf8 positive = go (begins_comment (drop at text)) refl
   where
     inside : at + gap_len (drop at text) ≤ length text
     inside = omega (arith, gap_within (drop at text), length-drop at text, positive)
+
     go : (v : Bool) → begins_comment (drop at text) ≡ v → IsCharBoundary text (at + gap_len (drop at text))
     go false e =
         let run : gap_len (drop at text) ≡ prefix_len is_white (drop at text) = rw e refl in
@@ -123,13 +125,14 @@ gap_edge text at utf8 positive = go (begins_comment (drop at text)) refl
     go true e =
         let run : gap_len (drop at text) ≡ prefix_len is_in_line (drop at text) = rw e refl in
         elim (cases_lt (gap_len (drop at text)) (length (drop at text))) [
-          inl lt ↦
-            let stops : is_in_line (get_or (drop at text) (prefix_len is_in_line (drop at text)) 0) ≡ false = prefix_len_stops is_in_line (drop at text) 0 (omega arith) in
-            let below : get_or (drop at text) (gap_len (drop at text)) 0 < 128 = rw run (feed_ascii _ stops) in
-            IsCharBoundary-before_ascii text (at + gap_len (drop at text)) (omega (arith, length-drop at text)) (byte_at text at (gap_len (drop at text)) below)
-        | inr le ↦
-            let ended : length text ≡ at + gap_len (drop at text) = omega (arith, inside, length-drop at text) in
-            subst (IsCharBoundary text) ended (IsCharBoundary-end text) ]
+          | inl lt ↦
+              let stops : is_in_line (get_or (drop at text) (prefix_len is_in_line (drop at text)) 0) ≡ false = prefix_len_stops is_in_line (drop at text) 0 (omega arith) in
+              let below : get_or (drop at text) (gap_len (drop at text)) 0 < 128 = rw run (feed_ascii _ stops) in
+              IsCharBoundary-before_ascii text (at + gap_len (drop at text)) (omega (arith, length-drop at text)) (byte_at text at (gap_len (drop at text)) below)
+          | inr le ↦
+              let ended : length text ≡ at + gap_len (drop at text) = omega (arith, inside, length-drop at text) in
+              subst (IsCharBoundary text) ended (IsCharBoundary-end text)
+        ]
 
 blank_edge : (text : List ℕ) (at to : ℕ) → IsUtf8 text → IsCharBoundary text at → IsBlank text at to → IsCharBoundary text to
 blank_edge text at to utf8 edge (nothing here) = edge
@@ -138,9 +141,10 @@ blank_edge text at to utf8 edge (gap here there positive blank) = blank_edge tex
 token_edges : (text : List ℕ) (t : Token) → IsUtf8 text → IsTokenOf text t → IsAtEdges text t
 token_edges text t utf8 is =
     let facts = token_facts (drop t.from text) t.kind (t.to - t.from) is.read in
-    let place : t.from + (t.to - t.from) ≡ t.to = omega (arith, is.rises) in
-    (edge_before text t.from (omega (arith, is.rises, is.within)) facts.first,
-    subst (IsCharBoundary text) place (edge_behind text t.from (t.to - t.from) utf8 facts.positive (omega (arith, is.rises, is.within)) facts.last))
+    let place : t.from + (t.to - t.from) ≡ t.to = omega (arith, is.rises) in (
+      edge_before text t.from (omega (arith, is.rises, is.within)) facts.first,
+      subst (IsCharBoundary text) place (edge_behind text t.from (t.to - t.from) utf8 facts.positive (omega (arith, is.rises, is.within)) facts.last),
+    )
 
 pub all_edges : (text : List ℕ) (at to : ℕ) (tokens : List Token) → IsUtf8 text → AreTokens text at tokens to → All (IsAtEdges text) tokens
 all_edges text at to tokens utf8 (no_more here there blank) = All-nil (IsAtEdges text)

@@ -143,6 +143,7 @@ unit_of u m e = go _ _ _ _ _ _ refl refl refl refl refl refl
   where
     same : (v : List ℕ) → bytes_eq u v ≡ true → IsUnit v → IsUnit u
     same v t is = subst IsUnit (sym ((bytes_eq-Decides u v).0 t)) is
+
     go : (v1 v2 v3 v4 v5 v6 : Bool) → bytes_eq u (codes "us") ≡ v1 → bytes_eq u (codes "ms") ≡ v2 → bytes_eq u (codes "s") ≡ v3
         → bytes_eq u (codes "min") ≡ v4 → bytes_eq u (codes "h") ≡ v5 → bytes_eq u (codes "d") ≡ v6 → IsUnit u
     go true v2 v3 v4 v5 v6 e1 e2 e3 e4 e5 e6 = same (codes "us") e1 us
@@ -180,6 +181,7 @@ parts_of text m e = go (nat_eq (prefix_len is_ascii_digit text) 0) refl
     inner : (o : Option ℕ) (f : ℕ → Option ℕ) → option_and_then f o ≡ Some m → (x : ℕ) × (o ≡ Some x)
     inner None f same = absurd (cc)
     inner (Some x) f same = (x, refl)
+
     go : (v : Bool) → nat_eq (prefix_len is_ascii_digit text) 0 ≡ v → Parts text
     go true t = absurd (let no : None ≡ Some m = then_of _ _ _ _ t e in cc)
     go false t =

@@ -29,8 +29,9 @@ front_all test text = front_has (λ l. list_all test l ≡ true) test refl (λ b
 pub run_stops : (test : ℕ → Bool) (text : List ℕ) → begins_with test (drop (prefix_len test text) text) ≡ false
 run_stops test text =
     elim (cases_lt (prefix_len test text) (length text)) [
-      inl lt ↦ rw (drop_more text (prefix_len test text) 0 lt) (prefix_len_stops test text 0 lt)
-    | inr le ↦ rw (drop_all (prefix_len test text) text le) refl ]
+      | inl lt ↦ rw (drop_more text (prefix_len test text) 0 lt) (prefix_len_stops test text 0 lt)
+      | inr le ↦ rw (drop_all (prefix_len test text) text le) refl
+    ]
 
 front_begins : (test : ℕ → Bool) (b : ℕ) (bs : List ℕ) (n : ℕ) → 0 < n → begins_with test (take n (b ∷ bs)) ≡ test b
 front_begins test b bs zero lt = absurd (omega arith)
@@ -46,6 +47,7 @@ word_matches b bs n letter positive within e = go (b ∷ bs) e (front_begins is_
         let all : list_all is_word_byte (take n text) ≡ true = rw is (front_all is_word_byte text) in
         let stops : begins_with is_word_byte (drop n text) ≡ false = rw is (run_stops is_word_byte text) in
         record { within = inside; is_token = word (take n text) begins all (omega (arith, length-take-le n text inside, leb-true _ _ short)); ends = rw stops refl }
+
     go : (text : List ℕ) → word_len text ≡ Some n → begins_with is_letter (take n text) ≡ true → n ≤ length text → Matches text Word n
     go text same begins inside = step (nat_le (prefix_len is_word_byte text) 64) refl
       where
@@ -110,6 +112,7 @@ symbol_matches text n facts e = go _ _ refl refl
   where
     first_two : List ℕ → Bool
     first_two u = nat_eq (length u) 2 && is_double_symbol u
+
     go : (v1 v2 : Bool) → begins_double_symbol text ≡ v1 → begins_with is_single_symbol text ≡ v2 → Matches text Symbol n
     go true v2 e1 e2 =
         let found = which (λ u. nat_eq (length u) 2 && is_double_symbol u) text double_symbols e1 refl in

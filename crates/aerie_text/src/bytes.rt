@@ -52,10 +52,7 @@ pub fn word_len(bytes: &[u8]) -> usize
     ensures len { result ≡ prefix_len is_word_byte bytes.now }
     ensures within { result ≤ length bytes.now }
 {
-    bytes
-        .iter()
-        .take_while(|byte| is_word_byte(**byte))
-        .count()
+    bytes.iter().take_while(|byte| is_word_byte(**byte)).count()
 }
 
 /// How many bytes of white space stand in front.

@@ -4,7 +4,7 @@ ghost use Rattle.std.specs.Prelude.{◌≡◌, ◌++◌, ◌∷◌, [], IfOk, On
 ghost use Rattle.serde_json.specs.Data.{put, string};
 ghost use Rattle.serde_json.specs.View.{view, members_view};
 ghost use Rattle.serde_json.specs.Written.{has_float};
-ghost use Rattle.aerie_text.specs.Json.{field_data, line_of, object_of};
+ghost use Rattle.aerie_text.specs.Json.{field_data, IsLineOf, line_of, object_of};
 
 use aerie_base::OutOfMemory;
 use serde_json::{Map, Value};
@@ -38,9 +38,10 @@ fn insert(members: &mut Map<String, Value>, name: String, value: Value) -> Resul
     }
 }
 
-/// The compact text of a value and a line feed, with the keys of each object in the order of their bytes. A value
-/// with no float has the one text that the first clause says.
+/// The compact text of a value and a line feed, with the keys of each object in the order of their bytes. Of a value
+/// with no float the text is known byte by byte, of any other that it reads back as the value.
 pub fn line(alloc: Global, value: &Value) -> Result<String, OutOfMemory>
+    ensures reads_back { IfOk result (λ line. IsLineOf (string_bytes line) (view value.now)) }
     ensures text { IfOk result (λ line. has_float (view value.now) ≡ false → string_bytes line ≡ line_of (view value.now)) }
 {
     let mut text = value.to_string(alloc)?;

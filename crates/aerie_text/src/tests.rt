@@ -15,8 +15,18 @@ fn cuts_texts_into_tokens(rt: HostRuntime) {
         ("a//b\nc", 2, word, "c"),
         ("- > ->", 3, symbol, "->"),
         (":===", 2, symbol, "=="),
-        ("0000000000000000007", 1, TokenKind::Number, "0000000000000000007"),
-        ("1000000000000000000", 1, TokenKind::Number, "1000000000000000000"),
+        (
+            "0000000000000000007",
+            1,
+            TokenKind::Number,
+            "0000000000000000007",
+        ),
+        (
+            "1000000000000000000",
+            1,
+            TokenKind::Number,
+            "1000000000000000000",
+        ),
         ("1000000000000000us", 1, duration, "1000000000000000us"),
         ("1000000000000ms", 1, duration, "1000000000000ms"),
         ("1000000000s", 1, duration, "1000000000s"),
@@ -106,7 +116,11 @@ fn counts_lines_and_characters(rt: HostRuntime) {
         ("\n", 1, 2, 1),
     ];
     for (text, at, line, column) in cases {
-        assert_eq!(&rt; checked_place(text, at), Some(Place { line, column }), "of {text}");
+        assert_eq!(&rt;
+            checked_place(text, at),
+            Some(Place { line, column }),
+            "of {text}"
+        );
     }
 }
 
@@ -122,5 +136,8 @@ fn writes_lines_of_json(rt: HostRuntime) {
     fields.push((earlier, number)).expect(&rt, "memory");
     let value = object(alloc, fields).expect(&rt, "memory");
     let text = line(alloc, &value).expect(&rt, "memory");
-    assert_eq!(&rt; text.as_str(), "{\"name\":[7,null,true],\"text\":\"line\\n\\\"é\\\"\"}\n");
+    assert_eq!(&rt;
+        text.as_str(),
+        "{\"name\":[7,null,true],\"text\":\"line\\n\\\"é\\\"\"}\n"
+    );
 }

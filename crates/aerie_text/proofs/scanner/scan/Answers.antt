@@ -21,10 +21,12 @@ loop-at-preserved-then-gap-gt0 c =
 
 pub returns-in_err-token : goal.returns-in_err-token
 returns-in_err-token c =
-    record { exact = err_case _ _ _ _ c.from_residual.ensures.0 c.from_residual.ensures.1 (λ e same at named.
+    record {
+      exact = err_case _ _ _ _ c.from_residual.ensures.0 c.from_residual.ensures.1 (λ e same at named.
           ap tokens_of (sym c.as_bytes-bytes.ensures.value)
           ∙ bad_read c.loop-at.tokens c.as_bytes-bytes.result.now c.loop-at.at c.in_err-token.field-0.0 _ c.loop-at-test.true
-            (ap gap_len (sym c.rest_at.ensures) ∙ sym c.gap_len-gap.ensures.len ∙ omega arith) c.in_err-token.ensures.found c.loop-at.invariant.read at (sym same ∙ named)) }
+          (ap gap_len (sym c.rest_at.ensures) ∙ sym c.gap_len-gap.ensures.len ∙ omega arith) c.in_err-token.ensures.found c.loop-at.invariant.read at (sym same ∙ named));
+    }
 
 pub loop-at-preserved : goal.loop-at-preserved
 loop-at-preserved c =
@@ -32,8 +34,8 @@ loop-at-preserved c =
     record {
       within = c.in_ok-token.ensures.within.1;
       read =
-        rw (c.in_ok-push.ensures.pushed)
-        (token_read c.loop-at.tokens c.as_bytes-bytes.result.now c.loop-at.at c.in_ok-token.token _ none c.in_ok-token.ensures.found c.loop-at.invariant.read);
+          rw (c.in_ok-push.ensures.pushed)
+          (token_read c.loop-at.tokens c.as_bytes-bytes.result.now c.loop-at.at c.in_ok-token.token _ none c.in_ok-token.ensures.found c.loop-at.invariant.read);
     }
 
 pub returns : goal.returns
