@@ -1,6 +1,6 @@
 -- What the tokens of a text say of it.
-use Rattle.std.proofs.Common.{◌≡◌, ℕ, zero, suc, ◌+◌, ◌-◌, ◌<◌, ◌≤◌, ◌∙◌, inl, inr, Bool, true, false, List, [], ◌∷◌, ◌++◌, length, take, drop, get_or, Option, Some, None, Result, Ok, Err, IsUtf8, refl, ap, subst, sym, arith, add-zero}
-use Rattle.std.specs.Prelude.{All, not, ◌==◌}
+use Rattle.std.proofs.Common.{◌≡◌, ℕ, zero, suc, ◌+◌, ◌-◌, ◌<◌, ◌≤◌, inl, inr, Bool, true, false, List, [], ◌∷◌, length, drop, get_or, Option, Some, None, Result, Ok, Err, IsUtf8, refl, subst, arith, add-zero}
+use Rattle.std.specs.Prelude.{All}
 use Rattle.std.specs.List.{prefix_len}
 use Rattle.std.specs.Str.{IsCharBoundary}
 use Rattle.std.proofs.lemmas.Bool.{cases_lt}
@@ -16,7 +16,7 @@ use Rattle.aerie_text.specs.Tokens.{token, tokens_from, tokens_of, with_tokens}
 use Rattle.aerie_text.specs.Cut.{AreTokens, no_more, one_more, IsBad, IsBlank, nothing, gap, IsFirstBad, IsTokenOf, IsAtEdges}
 use Rattle.aerie_text.specs.declared.token.Token.{Token}
 use Rattle.aerie_text.specs.declared.token.TokenKind.{TokenKind}
-use Rattle.aerie_text.proofs.Beginnings.{Facts, token_facts}
+use Rattle.aerie_text.proofs.Beginnings.{token_facts}
 use Rattle.aerie_text.proofs.Extents.{none_matches, read_longest}
 use Rattle.aerie_text.proofs.Reading.{bad_step, end_step, gap_step, token_step}
 

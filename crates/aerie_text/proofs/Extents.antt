@@ -1,27 +1,27 @@
 -- No token is longer than the one that is read.
-use Rattle.std.proofs.Common.{◌≡◌, ℕ, zero, suc, ◌+◌, ◌-◌, ◌<◌, ◌≤◌, ◌∙◌, inl, inr, Bool, true, false, cond, List, [], ◌∷◌, ◌++◌, length, take, drop, get_or, Option, Some, None, refl, ap, subst, sym, arith, nat_eq, le-leb, codes, append_assoc, take-append-drop}
-use Rattle.std.specs.Prelude.{◌==◌, ◌&&◌, ◌||◌, not, is_some, nat_le, nat_lt, option_and_then}
+use Rattle.std.proofs.Common.{◌≡◌, ℕ, zero, suc, ◌+◌, ◌<◌, ◌≤◌, ◌∙◌, Bool, true, false, cond, List, [], ◌∷◌, ◌++◌, length, take, drop, get_or, Option, Some, None, refl, ap, subst, sym, arith, nat_eq, le-leb, codes, append_assoc, take-append-drop}
+use Rattle.std.specs.Prelude.{◌==◌, ◌&&◌, ◌||◌, not, is_some, option_and_then}
 use Rattle.std.specs.Char.{is_ascii_digit}
 use Rattle.std.specs.List.{list_all, list_any, prefix_len, starts_with}
 use Rattle.std.specs.Str.{bytes_eq}
 use Rattle.std.specs.Str.Parse.{digits_value}
-use Rattle.std.proofs.lemmas.Bool.{and_parts, cases_lt, eq-eqb, eqb-true, false≢true, leb-true, not-true}
+use Rattle.std.proofs.lemmas.Bool.{and_parts, eq-eqb, eqb-true, false≢true, not-true}
 use Rattle.std.proofs.lemmas.Bool.Decides.{nat_tests}
-use Rattle.std.proofs.lemmas.List.{drop_more, drop_all, drop_at, drop-append-le, get_or-take, length-append, length-drop, length-take-le, take_all, take_at, take-take}
+use Rattle.std.proofs.lemmas.List.{drop_more, drop_at, drop-append-le, get_or-take, length-append, length-drop, length-take-le, take_all, take_at, take-take}
 use Rattle.std.proofs.lemmas.List.Prefix.{front_fits}
 use Rattle.std.proofs.lemmas.List.Sums.{prefix_len-le-length, prefix_len_is, AllPass-from_list_all}
 use Rattle.std.proofs.lemmas.Slice.Eq.{bytes_eq-Decides}
-use Rattle.aerie_base.specs.Durations.{duration_of, digit_count, of_unit, unit_micros}
+use Rattle.aerie_base.specs.Durations.{duration_of, unit_micros}
 use Rattle.aerie_text.specs.Bytes.{begins_with, is_letter, is_word_byte}
 use Rattle.aerie_text.specs.Numerals.{digits_at, duration_len, fits_number, is_duration, unit_len}
-use Rattle.aerie_text.specs.Quotes.{backquote, enclosed_len, is_quotable, is_raw, quotation_mark}
+use Rattle.aerie_text.specs.Quotes.{enclosed_len, is_quotable, is_raw}
 use Rattle.aerie_text.specs.Symbols.{begins_double_symbol, double_symbols, is_single_symbol, single_symbols, symbol_len}
 use Rattle.aerie_text.specs.TokenAt.{of_kind, token_at, word_len}
 use Rattle.aerie_text.specs.TokenTexts.{IsTextOf, word, number, duration, quoted, raw, single, double, BeginsNone, IsLongest, Matches, is_double_symbol, may_stand_before}
 use Rattle.aerie_text.specs.declared.token.TokenKind.{TokenKind}
 use Rattle.aerie_text.specs.declared.token.TokenKind.TheVariants.{Word, Number, Duration, Quoted, Raw, Symbol}
 use Rattle.aerie_text.proofs.Beginnings.{else_of, some_is, then_of}
-use Rattle.aerie_text.proofs.Matching.{front_all, read_matches, run_stops}
+use Rattle.aerie_text.proofs.Matching.{front_all, read_matches}
 use Rattle.aerie_text.proofs.Units.{IsUnit, us, ms, min, s, h, d}
 
 -- a token of at least so many bytes is found

@@ -1,15 +1,15 @@
 -- What is read from a place on, in the steps of the scanner.
-use Rattle.std.proofs.Common.{◌≡◌, ℕ, zero, suc, ◌+◌, ◌-◌, ◌<◌, ◌≤◌, ◌∙◌, List, [], ◌∷◌, ◌++◌, length, take, drop, Option, Some, None, Result, Ok, Err, refl, ap, subst, sym, arith, append_assoc, append-nil}
+use Rattle.std.proofs.Common.{◌≡◌, ℕ, zero, suc, ◌+◌, ◌-◌, ◌<◌, ◌≤◌, ◌∙◌, List, [], ◌∷◌, ◌++◌, length, drop, Option, Some, None, Result, Ok, Err, refl, ap, sym, arith, append_assoc, append-nil}
 use Rattle.std.specs.Prelude.{IfOk, IsErr, IsErrAnd, MatchResult}
 use Rattle.std.proofs.lemmas.List.{drop-drop, drop_all, length-drop}
 use Rattle.aerie_text.specs.Gaps.{gap_len}
 use Rattle.aerie_text.specs.TokenAt.{token_at}
-use Rattle.aerie_text.specs.Tokens.{found_at, read_at, tokens_of, token, tokens_from, with_tokens}
+use Rattle.aerie_text.specs.Tokens.{found_at, tokens_of, token, tokens_from, with_tokens}
 use Rattle.aerie_text.specs.declared.token.Token.{Token}
 use Rattle.aerie_text.specs.declared.text_error.TextError.{TextError}
 use Rattle.aerie_text.specs.declared.text_error.TextError.TheVariants.{BadToken}
 use Rattle.aerie_text.specs.declared.token.TokenKind.{TokenKind}
-use Rattle.aerie_text.proofs.Beginnings.{Facts, token_facts}
+use Rattle.aerie_text.proofs.Beginnings.{token_facts}
 
 -- the bytes that belong to what was read before are passed
 skipped : (at n : ℕ) (text : List ℕ) → n ≤ length text → tokens_from at n text ≡ tokens_from (at + n) 0 (drop n text)

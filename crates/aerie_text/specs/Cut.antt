@@ -1,5 +1,5 @@
 -- A text as a reader sees it: tokens in order, and between them white space and comments.
-use Rattle.std.specs.Prelude.{◌≡◌, ℕ, ◌+◌, ◌-◌, ◌<◌, ◌≤◌, List, [], ◌∷◌, length, drop, Option, Some, None}
+use Rattle.std.specs.Prelude.{◌≡◌, ℕ, ◌+◌, ◌-◌, ◌<◌, ◌≤◌, List, [], ◌∷◌, length, drop, Some, None}
 use Rattle.std.specs.Str.{IsCharBoundary}
 use Rattle.aerie_text.specs.Gaps.{gap_len}
 use Rattle.aerie_text.specs.TokenAt.{token_at}

@@ -7,7 +7,7 @@ use Rattle.aerie_text.specs.Numerals.{digits_at}
 use Rattle.aerie_text.specs.Quotes.{backquote, enclosed_len, is_quotable, is_raw, quotation_mark}
 use Rattle.aerie_text.specs.Symbols.{symbol_len}
 use Rattle.aerie_text.specs.declared.token.TokenKind.{TokenKind}
-use Rattle.aerie_text.specs.declared.token.TokenKind.TheVariants.{Word, Number, Duration, Quoted, Raw, Symbol}
+use Rattle.aerie_text.specs.declared.token.TokenKind.TheVariants.{Word, Quoted, Raw, Symbol}
 
 -- the longest word, in bytes
 abbrev pub word_limit : ℕ

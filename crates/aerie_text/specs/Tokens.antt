@@ -8,7 +8,7 @@ use Rattle.aerie_text.specs.declared.text_error.TextError.{TextError}
 use Rattle.aerie_text.specs.declared.text_error.TextError.TheVariants.{BadToken}
 use Rattle.aerie_text.specs.declared.token.Token.{Token}
 use Rattle.aerie_text.specs.declared.token.TokenKind.{TokenKind}
-use Rattle.aerie_text.specs.declared.token.TokenKind.TheVariants.{Word, Number, Duration, Quoted, Raw, Symbol}
+use Rattle.aerie_text.specs.declared.token.TokenKind.TheVariants.{Word, Duration, Raw, Symbol}
 
 -- these tokens, and behind them those that were read there, or the place where none begins
 abbrev pub with_tokens : List Token → Result (List Token) ℕ → Result (List Token) ℕ

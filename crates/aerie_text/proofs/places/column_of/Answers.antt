@@ -1,11 +1,11 @@
 -- Each character is one further in its line, or the line feed behind which a line begins.
-use Rattle.std.proofs.Common.{◌≡◌, ◌+◌, ◌<◌, ◌≤◌, ◌∙◌, length, take, ap, sym, subst, arith}
+use Rattle.std.proofs.Common.{◌+◌, ◌∙◌, length, ap, sym, arith}
 use Rattle.std.specs.Str.{chars}
 use Rattle.std.proofs.lemmas.Iterator.{YieldsList-from_chars}
 use Rattle.std.proofs.lemmas.Iterator.Consumers.{YieldsList-turn, YieldsList-end}
 use Rattle.std.proofs.lemmas.List.{length_push, take_all}
 use Rattle.aerie_text.specs.Places.{column_of}
-use Rattle.aerie_text.proofs.Columns.{Stands, chars_within, column_again, column_on, column_within}
+use Rattle.aerie_text.proofs.Columns.{chars_within, column_again, column_on, column_within}
 use Rattle.aerie_text.proofs.places.column_of.Goals as goal
 
 pub overflow_add-column : goal.overflow_add-column

@@ -1,5 +1,5 @@
 -- Each turn of the loop reads white space, a comment, or a token.
-use Rattle.std.proofs.Common.{◌≡◌, ◌≤◌, ◌∙◌, length, drop, ap, sym, subst, arith}
+use Rattle.std.proofs.Common.{◌≡◌, ◌≤◌, ◌∙◌, length, drop, ap, sym, arith}
 use Rattle.std.proofs.lemmas.List.{length-drop}
 use Rattle.aerie_text.specs.Tokens.{tokens_of}
 use Rattle.aerie_text.specs.Gaps.{gap_len}

@@ -1,5 +1,5 @@
 -- The token lies within the text.
-use Rattle.std.proofs.Common.{◌≡◌, length, drop, Some, ap, ◌∙◌, sym, arith}
+use Rattle.std.proofs.Common.{drop, ap, ◌∙◌, sym, arith}
 use Rattle.std.proofs.lemmas.List.{length-drop}
 use Rattle.aerie_text.specs.TokenAt.{token_at}
 use Rattle.aerie_text.proofs.Beginnings.{Facts, token_facts}

@@ -1,7 +1,5 @@
 -- What the tokens of a text say of it.
-use Rattle.std.proofs.Common.{◌≡◌, length, Ok, Err}
-use Rattle.std.specs.Prelude.{All}
-use Rattle.aerie_text.specs.Cut.{AreTokens, IsAtEdges}
+use Rattle.std.proofs.Common.{◌≡◌, length, Err}
 use Rattle.aerie_text.specs.Tokens.{tokens_of}
 use Rattle.aerie_text.proofs.Cuts.{all_edges, are_tokens, bad_edge, first_bad}
 use Rattle.aerie_text.proofs.Reading.{bad_case, ok_case}
