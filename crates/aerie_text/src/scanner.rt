@@ -15,7 +15,8 @@ use aerie_base::List;
 use std::alloc::Global;
 
 /// The tokens of a text, in order. `BadToken` names the first place where no token begins, which is behind the white
-/// space and the comments that follow the last token. It goes over the text once, and no text is copied.
+/// space and the comments that follow the last token. It takes time linear in the text, since each byte is read a few
+/// times at most, and copies no text.
 pub fn tokens(alloc: Global, text: &str) -> Result<List<Token>, TextError>
     ensures exact { IfOk result (λ tokens. tokens_of text.now ≡ Ok tokens) }
     ensures cut { IfOk result (λ tokens. AreTokens text.now 0 tokens (length text.now)) }
