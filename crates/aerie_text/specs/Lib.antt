@@ -1,0 +1,11 @@
+pub mod Bytes
+pub mod Cut
+pub mod Gaps
+pub mod Json
+pub mod Numerals
+pub mod Places
+pub mod Quotes
+pub mod Symbols
+pub mod TokenAt
+pub mod TokenTexts
+pub mod Tokens

@@ -1,0 +1,23 @@
+//! Texts of sessions and of answers: the tokens that a text is cut into, the place of a byte for a reader, and JSON
+//! in lines.
+#![tactic(auto)]
+
+mod bytes;
+mod gaps;
+mod json;
+mod longest;
+mod numerals;
+mod places;
+mod quotes;
+mod scanner;
+mod symbols;
+#[cfg(test)]
+mod tests;
+mod text_error;
+mod token;
+
+pub use json::{line, object, text_value};
+pub use places::place_of;
+pub use scanner::tokens;
+pub use text_error::TextError;
+pub use token::{Token, TokenKind};

@@ -1,0 +1,42 @@
+//! Places for a reader.
+
+ghost use Rattle.std.specs.Prelude.{◌≡◌, ◌<◌, length};
+ghost use Rattle.std.specs.Str.{IsCharBoundary, chars};
+ghost use Rattle.aerie_text.specs.Places.{chars_before, column_of, line_of, place_of};
+
+use aerie_base::Place;
+
+/// The line and the column of a place in a text, which is counted in bytes: lines from 1, and in the line characters
+/// from 1. It takes no memory, and time linear in what stands before the place.
+pub fn place_of(text: &str, at: usize) -> Place
+    requires short { length text.now < 4_294_967_295 }
+    requires edge { IsCharBoundary text.now at }
+    ensures { result ≡ place_of text.now at }
+{
+    let before = &text[..at];
+    Place {
+        line: line_of(before),
+        column: column_of(before),
+    }
+}
+
+/// 1 and the line feeds of a text.
+fn line_of(text: &str) -> u32
+    requires { length text.now < 4_294_967_295 }
+    ensures { result ≡ line_of (chars text.now) }
+{
+    let count = text.chars().filter(|c| *c == '\n').count();
+    count as u32 + 1
+}
+
+/// 1 and the characters behind the last line feed of a text.
+fn column_of(text: &str) -> u32
+    requires { length text.now < 4_294_967_295 }
+    ensures { result ≡ column_of (chars text.now) }
+{
+    let mut column = 1;
+    for c in text.chars() {
+        column = if c == '\n' { 1 } else { column + 1 };
+    }
+    column
+}
