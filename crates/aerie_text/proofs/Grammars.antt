@@ -1,0 +1,4 @@
+pub mod Starts
+pub mod Shallow
+pub mod Follows
+pub mod Exact

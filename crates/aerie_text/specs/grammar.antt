@@ -1,0 +1,6 @@
+pub mod Forms
+pub mod Expansions
+pub mod Readings
+pub mod LazyReadings
+pub mod Lookahead
+pub mod Predictive
