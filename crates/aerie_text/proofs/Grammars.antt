@@ -2,3 +2,4 @@ pub mod Starts
 pub mod Shallow
 pub mod Follows
 pub mod Exact
+pub mod Choices
