@@ -3,3 +3,4 @@ pub mod Shallow
 pub mod Follows
 pub mod Exact
 pub mod Choices
+pub mod Parsing

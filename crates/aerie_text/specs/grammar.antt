@@ -4,3 +4,5 @@ pub mod Readings
 pub mod LazyReadings
 pub mod Lookahead
 pub mod Predictive
+pub mod Parsing
+pub mod Verdicts

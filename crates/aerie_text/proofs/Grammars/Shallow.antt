@@ -25,7 +25,7 @@ module _ {Rule Sort Token : Type 0} (look : Lookahead Rule Sort Token) (ok : IsP
   inside_all f h (either a b) = let i = inside_all f h a in let j = inside_all f h b in grind arith
   inside_all f h (many a) = inside_all f h a
 
-  shallow_all : (d : ℕ) → ((r : Rule) → IsTrue (shallow look d (rule r))) → (a : Form Rule Sort) → IsTrue (shallow look d a)
+  pub shallow_all : (d : ℕ) → ((r : Rule) → IsTrue (shallow look d (rule r))) → (a : Form Rule Sort) → IsTrue (shallow look d a)
   shallow_all zero h a = inside_all (λ r. false) h a
   shallow_all (suc d) h a = inside_all (λ r. shallow look d (look.grammar.form r)) h a
 
@@ -101,3 +101,40 @@ module _ {Rule Sort Token : Type 0} (look : Lookahead Rule Sort Token) (ok : IsP
       by_tests true q w u n = never_into look.openings k x xs (shallow_all look.openings ok.shallow_rule x) q u
       by_tests false q true u n = n u
       by_tests false q false u n = cc
+
+  -- ---- one more opening than is needed changes nothing
+
+  alike_inside : (f : Rule → Bool) (h i : Rule → Stack → Token → Ahead Rule Sort) (k : Token) → ((r : Rule) (xs : Stack) → IsTrue (f r) → IsTrue (look.begins r k) → h r xs k ≡ i r xs k)
+      → (a : Form Rule Sort) (xs : Stack) → IsTrue (shallow_inside look f a) → IsTrue (begins look a k) → inside look h a xs k ≡ inside look i a xs k
+  alike_inside f h i k e (token t) xs s b = refl
+  alike_inside f h i k e (rule r) xs s b = e r xs s b
+  alike_inside f h i k e nothing xs s b = cc
+  alike_inside f h i k e (both a c) xs s b = by_first (begins look a k) refl
+      (λ q. alike_inside f h i k e a (c ∷ xs) (and_front (shallow_inside look f a) _ s) q)
+      (λ q t. alike_inside f h i k e c xs t q)
+    where
+      by_first : (v : Bool) → begins look a k ≡ v
+          → (IsTrue (begins look a k) → inside look h a (c ∷ xs) k ≡ inside look i a (c ∷ xs) k)
+          → (IsTrue (begins look c k) → IsTrue (shallow_inside look f c) → inside look h c xs k ≡ inside look i c xs k)
+          → when v (inside look h a (c ∷ xs) k) (inside look h c xs k) ≡ when v (inside look i a (c ∷ xs) k) (inside look i c xs k)
+      by_first true q l r = l q
+      by_first false q l r =
+          let t : IsTrue (not (empty look a) || shallow_inside look f c) = and_back (shallow_inside look f a) _ s in
+          let bc : IsTrue (begins look c k) = grind arith in
+          let ea : IsTrue (empty look a) = grind arith in
+          r bc (grind arith)
+  alike_inside f h i k e (either a c) xs s b = by_first (begins look a k) refl
+      (λ q. alike_inside f h i k e a xs (and_front (shallow_inside look f a) _ s) q)
+      (λ q. alike_inside f h i k e c xs (and_back (shallow_inside look f a) (shallow_inside look f c) s) q)
+    where
+      by_first : (v : Bool) → begins look a k ≡ v
+          → (IsTrue (begins look a k) → inside look h a xs k ≡ inside look i a xs k)
+          → (IsTrue (begins look c k) → inside look h c xs k ≡ inside look i c xs k)
+          → when v (inside look h a xs k) (inside look h c xs k) ≡ when v (inside look i a xs k) (inside look i c xs k)
+      by_first true q l r = l q
+      by_first false q l r = r (grind arith)
+  alike_inside f h i k e (many a) xs s b = alike_inside f h i k e a (many a ∷ xs) s b
+
+  pub same_inside : (d : ℕ) (k : Token) (a : Form Rule Sort) (xs : Stack) → IsTrue (shallow look d a) → IsTrue (begins look a k) → into look d a xs k ≡ into look (suc d) a xs k
+  same_inside zero k a xs s b = alike_inside (λ r. false) _ _ k (λ r us f q. cc) a xs s b
+  same_inside (suc d) k a xs s b = alike_inside (λ r. shallow look d (look.grammar.form r)) _ _ k (λ r us f q. same_inside d k (look.grammar.form r) us f (ok.rule_begins r k q)) a xs s b

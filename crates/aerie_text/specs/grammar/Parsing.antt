@@ -1,0 +1,17 @@
+-- What a reader of one form does, whatever is still to be read behind it.
+use Rattle.std.specs.Prelude.{◌≡◌, List, [], ◌∷◌}
+use Rattle.aerie_text.specs.grammar.Forms.{Form, many}
+use Rattle.aerie_text.specs.grammar.Lookahead.{Lookahead, answer, stops}
+
+module _ {Rule Sort Token : Type 0} (look : Lookahead Rule Sort Token) where
+  -- the form is read: reading goes on with the rest of the tokens
+  pub record Reads (a : Form Rule Sort) (tokens rest : List Token) : Type 0 where
+    pub onward : (xs : List (Form Rule Sort)) → answer look (a ∷ xs) tokens ≡ answer look xs rest
+
+  -- the form is not read: reading stops before the rest of the tokens
+  pub record Stops (a : Form Rule Sort) (tokens rest : List Token) : Type 0 where
+    pub here : (xs : List (Form Rule Sort)) → answer look (a ∷ xs) tokens ≡ stops rest
+
+  -- some turns of the form are read, and reading goes on with the rest of the tokens and the further turns
+  pub record Turns (a : Form Rule Sort) (tokens rest : List Token) : Type 0 where
+    pub onward : (xs : List (Form Rule Sort)) → answer look (many a ∷ xs) tokens ≡ answer look (many a ∷ xs) rest
