@@ -4,3 +4,4 @@ pub mod Follows
 pub mod Exact
 pub mod Choices
 pub mod Parsing
+pub mod Verdicts
