@@ -6,3 +6,5 @@ pub mod Lookahead
 pub mod Predictive
 pub mod Parsing
 pub mod Verdicts
+pub mod WordLists
+pub mod WordListsCases

@@ -2,7 +2,7 @@
 -- a repetition.
 use Rattle.std.proofs.Common.{◌≡◌, ℕ, zero, suc, Bool, true, false, not, ◌&&◌, ◌||◌, List, [], ◌∷◌, IsTrue, refl, ap, sym, ◌∙◌, arith, cond}
 use Rattle.aerie_text.specs.grammar.Forms.{Form, token, rule, nothing, both, either, many, option, Grammar}
-use Rattle.aerie_text.specs.grammar.Lookahead.{Lookahead, Ahead, refused, unfinished, remains, when, empty, begins, inside, into, next, Answer, whole, stops, go_on, all_empty, at_end, answer}
+use Rattle.aerie_text.specs.grammar.Lookahead.{Lookahead, Ahead, refused, unfinished, remains, when, empty, begins, begins_at, inside, into, next, Answer, whole, stops, go_on, all_empty, at_end, answer}
 use Rattle.aerie_text.specs.grammar.Predictive.{IsPredictive, shallow, shallow_inside}
 use Rattle.aerie_text.specs.grammar.Parsing.{Reads, Stops, Turns}
 use Rattle.aerie_text.proofs.Grammars.Shallow.{shallow_all, same_inside}
@@ -54,8 +54,8 @@ module _ {Rule Sort Token : Type 0} (look : Lookahead Rule Sort Token) where
   answer_token : (t : Sort) (xs : Stack) (k : Token) (ts : List Token) → IsTrue (look.grammar.fits t k) → answer look (token t ∷ xs) (k ∷ ts) ≡ answer look xs ts
   answer_token t xs k ts h = rw (h, into_token look.openings t xs k) refl
 
-  pub token_reads : (t : Sort) (k : Token) (ts : List Token) → IsTrue (look.grammar.fits t k) → Reads look (token t) (k ∷ ts) ts
-  token_reads t k ts h = record { onward = λ xs. answer_token t xs k ts h }
+  pub token_read : (t : Sort) (k : Token) (ts : List Token) → IsTrue (look.grammar.fits t k) → Reads look (token t) (k ∷ ts) ts
+  token_read t k ts h = record { onward = λ xs. answer_token t xs k ts h }
 
   pub token_stops : (t : Sort) (k : Token) (ts : List Token) → look.grammar.fits t k ≡ false → Stops look (token t) (k ∷ ts) (k ∷ ts)
   token_stops t k ts h = record { here = λ xs. rw h refl }
@@ -65,9 +65,9 @@ module _ {Rule Sort Token : Type 0} (look : Lookahead Rule Sort Token) where
 
   -- ---- nothing
 
-  pub nothing_reads : (ts : List Token) → Reads look nothing ts ts
-  nothing_reads [] = record { onward = λ xs. refl }
-  nothing_reads (k ∷ ts) = record { onward = λ xs. refl }
+  pub nothing_read : (ts : List Token) → Reads look nothing ts ts
+  nothing_read [] = record { onward = λ xs. refl }
+  nothing_read (k ∷ ts) = record { onward = λ xs. refl }
 
   -- ---- one form and then another
 
@@ -87,75 +87,71 @@ module _ {Rule Sort Token : Type 0} (look : Lookahead Rule Sort Token) where
 
   -- ---- one of two forms
 
-  answer_first : (a b : Form Rule Sort) (xs : Stack) (k : Token) (ts : List Token) → IsTrue (begins look a k) → answer look (either a b ∷ xs) (k ∷ ts) ≡ answer look (a ∷ xs) (k ∷ ts)
-  answer_first a b xs k ts h = by_next (either a b ∷ xs) (a ∷ xs) k ts (rw (into_either look.openings a b xs k, h) refl)
+  answer_first : (a b : Form Rule Sort) (xs : Stack) (ts : List Token) → IsTrue (begins_at look a ts) → answer look (either a b ∷ xs) ts ≡ answer look (a ∷ xs) ts
+  answer_first a b xs [] h = cc
+  answer_first a b xs (k ∷ ts) h = by_next (either a b ∷ xs) (a ∷ xs) k ts (rw (into_either look.openings a b xs k, h) refl)
 
-  -- the second form is tried where the first neither begins with the token nor may be empty
-  answer_second : (a b : Form Rule Sort) (xs : Stack) (k : Token) (ts : List Token) → begins look a k ≡ false → empty look a ≡ false → answer look (either a b ∷ xs) (k ∷ ts) ≡ answer look (b ∷ xs) (k ∷ ts)
-  answer_second a b xs k ts h i = by_next (either a b ∷ xs) (b ∷ xs) k ts (rw (into_either look.openings a b xs k, h, i) refl)
+  answer_second : (a b : Form Rule Sort) (xs : Stack) (ts : List Token) → begins_at look a ts ≡ false → empty look a ≡ false → answer look (either a b ∷ xs) ts ≡ answer look (b ∷ xs) ts
+  answer_second a b xs [] h i = rw i refl
+  answer_second a b xs (k ∷ ts) h i = by_next (either a b ∷ xs) (b ∷ xs) k ts (rw (into_either look.openings a b xs k, h, i) refl)
 
-  pub first_reads : (a b : Form Rule Sort) (k : Token) (ts rest : List Token) → IsTrue (begins look a k) → Reads look a (k ∷ ts) rest → Reads look (either a b) (k ∷ ts) rest
-  first_reads a b k ts rest h i = record { onward = λ xs. answer_first a b xs k ts h ∙ i.onward xs }
+  -- the first form is chosen where it begins with the next token
+  pub first_read : (a b : Form Rule Sort) (ts rest : List Token) → IsTrue (begins_at look a ts) → Reads look a ts rest → Reads look (either a b) ts rest
+  first_read a b ts rest h i = record { onward = λ xs. answer_first a b xs ts h ∙ i.onward xs }
 
-  pub first_chosen_stops : (a b : Form Rule Sort) (k : Token) (ts rest : List Token) → IsTrue (begins look a k) → Stops look a (k ∷ ts) rest → Stops look (either a b) (k ∷ ts) rest
-  first_chosen_stops a b k ts rest h i = record { here = λ xs. answer_first a b xs k ts h ∙ i.here xs }
+  pub first_chosen_stops : (a b : Form Rule Sort) (ts rest : List Token) → IsTrue (begins_at look a ts) → Stops look a ts rest → Stops look (either a b) ts rest
+  first_chosen_stops a b ts rest h i = record { here = λ xs. answer_first a b xs ts h ∙ i.here xs }
 
-  pub second_reads : (a b : Form Rule Sort) (k : Token) (ts rest : List Token) → begins look a k ≡ false → empty look a ≡ false → Reads look b (k ∷ ts) rest → Reads look (either a b) (k ∷ ts) rest
-  second_reads a b k ts rest h e i = record { onward = λ xs. answer_second a b xs k ts h e ∙ i.onward xs }
+  -- the second form is chosen where the first neither begins with the next token nor may be empty
+  pub second_read : (a b : Form Rule Sort) (ts rest : List Token) → begins_at look a ts ≡ false → empty look a ≡ false → Reads look b ts rest → Reads look (either a b) ts rest
+  second_read a b ts rest h e i = record { onward = λ xs. answer_second a b xs ts h e ∙ i.onward xs }
 
-  pub second_chosen_stops : (a b : Form Rule Sort) (k : Token) (ts rest : List Token) → begins look a k ≡ false → empty look a ≡ false → Stops look b (k ∷ ts) rest → Stops look (either a b) (k ∷ ts) rest
-  second_chosen_stops a b k ts rest h e i = record { here = λ xs. answer_second a b xs k ts h e ∙ i.here xs }
-
-  -- a choice of two forms that are not empty, at the end of the tokens
-  pub choice_ends : (a b : Form Rule Sort) → empty look a ≡ false → empty look b ≡ false → Stops look (either a b) [] []
-  choice_ends a b h i = record { here = λ xs. rw (h, i) refl }
+  pub second_chosen_stops : (a b : Form Rule Sort) (ts rest : List Token) → begins_at look a ts ≡ false → empty look a ≡ false → Stops look b ts rest → Stops look (either a b) ts rest
+  second_chosen_stops a b ts rest h e i = record { here = λ xs. answer_second a b xs ts h e ∙ i.here xs }
 
   -- ---- an option
 
-  pub option_reads : (a : Form Rule Sort) (k : Token) (ts rest : List Token) → IsTrue (begins look a k) → Reads look a (k ∷ ts) rest → Reads look (option a) (k ∷ ts) rest
-  option_reads a k ts rest h i = first_reads a nothing k ts rest h i
+  -- the option is taken where it begins with the next token
+  pub option_read : (a : Form Rule Sort) (ts rest : List Token) → IsTrue (begins_at look a ts) → Reads look a ts rest → Reads look (option a) ts rest
+  option_read a ts rest h i = first_read a nothing ts rest h i
 
-  pub option_stops : (a : Form Rule Sort) (k : Token) (ts rest : List Token) → IsTrue (begins look a k) → Stops look a (k ∷ ts) rest → Stops look (option a) (k ∷ ts) rest
-  option_stops a k ts rest h i = first_chosen_stops a nothing k ts rest h i
+  pub option_stops : (a : Form Rule Sort) (ts rest : List Token) → IsTrue (begins_at look a ts) → Stops look a ts rest → Stops look (option a) ts rest
+  option_stops a ts rest h i = first_chosen_stops a nothing ts rest h i
 
   or_true : (e : Bool) → (e || true) ≡ true
   or_true true = refl
   or_true false = refl
 
-  or_false : (e : Bool) → (e || false) ≡ e
-  or_false true = refl
-  or_false false = refl
-
-  -- the option is left where the next token does not begin it
-  pub option_left : (a : Form Rule Sort) (k : Token) (ts : List Token) → begins look a k ≡ false → Reads look (option a) (k ∷ ts) (k ∷ ts)
-  option_left a k ts h = record { onward = λ xs. by_next (option a ∷ xs) xs k ts (rw (h, or_true (empty look a)) refl) }
-
-  pub option_ends : (a : Form Rule Sort) → Reads look (option a) [] []
-  option_ends a = record { onward = λ xs. rw (or_true (empty look a)) refl }
+  -- the option is left where it does not begin with the next token
+  pub option_left : (a : Form Rule Sort) (ts : List Token) → begins_at look a ts ≡ false → Reads look (option a) ts ts
+  option_left a [] h = record { onward = λ xs. rw (or_true (empty look a)) refl }
+  option_left a (k ∷ ts) h = record { onward = λ xs. by_next (option a ∷ xs) xs k ts (rw (h, or_true (empty look a)) refl) }
 
   -- ---- a repetition
 
-  answer_turn : (a : Form Rule Sort) (xs : Stack) (k : Token) (ts : List Token) → IsTrue (begins look a k) → answer look (many a ∷ xs) (k ∷ ts) ≡ answer look (a ∷ many a ∷ xs) (k ∷ ts)
-  answer_turn a xs k ts h = by_next (many a ∷ xs) (a ∷ many a ∷ xs) k ts (rw (into_many look.openings a xs k, h) refl)
+  answer_turn : (a : Form Rule Sort) (xs : Stack) (ts : List Token) → IsTrue (begins_at look a ts) → answer look (many a ∷ xs) ts ≡ answer look (a ∷ many a ∷ xs) ts
+  answer_turn a xs [] h = cc
+  answer_turn a xs (k ∷ ts) h = by_next (many a ∷ xs) (a ∷ many a ∷ xs) k ts (rw (into_many look.openings a xs k, h) refl)
+
+  answer_over : (a : Form Rule Sort) (xs : Stack) (ts : List Token) → begins_at look a ts ≡ false → answer look (many a ∷ xs) ts ≡ answer look xs ts
+  answer_over a xs [] h = refl
+  answer_over a xs (k ∷ ts) h = by_next (many a ∷ xs) xs k ts (rw h refl)
 
   -- before the first turn
   pub turns_begin : (a : Form Rule Sort) (ts : List Token) → Turns look a ts ts
   turns_begin a ts = record { onward = λ xs. refl }
 
-  -- one more turn, where the next token begins one
-  pub turns_more : (a : Form Rule Sort) (all : List Token) (k : Token) (ts rest : List Token) → Turns look a all (k ∷ ts) → IsTrue (begins look a k) → Reads look a (k ∷ ts) rest → Turns look a all rest
-  turns_more a all k ts rest t h i = record { onward = λ xs. t.onward xs ∙ answer_turn a xs k ts h ∙ i.onward (many a ∷ xs) }
+  -- one more turn, where the form begins with the next token
+  pub turns_more : (a : Form Rule Sort) (all ts rest : List Token) → Turns look a all ts → IsTrue (begins_at look a ts) → Reads look a ts rest → Turns look a all rest
+  turns_more a all ts rest t h i = record { onward = λ xs. t.onward xs ∙ answer_turn a xs ts h ∙ i.onward (many a ∷ xs) }
 
   -- reading stops in a turn
-  pub turns_stop : (a : Form Rule Sort) (all : List Token) (k : Token) (ts rest : List Token) → Turns look a all (k ∷ ts) → IsTrue (begins look a k) → Stops look a (k ∷ ts) rest → Stops look (many a) all rest
-  turns_stop a all k ts rest t h i = record { here = λ xs. t.onward xs ∙ answer_turn a xs k ts h ∙ i.here (many a ∷ xs) }
+  pub turns_stop : (a : Form Rule Sort) (all ts rest : List Token) → Turns look a all ts → IsTrue (begins_at look a ts) → Stops look a ts rest → Stops look (many a) all rest
+  turns_stop a all ts rest t h i = record { here = λ xs. t.onward xs ∙ answer_turn a xs ts h ∙ i.here (many a ∷ xs) }
 
-  -- the repetition is over where the next token begins no turn
-  pub turns_over : (a : Form Rule Sort) (all : List Token) (k : Token) (ts : List Token) → Turns look a all (k ∷ ts) → begins look a k ≡ false → Reads look (many a) all (k ∷ ts)
-  turns_over a all k ts t h = record { onward = λ xs. t.onward xs ∙ by_next (many a ∷ xs) xs k ts (rw h refl) }
-
-  pub turns_end : (a : Form Rule Sort) (all : List Token) → Turns look a all [] → Reads look (many a) all []
-  turns_end a all t = record { onward = λ xs. t.onward xs }
+  -- the repetition is over where the form does not begin with the next token
+  pub turns_over : (a : Form Rule Sort) (all ts : List Token) → Turns look a all ts → begins_at look a ts ≡ false → Reads look (many a) all ts
+  turns_over a all ts t h = record { onward = λ xs. t.onward xs ∙ answer_over a xs ts h }
 
   -- ---- a rule
 
@@ -178,8 +174,8 @@ module _ {Rule Sort Token : Type 0} (look : Lookahead Rule Sort Token) where
             let i : begins look (look.grammar.form r) k ≡ false = sym e ∙ h in
             rw (h, i, f) refl
 
-    pub rule_reads : (r : Rule) (ts rest : List Token) → Reads look (look.grammar.form r) ts rest → Reads look (rule r) ts rest
-    rule_reads r ts rest h = record { onward = λ xs. answer_rule r xs ts ∙ h.onward xs }
+    pub rule_read : (r : Rule) (ts rest : List Token) → Reads look (look.grammar.form r) ts rest → Reads look (rule r) ts rest
+    rule_read r ts rest h = record { onward = λ xs. answer_rule r xs ts ∙ h.onward xs }
 
     pub rule_stops : (r : Rule) (ts rest : List Token) → Stops look (look.grammar.form r) ts rest → Stops look (rule r) ts rest
     rule_stops r ts rest h = record { here = λ xs. answer_rule r xs ts ∙ h.here xs }

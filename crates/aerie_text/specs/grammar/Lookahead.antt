@@ -58,6 +58,11 @@ module _ {Rule Sort Token : Type 0} (look : Lookahead Rule Sort Token) where
   begins (either a b) k = begins a k || begins b k
   begins (many a) k = begins a k
 
+  -- a form may begin with the next token; at the end there is none
+  abbrev pub begins_at : Form Rule Sort → List Token → Bool
+  begins_at a [] = false
+  begins_at a (k ∷ ts) = begins a k
+
   -- what is left to be read may begin with a token
   abbrev pub list_begins : List (Form Rule Sort) → Token → Bool
   list_begins [] k = false
