@@ -5,3 +5,4 @@ pub mod Exact
 pub mod Choices
 pub mod Parsing
 pub mod Verdicts
+pub mod WordLists

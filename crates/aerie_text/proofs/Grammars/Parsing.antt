@@ -1,10 +1,11 @@
 -- What a hand-written reader of a form needs: how reading goes through a token, a rule, a sequence, a choice, an option and
 -- a repetition.
-use Rattle.std.proofs.Common.{◌≡◌, ℕ, zero, suc, Bool, true, false, not, ◌&&◌, ◌||◌, List, [], ◌∷◌, IsTrue, refl, ap, sym, ◌∙◌, arith, cond}
+use Rattle.std.proofs.Common.{◌≡◌, ℕ, zero, suc, Bool, true, false, not, ◌&&◌, ◌||◌, List, [], ◌∷◌, IsTrue, refl, ap, sym, ◌∙◌, arith, cond, Result, Ok, Err}
+use denote.Bor.{Bor}
 use Rattle.aerie_text.specs.grammar.Forms.{Form, token, rule, nothing, both, either, many, option, Grammar}
 use Rattle.aerie_text.specs.grammar.Lookahead.{Lookahead, Ahead, refused, unfinished, remains, when, empty, begins, begins_at, inside, into, next, Answer, whole, stops, go_on, all_empty, at_end, answer}
 use Rattle.aerie_text.specs.grammar.Predictive.{IsPredictive, shallow, shallow_inside}
-use Rattle.aerie_text.specs.grammar.Parsing.{Reads, Stops, Turns}
+use Rattle.aerie_text.specs.grammar.Parsing.{Reads, Stops, Turns, Parses}
 use Rattle.aerie_text.proofs.Grammars.Shallow.{shallow_all, same_inside}
 
 -- of two tests and what each leads to
@@ -84,6 +85,16 @@ module _ {Rule Sort Token : Type 0} (look : Lookahead Rule Sort Token) where
 
   pub first_stops : (a b : Form Rule Sort) (ts rest : List Token) → Stops look a ts rest → Stops look (both a b) ts rest
   first_stops a b ts rest h = record { here = λ xs. answer_both a b xs ts ∙ h.here (b ∷ xs) }
+
+  -- a sequence begins with the tokens with which its first form begins
+  pub begins_both : (a b : Form Rule Sort) (ts : List Token) → IsTrue (begins_at look a ts) → IsTrue (begins_at look (both a b) ts)
+  begins_both a b [] h = h
+  begins_both a b (k ∷ ts) h = rw h refl
+
+  -- a sequence whose first form is not empty begins with no other token
+  pub begins_not_both : (a b : Form Rule Sort) (ts : List Token) → begins_at look a ts ≡ false → empty look a ≡ false → begins_at look (both a b) ts ≡ false
+  begins_not_both a b [] h e = h
+  begins_not_both a b (k ∷ ts) h e = rw (h, e) refl
 
   -- ---- one of two forms
 
@@ -179,3 +190,21 @@ module _ {Rule Sort Token : Type 0} (look : Lookahead Rule Sort Token) where
 
     pub rule_stops : (r : Rule) (ts rest : List Token) → Stops look (look.grammar.form r) ts rest → Stops look (rule r) ts rest
     rule_stops r ts rest h = record { here = λ xs. answer_rule r xs ts ∙ h.here xs }
+
+    pub rule_parsed : (r : Rule) (ts : List Token) (result : Result (Bor (List Token)) (Bor (List Token))) → Parses look (look.grammar.form r) ts result → Parses look (rule r) ts result
+    rule_parsed r ts (Ok rest) h = rule_read r ts rest.now h
+    rule_parsed r ts (Err rest) h = rule_stops r ts rest.now h
+
+  -- ---- the same of what a reader over a slice answers
+
+  pub second_parsed : (a b : Form Rule Sort) (ts middle : List Token) (result : Result (Bor (List Token)) (Bor (List Token))) → Reads look a ts middle → Parses look b middle result → Parses look (both a b) ts result
+  second_parsed a b ts middle (Ok rest) h i = both_read a b ts middle rest.now h i
+  second_parsed a b ts middle (Err rest) h i = second_stops a b ts middle rest.now h i
+
+  pub first_chosen : (a b : Form Rule Sort) (ts : List Token) (result : Result (Bor (List Token)) (Bor (List Token))) → IsTrue (begins_at look a ts) → Parses look a ts result → Parses look (either a b) ts result
+  first_chosen a b ts (Ok rest) h i = first_read a b ts rest.now h i
+  first_chosen a b ts (Err rest) h i = first_chosen_stops a b ts rest.now h i
+
+  pub second_chosen : (a b : Form Rule Sort) (ts : List Token) (result : Result (Bor (List Token)) (Bor (List Token))) → begins_at look a ts ≡ false → empty look a ≡ false → Parses look b ts result → Parses look (either a b) ts result
+  second_chosen a b ts (Ok rest) h e i = second_read a b ts rest.now h e i
+  second_chosen a b ts (Err rest) h e i = second_chosen_stops a b ts rest.now h e i
