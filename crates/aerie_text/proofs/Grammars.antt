@@ -6,3 +6,5 @@ pub mod Choices
 pub mod Parsing
 pub mod Verdicts
 pub mod WordLists
+pub mod Alternatives
+pub mod Alike

@@ -6,5 +6,7 @@ pub mod Lookahead
 pub mod Predictive
 pub mod Parsing
 pub mod Verdicts
+pub mod Alternatives
+pub mod Alike
 pub mod WordLists
 pub mod WordListsCases
