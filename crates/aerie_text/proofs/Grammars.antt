@@ -8,3 +8,4 @@ pub mod Verdicts
 pub mod WordLists
 pub mod Alternatives
 pub mod Alike
+pub mod Levels
