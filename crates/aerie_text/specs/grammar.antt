@@ -12,3 +12,4 @@ pub mod Levels
 pub mod LevelsCases
 pub mod WordLists
 pub mod WordListsCases
+pub mod WordListsVerdict

@@ -5,6 +5,7 @@ ghost use Rattle.aerie_text.specs.grammar.Forms.{rule, token, both, many, option
 ghost use Rattle.aerie_text.specs.grammar.Lookahead.{begins_at};
 ghost use Rattle.aerie_text.specs.grammar.Parsing.{Parses, Reads};
 ghost use Rattle.aerie_text.specs.grammar.WordLists.{list_rule, item_rule, flag_class, equals_class, word_class, close_class, meaning_form, item_form, class_of, words};
+ghost use Rattle.aerie_text.specs.grammar.WordListsVerdict.{IsVerdict, place_before};
 
 const OPEN: u8 = 0;
 const CLOSE: u8 = 1;
@@ -20,6 +21,15 @@ pub enum Mark {
     Flag,
     Equals,
     Word,
+}
+
+/// Where tokens are refused that should be a list of words.
+#[derive(Clone, Copy, Debug)]
+pub enum Refusal {
+    /// At the token of this number, counted from 0.
+    At(usize),
+    /// Behind the last token.
+    AtEnd,
 }
 
 impl Mark {
@@ -155,4 +165,32 @@ fn list(marks: &[Mark]) -> Result<&[Mark], &[Mark]>
     let inside = take(marks, OPEN)?;
     let behind = items(flag(inside))?;
     take(behind, CLOSE)
+}
+
+/// The place before which reading stopped.
+fn place_before(marks: &[Mark], rest: &[Mark]) -> Refusal
+    requires { length rest.now ≤ length marks.now }
+    ensures { result ≡ place_before marks.now rest.now }
+{
+    if rest.is_empty() {
+        Refusal::AtEnd
+    } else {
+        Refusal::At(marks.len() - rest.len())
+    }
+}
+
+/// The first token that is refused, or the end, where the tokens are no list of words.
+pub fn first_refusal(marks: &[Mark]) -> Option<Refusal>
+    ensures { IsVerdict marks.now result }
+{
+    match list(marks) {
+        Ok(rest) => {
+            if rest.is_empty() {
+                None
+            } else {
+                Some(place_before(marks, rest))
+            }
+        }
+        Err(rest) => Some(place_before(marks, rest)),
+    }
 }
