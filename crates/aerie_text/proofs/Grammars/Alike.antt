@@ -1,12 +1,12 @@
 -- Grammars that read the same tokens: forms with the same expansions, and forms that are given rules of their own.
-use Rattle.std.proofs.Common.{◌≡◌, ℕ, zero, suc, ◌<◌, ◌+◌, Bool, true, false, List, [], ◌∷◌, ◌++◌, IsTrue, refl, sym, ap, ◌∙◌, arith, subst, inl, inr, ◌⊎◌, length}
+use Rattle.std.proofs.Common.{◌≡◌, ℕ, zero, suc, ◌<◌, ◌+◌, Bool, true, false, List, [], ◌∷◌, ◌++◌, refl, sym, ap, ◌∙◌, arith, subst, inl, inr, ◌⊎◌, length}
 use Rattle.aerie_text.specs.grammar.Forms.{Form, token, rule, nothing, both, either, many, Grammar}
-use Rattle.aerie_text.specs.grammar.Expansions.{Symbol, terminal, nonterminal}
-use Rattle.aerie_text.specs.grammar.Readings.{Reading, stops, reads, replaces, IsReadable, IsRead, IsRefusedAt, IsRefusedAtEnd}
+use Rattle.aerie_text.specs.grammar.Expansions.{Symbol, nonterminal}
+use Rattle.aerie_text.specs.grammar.Readings.{Reading, stops, reads, replaces, IsRefusedAt, IsRefusedAtEnd}
 use Rattle.aerie_text.specs.grammar.LazyReadings.{Goes, stop, read, open_rule, pass, in_turn, first_of_two, second_of_two, no_more, once_more, LazyReading}
 use Rattle.aerie_text.specs.grammar.Lookahead as lookahead
 use Rattle.aerie_text.specs.grammar.Lookahead.{Answer, whole}
-use Rattle.aerie_text.specs.grammar.Verdicts.{IsRefusedBefore, Tells}
+use Rattle.aerie_text.specs.grammar.Verdicts.{Tells}
 use Rattle.aerie_text.specs.grammar.Alternatives.{SameExpansions}
 use Rattle.aerie_text.specs.grammar.Alike.{AreAlike, rewritten, is_rule, StandsFor, named, inlined, IsNamed}
 use Rattle.aerie_text.proofs.Grammars.Choices.{readable_lazily, readable_at_once, read_lazily, read_at_once}
@@ -29,7 +29,8 @@ module _ {Rule Sort Token : Type 0} (g h : Grammar Rule Sort Token) (same_fits :
     readable = λ ts i. record { left = i.left; reading = across (nonterminal r ∷ []) ts i.left i.reading };
     readable_back = λ ts i. record { left = i.left; reading = across_back (nonterminal r ∷ []) ts i.left i.reading };
     read = λ ts i. record { reading = across (nonterminal r ∷ []) ts [] i.reading };
-    read_back = λ ts i. record { reading = across_back (nonterminal r ∷ []) ts [] i.reading } }
+    read_back = λ ts i. record { reading = across_back (nonterminal r ∷ []) ts [] i.reading };
+  }
 
 -- ---- forms that are given rules of their own
 
@@ -92,11 +93,12 @@ module _ {Rule Other Sort Token : Type 0} (h : Grammar Other Sort Token) (g : Gr
   above_rule b n r xs l ts zs (named s e f) i go =
       let j : Goes g n (rule s ∷ all_rewritten xs) ts zs = subst (λ (x : Form Rule Sort). Goes g n (x ∷ all_rewritten xs) ts zs) e i in
       elim (open_named s n (all_rewritten xs) ts zs j) [
-        inl k ↦ (rule r ∷ xs, subst (λ (x : List Token). LazyReading h (rule r ∷ xs) x (rule r ∷ xs)) (sym k.0) (0, stop), k.1 ∙ ap (λ (x : Form Rule Sort). x ∷ all_rewritten xs) (sym e))
-      | inr k ↦ (
-          let small = heads_small (h.form r ∷ xs) in
-          let u = go k.0 (omega (arith, k.1, l, small)) (subst (λ (x : Form Rule Sort). Goes g k.0 (x ∷ all_rewritten xs) ts zs) (sym f) k.2) in
-          (u.0, (suc u.1.0, open_rule u.1.1), u.2)) ]
+        | inl k ↦ (rule r ∷ xs, subst (λ (x : List Token). LazyReading h (rule r ∷ xs) x (rule r ∷ xs)) (sym k.0) (0, stop), k.1 ∙ ap (λ (x : Form Rule Sort). x ∷ all_rewritten xs) (sym e))
+        | inr k ↦ (
+            let small = heads_small (h.form r ∷ xs) in
+            let u = go k.0 (omega (arith, k.1, l, small)) (subst (λ (x : Form Rule Sort). Goes g k.0 (x ∷ all_rewritten xs) ts zs) (sym f) k.2) in
+            (u.0, (suc u.1.0, open_rule u.1.1), u.2))
+      ]
   above_rule b n r xs l ts zs (inlined e f) i go =
       let j : Goes g n (rewritten means (h.form r) ∷ all_rewritten xs) ts zs = subst (λ (x : Form Rule Sort). Goes g n (x ∷ all_rewritten xs) ts zs) e i in
       let z : heads (h.form r ∷ xs) ≡ 0 = ap of_rule f in
@@ -146,12 +148,13 @@ module _ {Rule Other Sort Token : Type 0} (h : Grammar Other Sort Token) (g : Gr
   pub alike_named : (r : Other) (s : Rule) → means r ≡ rule s → AreAlike h r g s
   alike_named r s e = record {
     readable = λ ts i. let j = readable_lazily h r ts i in let k = below j.1.0 (rule r ∷ []) ts j.0 j.1.1 in
-      readable_at_once g s ts (all_rewritten j.0) (subst (λ (x : Form Rule Sort). LazyReading g (x ∷ []) ts (all_rewritten j.0)) e k);
+        readable_at_once g s ts (all_rewritten j.0) (subst (λ (x : Form Rule Sort). LazyReading g (x ∷ []) ts (all_rewritten j.0)) e k);
     readable_back = λ ts i. let j = readable_lazily g s ts i in let k = goes_up r s e ts j.0 j.1 in readable_at_once h r ts k.0 k.1;
     read = λ ts i. let j = read_lazily h r ts i in let k = below j.0 (rule r ∷ []) ts [] j.1 in
-      read_at_once g s ts (subst (λ (x : Form Rule Sort). LazyReading g (x ∷ []) ts []) e k);
+        read_at_once g s ts (subst (λ (x : Form Rule Sort). LazyReading g (x ∷ []) ts []) e k);
     read_back = λ ts i. let j = read_lazily g s ts i in let k = goes_up r s e ts [] j in
-      read_at_once h r ts (subst (λ (w : List (Form Other Sort)). LazyReading h (rule r ∷ []) ts w) (none_rewritten k.0 k.2) k.1) }
+        read_at_once h r ts (subst (λ (w : List (Form Other Sort)). LazyReading h (rule r ∷ []) ts w) (none_rewritten k.0 k.2) k.1);
+  }
 
 -- ---- alike grammars refuse the same
 
@@ -177,4 +180,5 @@ module _ {Rule Other Third Sort Token : Type 0} (g : Grammar Rule Sort Token) (s
     readable = λ ts k. j.readable ts (i.readable ts k);
     readable_back = λ ts k. i.readable_back ts (j.readable_back ts k);
     read = λ ts k. j.read ts (i.read ts k);
-    read_back = λ ts k. i.read_back ts (j.read_back ts k) }
+    read_back = λ ts k. i.read_back ts (j.read_back ts k);
+  }

@@ -58,8 +58,9 @@ module _ {Rule Sort : Type 0} where
       → (vs : List (Symbol Rule Sort)) × (ws : List (Symbol Rule Sort)) × AnyExpands xss vs × AnyExpands yss ws × (us ≡ vs ++ ws)
   joined_any [] yss us h = absurd h
   joined_any (xs ∷ xss) yss us h = elim (any_cases (map (λ ys. xs ++ ys) yss) (joined xss yss) us h) [
-      inl i ↦ (let j = map_any xs yss us i in (j.0, j.1, inl j.2, j.3, j.4))
-    | inr i ↦ (let j = joined_any xss yss us i in (j.0, j.1, inr j.2, j.3, j.4)) ]
+    | inl i ↦ (let j = map_any xs yss us i in (j.0, j.1, inl j.2, j.3, j.4))
+    | inr i ↦ (let j = joined_any xss yss us i in (j.0, j.1, inr j.2, j.3, j.4))
+  ]
 
   any_single : (a : Form Rule Sort) (us : List (Symbol Rule Sort)) → IsExpansion a us → AnyExpands ((a ∷ []) ∷ []) us
   any_single a us h = inl (us, [], h, refl, sym (append-nil us))
@@ -103,7 +104,8 @@ module _ {Rule Sort : Type 0} where
   pub same_alternatives : (a b : Form Rule Sort) → SameAlternatives a b → SameExpansions a b
   same_alternatives a b h = record {
     onward = λ us e. from_alternative b us (picked_any h.in_second (alternatives b) us (subst (λ (x : List (List (Form Rule Sort))). AnyExpands x us) (sym h.onward) (to_alternative a us e)));
-    back = λ us e. from_alternative a us (picked_any h.in_first (alternatives a) us (subst (λ (x : List (List (Form Rule Sort))). AnyExpands x us) (sym h.back) (to_alternative b us e))) }
+    back = λ us e. from_alternative a us (picked_any h.in_first (alternatives a) us (subst (λ (x : List (List (Form Rule Sort))). AnyExpands x us) (sym h.back) (to_alternative b us e)));
+  }
 
   pub same_form : (a : Form Rule Sort) → SameExpansions a a
   same_form a = record { onward = λ us e. e; back = λ us e. e }

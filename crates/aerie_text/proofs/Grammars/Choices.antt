@@ -1,8 +1,8 @@
 -- Readings that choose a whole expansion at once, and readings that choose when a choice comes up, read the same tokens.
-use Rattle.std.proofs.Common.{◌≡◌, ℕ, zero, suc, List, [], ◌∷◌, ◌++◌, map, IsTrue, refl, sym, ap, ◌∙◌, subst, append_assoc, append-nil}
+use Rattle.std.proofs.Common.{◌≡◌, ℕ, suc, List, [], ◌∷◌, ◌++◌, refl, sym, ap, ◌∙◌, subst, append_assoc, append-nil}
 use Rattle.aerie_text.specs.grammar.Forms.{Form, token, rule, nothing, both, either, many, Grammar}
 use Rattle.aerie_text.specs.grammar.Expansions.{Symbol, terminal, nonterminal, IsExpansion, of_token, of_rule, of_nothing, of_both, of_first, of_second, of_no_turn, of_turn}
-use Rattle.aerie_text.specs.grammar.Readings.{Reading, stops, reads, replaces, IsReadable, IsRead, IsRefusedAt, IsRefusedAtEnd}
+use Rattle.aerie_text.specs.grammar.Readings.{Reading, stops, reads, replaces, IsReadable, IsRead}
 use Rattle.aerie_text.specs.grammar.LazyReadings.{Goes, stop, read, open_rule, pass, in_turn, first_of_two, second_of_two, no_more, once_more, LazyReading}
 
 module _ {Rule Sort : Type 0} where
@@ -88,7 +88,8 @@ module _ {Rule Sort Token : Type 0} (g : Grammar Rule Sort Token) where
       record {
         rest = xs;
         leads = λ ts zs i. subst (λ (w : Symbol Rule Sort). LazyReading g (form_of w ∷ xs) ts zs) (sym h) i;
-        behind = subst (λ (w : List (Symbol Rule Sort)). Expand xs w) t e }
+        behind = subst (λ (w : List (Symbol Rule Sort)). Expand xs w) t e;
+      }
 
   open_form : (u : Symbol Rule Sort) (us : List (Symbol Rule Sort)) (a : Form Rule Sort) (vs : List (Symbol Rule Sort)) → IsExpansion a vs → (xs : List (Form Rule Sort)) (ws : List (Symbol Rule Sort)) → Expand xs ws
       → (ws ≡ u ∷ us → Opened xs u us) → vs ++ ws ≡ u ∷ us → Opened (a ∷ xs) u us
@@ -97,13 +98,13 @@ module _ {Rule Sort Token : Type 0} (g : Grammar Rule Sort Token) where
   open_form u us _ _ of_nothing xs ws e f q = opened_more _ _ u us (λ ts zs h. (suc h.0, pass h.1)) (f q)
   open_form u us _ _ (of_both {a = a} {b = b} {us = vs} {vs = vt} h i) xs ws e f q =
       opened_more _ _ u us (λ ts zs j. (suc j.0, in_turn j.1))
-        (open_form u us a vs h (b ∷ xs) (vt ++ ws) (vt, ws, i, e, refl) (open_form u us b vt i xs ws e f) (sym (append_assoc vs vt ws) ∙ q))
+      (open_form u us a vs h (b ∷ xs) (vt ++ ws) (vt, ws, i, e, refl) (open_form u us b vt i xs ws e f) (sym (append_assoc vs vt ws) ∙ q))
   open_form u us _ _ (of_first {a = a} {us = vs} h) xs ws e f q = opened_more _ _ u us (λ ts zs j. (suc j.0, first_of_two j.1)) (open_form u us a vs h xs ws e f q)
   open_form u us _ _ (of_second {b = b} {us = vs} h) xs ws e f q = opened_more _ _ u us (λ ts zs j. (suc j.0, second_of_two j.1)) (open_form u us b vs h xs ws e f q)
   open_form u us _ _ of_no_turn xs ws e f q = opened_more _ _ u us (λ ts zs h. (suc h.0, no_more h.1)) (f q)
   open_form u us _ _ (of_turn {a = a} {us = vs} {vs = vt} h i) xs ws e f q =
       opened_more _ _ u us (λ ts zs j. (suc j.0, once_more j.1))
-        (open_form u us a vs h (many a ∷ xs) (vt ++ ws) (vt, ws, i, e, refl) (open_form u us (many a) vt i xs ws e f) (sym (append_assoc vs vt ws) ∙ q))
+      (open_form u us a vs h (many a ∷ xs) (vt ++ ws) (vt, ws, i, e, refl) (open_form u us (many a) vt i xs ws e f) (sym (append_assoc vs vt ws) ∙ q))
 
   open_forms : (u : Symbol Rule Sort) (us : List (Symbol Rule Sort)) (xs : List (Form Rule Sort)) (ws : List (Symbol Rule Sort)) → Expand xs ws → ws ≡ u ∷ us → Opened xs u us
   open_forms u us [] ws e q = cc

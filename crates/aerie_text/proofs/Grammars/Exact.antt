@@ -1,9 +1,9 @@
 -- Where the reader stops is where every reading stops.
-use Rattle.std.proofs.Common.{◌≡◌, ℕ, zero, suc, ◌<◌, ◌≤◌, ◌+◌, Bool, true, false, not, ◌&&◌, ◌||◌, List, [], ◌∷◌, ◌++◌, IsTrue, refl, sym, ap, ◌∙◌, arith, inl, inr, ◌⊎◌, subst, cond}
-use Rattle.aerie_text.specs.grammar.Forms.{Form, token, rule, nothing, both, either, many, Grammar}
-use Rattle.aerie_text.specs.grammar.LazyReadings.{Goes, stop, read, open_rule, pass, in_turn, first_of_two, second_of_two, no_more, once_more, LazyReading}
-use Rattle.aerie_text.specs.grammar.Lookahead.{Lookahead, Ahead, refused, unfinished, remains, when, empty, begins, list_begins, inside, into, next, Answer, whole, stops, go_on, all_empty, at_end, answer}
-use Rattle.aerie_text.specs.grammar.Predictive.{IsPredictive, IsDecided, AreDecided}
+use Rattle.std.proofs.Common.{◌≡◌, ℕ, zero, suc, ◌<◌, Bool, true, false, List, [], ◌∷◌, ◌++◌, IsTrue, refl, ap, arith, inl, inr, subst}
+use Rattle.aerie_text.specs.grammar.Forms.{Form, token, rule, nothing, both, either, many}
+use Rattle.aerie_text.specs.grammar.LazyReadings.{Goes, stop, open_rule, pass, in_turn, first_of_two, second_of_two, no_more, once_more, LazyReading}
+use Rattle.aerie_text.specs.grammar.Lookahead.{Lookahead, Ahead, refused, unfinished, remains, when, empty, begins, inside, into, next, Answer, whole, stops, go_on, all_empty, at_end, answer}
+use Rattle.aerie_text.specs.grammar.Predictive.{IsPredictive, AreDecided}
 use Rattle.aerie_text.proofs.Grammars.Starts.{fewer}
 use Rattle.aerie_text.proofs.Grammars.Shallow.{skipped, never}
 use Rattle.aerie_text.proofs.Grammars.Follows.{next_sound, next_follows, Follows}
@@ -105,13 +105,19 @@ module _ {Rule Sort Token : Type 0} (look : Lookahead Rule Sort Token) (ok : IsP
   after_token : (xs ys : Stack) (k : Token) (ts : List Token) → AreDecided look xs → next look look.openings xs k ≡ remains ys → (a : Answer Token) → Exact ys ts a → Exact xs (k ∷ ts) a
   after_token xs ys k ts i e whole h = next_sound look ok look.openings k ts [] xs ys e h
   after_token xs ys k ts i e (stops []) h = record {
-      front = k ∷ h.front; is = ap (λ (us : List Token). k ∷ us) h.is; left = h.left;
-      before = next_sound look ok look.openings k h.front h.left xs ys e h.before;
-      no_further = λ g. h.no_further (through xs ys k h.front [] i e g) }
+    front = k ∷ h.front;
+    is = ap (λ (us : List Token). k ∷ us) h.is;
+    left = h.left;
+    before = next_sound look ok look.openings k h.front h.left xs ys e h.before;
+    no_further = λ g. h.no_further (through xs ys k h.front [] i e g);
+  }
   after_token xs ys k ts i e (stops (j ∷ rest)) h = record {
-      front = k ∷ h.front; is = ap (λ (us : List Token). k ∷ us) h.is; left = h.left;
-      before = next_sound look ok look.openings k h.front h.left xs ys e h.before;
-      no_further = λ zs g. h.no_further zs (through xs ys k (h.front ++ (j ∷ [])) zs i e g) }
+    front = k ∷ h.front;
+    is = ap (λ (us : List Token). k ∷ us) h.is;
+    left = h.left;
+    before = next_sound look ok look.openings k h.front h.left xs ys e h.before;
+    no_further = λ zs g. h.no_further zs (through xs ys k (h.front ++ (j ∷ [])) zs i e g);
+  }
 
   refused_here : (xs : Stack) (k : Token) (ts : List Token) → AreDecided look xs → next look look.openings xs k ≡ refused → StopsAt xs (k ∷ ts) (k ∷ ts)
   refused_here xs k ts i e = record { front = []; is = refl; left = xs; before = (0, stop); no_further = λ zs g. go zs (next_follows look ok look.openings k [] zs xs g.0 i g.1) }

@@ -1,9 +1,9 @@
 -- The reader follows every reading.
-use Rattle.std.proofs.Common.{◌≡◌, ℕ, zero, suc, ◌<◌, ◌≤◌, ◌+◌, Bool, true, false, not, ◌&&◌, ◌||◌, List, [], ◌∷◌, IsTrue, refl, sym, ap, ◌∙◌, arith, inl, inr, ◌⊎◌, subst, cond}
-use Rattle.aerie_text.specs.grammar.Forms.{Form, token, rule, nothing, both, either, many, Grammar}
-use Rattle.aerie_text.specs.grammar.LazyReadings.{Goes, stop, read, open_rule, pass, in_turn, first_of_two, second_of_two, no_more, once_more, LazyReading}
+use Rattle.std.proofs.Common.{◌≡◌, ℕ, zero, suc, Bool, true, false, List, [], ◌∷◌, IsTrue, refl, sym, arith, inl, inr, ◌⊎◌, subst}
+use Rattle.aerie_text.specs.grammar.Forms.{Form, token, rule, nothing, both, either, many}
+use Rattle.aerie_text.specs.grammar.LazyReadings.{Goes, read, open_rule, in_turn, first_of_two, second_of_two, no_more, once_more, LazyReading}
 use Rattle.aerie_text.specs.grammar.Lookahead.{Lookahead, Ahead, refused, unfinished, remains, when, empty, begins, list_begins, inside, into, next}
-use Rattle.aerie_text.specs.grammar.Predictive.{IsPredictive, IsDecided, AreDecided, apart}
+use Rattle.aerie_text.specs.grammar.Predictive.{IsPredictive, AreDecided}
 use Rattle.aerie_text.proofs.Grammars.Starts.{starts, list_starts, fewer}
 use Rattle.aerie_text.proofs.Grammars.Shallow.{skipped}
 
@@ -72,8 +72,9 @@ module _ {Rule Sort Token : Type 0} (look : Lookahead Rule Sort Token) (ok : IsP
 
   starts_with : (a : Form Rule Sort) (xs : Stack) (k : Token) (ts : List Token) (zs : Stack) (n : ℕ) → Goes look.grammar n (a ∷ xs) (k ∷ ts) zs → IsTrue (begins look a k) ⊎ (IsTrue (empty look a) × Reading xs (k ∷ ts) zs × IsTrue (list_begins look xs k))
   starts_with a xs k ts zs n g = elim (starts look ok (suc n) n (omega arith) a xs k ts zs g) [
-      inl p ↦ inl p
-    | inr q ↦ inr (q.0, (q.1, q.3), list_starts look ok xs k ts zs q.1 q.3) ]
+    | inl p ↦ inl p
+    | inr q ↦ inr (q.0, (q.1, q.3), list_starts look ok xs k ts zs q.1 q.3)
+  ]
 
   -- `f` reads a rule
   abbrev pub RulesFollow : (Rule → Stack → Token → Ahead Rule Sort) → Token → List Token → Stack → Type 0

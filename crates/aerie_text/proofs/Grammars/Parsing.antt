@@ -1,12 +1,12 @@
 -- What a hand-written reader of a form needs: how reading goes through a token, a rule, a sequence, a choice, an option and
 -- a repetition.
-use Rattle.std.proofs.Common.{◌≡◌, ℕ, zero, suc, Bool, true, false, not, ◌&&◌, ◌||◌, List, [], ◌∷◌, IsTrue, refl, ap, sym, ◌∙◌, arith, cond, Result, Ok, Err}
+use Rattle.std.proofs.Common.{◌≡◌, ℕ, zero, suc, Bool, true, false, ◌&&◌, ◌||◌, List, [], ◌∷◌, IsTrue, refl, ap, sym, ◌∙◌, Result, Ok, Err}
 use denote.Bor.{Bor}
-use Rattle.aerie_text.specs.grammar.Forms.{Form, token, rule, nothing, both, either, many, option, Grammar}
-use Rattle.aerie_text.specs.grammar.Lookahead.{Lookahead, Ahead, refused, unfinished, remains, when, empty, begins, begins_at, inside, into, next, Answer, whole, stops, go_on, all_empty, at_end, answer}
-use Rattle.aerie_text.specs.grammar.Predictive.{IsPredictive, shallow, shallow_inside}
+use Rattle.aerie_text.specs.grammar.Forms.{Form, token, rule, nothing, both, either, many, option}
+use Rattle.aerie_text.specs.grammar.Lookahead.{Lookahead, Ahead, refused, remains, when, empty, begins, begins_at, into, next, stops, go_on, all_empty, at_end, answer}
+use Rattle.aerie_text.specs.grammar.Predictive.{IsPredictive, shallow}
 use Rattle.aerie_text.specs.grammar.Parsing.{Reads, Stops, Turns, Parses}
-use Rattle.aerie_text.proofs.Grammars.Shallow.{shallow_all, same_inside}
+use Rattle.aerie_text.proofs.Grammars.Shallow.{same_inside}
 
 -- of two tests and what each leads to
 two_tests : {Rule Sort : Type 0} (ba bb ea eb : Bool) (x y z : Ahead Rule Sort) → when (ba || (ea && bb)) (when ba x y) (when (ea && eb) z refused)

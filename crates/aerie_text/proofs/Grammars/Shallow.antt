@@ -1,8 +1,8 @@
 -- The reader opens finitely many rules before each token, and a form that may be empty can be passed.
-use Rattle.std.proofs.Common.{◌≡◌, ℕ, zero, suc, Bool, true, false, not, ◌&&◌, ◌||◌, List, [], ◌∷◌, IsTrue, refl, arith, inl, inr, ◌⊎◌, cond}
-use Rattle.aerie_text.specs.grammar.Forms.{Form, token, rule, nothing, both, either, many, Grammar}
-use Rattle.aerie_text.specs.grammar.LazyReadings.{Goes, open_rule, pass, in_turn, first_of_two, second_of_two, no_more, LazyReading}
-use Rattle.aerie_text.specs.grammar.Lookahead.{Lookahead, Ahead, refused, unfinished, remains, when, empty, begins, inside, into, next}
+use Rattle.std.proofs.Common.{◌≡◌, ℕ, zero, suc, Bool, true, false, not, ◌&&◌, ◌||◌, List, [], ◌∷◌, IsTrue, refl, arith}
+use Rattle.aerie_text.specs.grammar.Forms.{Form, token, rule, nothing, both, either, many}
+use Rattle.aerie_text.specs.grammar.LazyReadings.{open_rule, pass, in_turn, first_of_two, second_of_two, no_more, LazyReading}
+use Rattle.aerie_text.specs.grammar.Lookahead.{Lookahead, Ahead, refused, unfinished, when, empty, begins, inside, into, next}
 use Rattle.aerie_text.specs.grammar.Predictive.{IsPredictive, shallow, shallow_inside}
 
 and_front : (a b : Bool) → IsTrue (a && b) → IsTrue a

@@ -1,8 +1,8 @@
 -- The reader's answer is right, and each of the three verdicts excludes the others.
-use Rattle.std.proofs.Common.{◌≡◌, ℕ, zero, suc, ◌<◌, ◌≤◌, ◌+◌, min, Bool, true, false, List, [], ◌∷◌, ◌++◌, take, drop, length, IsTrue, refl, ap, sym, ◌∙◌, arith, subst, append-nil, inl, inr, ◌⊎◌}
+use Rattle.std.proofs.Common.{◌≡◌, ℕ, zero, suc, ◌<◌, ◌≤◌, ◌+◌, List, [], ◌∷◌, ◌++◌, take, drop, length, refl, ap, sym, ◌∙◌, arith, subst, append-nil, inl, inr, ◌⊎◌}
 use Rattle.std.proofs.Math.Seq.{take-append_seam, take-append-add, take-length, drop-append_seam}
 use Rattle.std.proofs.lemmas.List.{take-append-le, take-append-drop, length-append, length-take}
-use Rattle.aerie_text.specs.grammar.Forms.{Form, rule, Grammar}
+use Rattle.aerie_text.specs.grammar.Forms.{rule, Grammar}
 use Rattle.aerie_text.specs.grammar.Expansions.{Symbol, terminal, nonterminal}
 use Rattle.aerie_text.specs.grammar.Readings.{Reading, stops, reads, replaces, IsReadable, IsRead, IsRefusedAt, IsRefusedAtEnd}
 use Rattle.aerie_text.specs.grammar.LazyReadings.{LazyReading}
@@ -12,7 +12,7 @@ use Rattle.aerie_text.specs.grammar.Predictive.{IsPredictive, AreDecided}
 use Rattle.aerie_text.specs.grammar.Parsing.{Reads, Stops}
 use Rattle.aerie_text.specs.grammar.Verdicts.{IsRefusedBefore, Tells}
 use Rattle.aerie_text.proofs.Grammars.Choices.{readable_lazily, readable_at_once, read_lazily, read_at_once}
-use Rattle.aerie_text.proofs.Grammars.Exact.{Exact, StopsAt, NoFurther, exact}
+use Rattle.aerie_text.proofs.Grammars.Exact.{Exact, exact}
 
 order : (i j : ℕ) → (i < j) ⊎ ((i ≡ j) ⊎ (j < i))
 order zero zero = inr (inl refl)
@@ -75,7 +75,8 @@ module _ {Rule Sort Token : Type 0} (look : Lookahead Rule Sort Token) (ok : IsP
       let e : tokens ≡ h.front = h.is ∙ append-nil h.front in
       record {
         before = readable_at_once look.grammar start tokens h.left (subst (λ (x : List Token). LazyReading look.grammar (rule start ∷ []) x h.left) (sym e) h.before);
-        here = λ r. h.no_further (subst (λ (x : List Token). LazyReading look.grammar (rule start ∷ []) x []) e (read_lazily look.grammar start tokens r)) }
+        here = λ r. h.no_further (subst (λ (x : List Token). LazyReading look.grammar (rule start ∷ []) x []) e (read_lazily look.grammar start tokens r));
+      }
   told tokens (lookahead.stops (k ∷ rest)) h =
       let b : take (length h.front) tokens ≡ h.front = ap (λ (x : List Token). take (length h.front) x) h.is ∙ take-append_seam h.front (k ∷ rest) in
       let c : take (length h.front + 1) tokens ≡ h.front ++ (k ∷ []) = ap (λ (x : List Token). take (length h.front + 1) x) h.is ∙ front_before h.front rest k in
@@ -86,7 +87,9 @@ module _ {Rule Sort Token : Type 0} (look : Lookahead Rule Sort Token) (ok : IsP
         refused = record {
           within = omega (arith, l);
           before = readable_at_once look.grammar start _ h.left (subst (λ (x : List Token). LazyReading look.grammar (rule start ∷ []) x h.left) (sym b) h.before);
-          here = λ r. let z = readable_lazily look.grammar start _ r in h.no_further z.0 (subst (λ (x : List Token). LazyReading look.grammar (rule start ∷ []) x z.0) c z.1) } }
+          here = λ r. let z = readable_lazily look.grammar start _ r in h.no_further z.0 (subst (λ (x : List Token). LazyReading look.grammar (rule start ∷ []) x z.0) c z.1);
+        };
+      }
 
   start_decided : AreDecided look (rule start ∷ [])
   start_decided = (λ k h. cc, tt)

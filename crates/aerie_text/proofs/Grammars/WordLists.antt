@@ -1,11 +1,11 @@
 -- In lists of words one token of lookahead decides.
-use Rattle.std.proofs.Common.{◌≡◌, ℕ, Bool, true, false, not, ◌&&◌, ◌||◌, IsTrue, refl, sym, ap, ◌∙◌, subst, arith, nat_eq, rules, ◌+◌, ◌-◌, ◌≤◌, List, [], ◌∷◌, length, Option, Some, None}
+use Rattle.std.proofs.Common.{◌≡◌, ℕ, true, false, IsTrue, refl, ap, ◌∙◌, subst, arith, nat_eq, rules, ◌+◌, ◌-◌, ◌≤◌, List, [], ◌∷◌, length, Some, None}
 use Rattle.std.proofs.lemmas.List.{length-append}
 use Rattle.aerie_text.specs.declared.grammar.example.Mark.{Mark}
 use Rattle.aerie_text.specs.grammar.Lookahead.{empty, begins, Answer, stops}
 use Rattle.aerie_text.specs.grammar.Predictive.{IsPredictive, IsDecided, shallow}
 use Rattle.aerie_text.specs.grammar.Forms.{rule}
-use Rattle.aerie_text.specs.grammar.WordLists.{Rule, list_rule, item_rule, words, written, factored, list_form, item_form, written_form, factored_form, rule_begins, rule_follows, class_of}
+use Rattle.aerie_text.specs.grammar.WordLists.{Rule, list_rule, item_rule, words, written, factored, list_form, item_form, written_form, factored_form, rule_begins, rule_follows}
 use Rattle.aerie_text.specs.grammar.WordListsVerdict.{IsVerdict, place_before}
 use Rattle.aerie_text.specs.grammar.Readings.{IsRefusedAt}
 use Rattle.aerie_text.specs.grammar.Parsing.{Reads, Stops}
@@ -43,7 +43,8 @@ words_predictive = record {
   begins_rule = begins_rule;
   rule_begins = begun_rule;
   decided = decided;
-  shallow_rule = shallow_rule }
+  shallow_rule = shallow_rule;
+}
 
 -- ---- the grammar as it is written, and the factored one
 

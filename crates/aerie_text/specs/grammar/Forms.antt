@@ -1,5 +1,5 @@
 -- A grammar as data: the form of each rule.
-use Rattle.std.specs.Prelude.{Bool, List}
+use Rattle.std.specs.Prelude.{Bool}
 
 -- What a rule stands for. `Rule` names the rules, `Sort` the sorts of tokens: a token of a sort; a rule; nothing; one form
 -- and then another; one of two forms; any number of turns of a form.

@@ -1,5 +1,5 @@
 -- Levels of nesting, counts, and the first token past a limit.
-use Rattle.std.specs.Prelude.{◌≡◌, ℕ, zero, suc, ◌+◌, ◌<◌, ◌≤◌, Bool, true, false, max, nat_lt, Option, Some, None, List, [], ◌∷◌, ◌++◌}
+use Rattle.std.specs.Prelude.{ℕ, zero, suc, ◌+◌, Bool, true, false, max, nat_lt, Option, Some, None, List, [], ◌∷◌, ◌++◌}
 
 -- What was read, as far as its nesting goes. A part that opens no level; parts beside one another; what stands inside an
 -- opening parenthesis, a prefix operator or a block, which opens a level at its own token; and an infix operator with its left

@@ -1,6 +1,6 @@
 -- Levels of small texts, by computation; a place is the number of the token.
-use Rattle.std.specs.Prelude.{◌≡◌, ℕ, Option, Some, None, List, [], ◌∷◌, refl}
-use Rattle.aerie_text.specs.grammar.Levels.{Nested, flat, beside, inside, between, height, levels, first_past, one_too_many}
+use Rattle.std.specs.Prelude.{◌≡◌, ℕ, Some, [], ◌∷◌, refl}
+use Rattle.aerie_text.specs.grammar.Levels.{flat, beside, inside, between, levels, first_past, one_too_many}
 
 -- a + b + c, and a * b + c: the second operator opens the second level, since the first stands in its left operand
 pub chain : levels {Place = ℕ} 0 (between 3 (between 1 flat flat) flat) ≡ (1, 1) ∷ (3, 2) ∷ []

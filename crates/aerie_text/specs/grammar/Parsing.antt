@@ -1,5 +1,5 @@
 -- What a reader of one form does, whatever is still to be read behind it.
-use Rattle.std.specs.Prelude.{◌≡◌, List, [], ◌∷◌, Result, MatchResult}
+use Rattle.std.specs.Prelude.{◌≡◌, List, ◌∷◌, Result, MatchResult}
 use denote.Bor.{Bor}
 use Rattle.aerie_text.specs.grammar.Forms.{Form, many}
 use Rattle.aerie_text.specs.grammar.Lookahead.{Lookahead, answer, stops}

@@ -1,6 +1,6 @@
 -- The conditions under which one token of lookahead decides each choice. For a grammar at hand each is decided by computation.
-use Rattle.std.specs.Prelude.{◌≡◌, ℕ, zero, suc, Bool, true, false, not, ◌&&◌, ◌||◌, List, [], ◌∷◌, IsTrue}
-use Rattle.aerie_text.specs.grammar.Forms.{Form, token, rule, nothing, both, either, many, Grammar}
+use Rattle.std.specs.Prelude.{ℕ, zero, suc, Bool, true, false, not, ◌&&◌, ◌||◌, List, [], ◌∷◌, IsTrue}
+use Rattle.aerie_text.specs.grammar.Forms.{Form, token, rule, nothing, both, either, many}
 use Rattle.aerie_text.specs.grammar.Lookahead.{Lookahead, empty, begins, list_begins}
 
 module _ {Rule Sort Token : Type 0} (look : Lookahead Rule Sort Token) where

@@ -1,8 +1,8 @@
 -- A small grammar that has each kind of form: lists of words in brackets, which may be flagged, and may be nested.
-use Rattle.std.specs.Prelude.{ℕ, Bool, true, false, ◌||◌, nat_eq}
+use Rattle.std.specs.Prelude.{ℕ, Bool, false, ◌||◌, nat_eq}
 use Rattle.aerie_text.specs.declared.grammar.example.Mark.{Mark}
 use Rattle.aerie_text.specs.declared.grammar.example.Mark.TheVariants.{Open, Close, Flag, Equals, Word}
-use Rattle.aerie_text.specs.grammar.Forms.{Form, token, rule, nothing, both, either, many, option, Grammar}
+use Rattle.aerie_text.specs.grammar.Forms.{Form, token, rule, both, either, many, option, Grammar}
 use Rattle.aerie_text.specs.grammar.Lookahead.{Lookahead}
 
 -- the rules: a list, and an item of a list

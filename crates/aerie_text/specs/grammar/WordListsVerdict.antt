@@ -1,5 +1,5 @@
 -- What is said of tokens that should be a list of words.
-use Rattle.std.specs.Prelude.{ℕ, ◌-◌, Option, Some, None, List, [], ◌∷◌, length}
+use Rattle.std.specs.Prelude.{◌-◌, Option, Some, None, List, [], ◌∷◌, length}
 use Rattle.aerie_text.specs.declared.grammar.example.Mark.{Mark}
 use Rattle.aerie_text.specs.declared.grammar.example.Refusal.{Refusal}
 use Rattle.aerie_text.specs.declared.grammar.example.Refusal.TheVariants.{At, AtEnd}

@@ -8,9 +8,13 @@ ghost use Rattle.aerie_text.specs.grammar.WordLists.{list_rule, item_rule, flag_
 ghost use Rattle.aerie_text.specs.grammar.WordListsVerdict.{IsVerdict, place_before};
 
 const OPEN: u8 = 0;
+
 const CLOSE: u8 = 1;
+
 const FLAG: u8 = 2;
+
 const EQUALS: u8 = 3;
+
 const WORD: u8 = 4;
 
 /// A token.
@@ -89,13 +93,7 @@ fn flag(marks: &[Mark]) -> &[Mark]
     ensures no_longer { length result.now ≤ length marks.now }
 {
     match marks.split_first() {
-        Some((first, rest)) => {
-            if FLAG == first.class() {
-                rest
-            } else {
-                marks
-            }
-        }
+        Some((first, rest)) => { if FLAG == first.class() { rest } else { marks } }
         None => marks,
     }
 }

@@ -1,4 +1,3 @@
-use Rattle.std.proofs.Common.{refl}
 use Rattle.std.proofs.lemmas.Result.{err_from_is_err_and}
 use Rattle.aerie_text.specs.grammar.Forms.{token}
 use Rattle.aerie_text.specs.grammar.WordLists.{equals_class, word_class, words}

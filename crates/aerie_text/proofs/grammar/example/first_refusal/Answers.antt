@@ -1,6 +1,4 @@
-use Rattle.std.proofs.Common.{sym, ap, ◌∙◌, subst, Some, Option}
-use Rattle.aerie_text.specs.declared.grammar.example.Refusal.{Refusal}
-use Rattle.aerie_text.specs.grammar.WordListsVerdict.{IsVerdict}
+use Rattle.std.proofs.Common.{sym, ◌∙◌}
 use Rattle.aerie_text.proofs.Grammars.WordLists.{read_verdict, left_verdict, stop_verdict, rest_within}
 use Rattle.aerie_text.proofs.grammar.example.first_refusal.Goals as goal
 
