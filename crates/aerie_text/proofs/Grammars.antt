@@ -9,3 +9,4 @@ pub mod WordLists
 pub mod Alternatives
 pub mod Alike
 pub mod Levels
+pub mod Partly

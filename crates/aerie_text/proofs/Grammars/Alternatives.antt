@@ -109,3 +109,45 @@ module _ {Rule Sort : Type 0} where
 
   pub same_form : (a : Form Rule Sort) → SameExpansions a a
   same_form a = record { onward = λ us e. e; back = λ us e. e }
+
+  -- ---- forms with the same expansions, in larger forms
+
+  pub same_turned : (a b : Form Rule Sort) → SameExpansions a b → SameExpansions b a
+  same_turned a b h = record { onward = h.back; back = h.onward }
+
+  pub same_chained : (a b c : Form Rule Sort) → SameExpansions a b → SameExpansions b c → SameExpansions a c
+  same_chained a b c h i = record { onward = λ us e. i.onward us (h.onward us e); back = λ us e. h.back us (i.back us e) }
+
+  both_across : (a b c d : Form Rule Sort) → ((us : List (Symbol Rule Sort)) → IsExpansion a us → IsExpansion c us) → ((us : List (Symbol Rule Sort)) → IsExpansion b us → IsExpansion d us)
+      → (us : List (Symbol Rule Sort)) → IsExpansion (both a b) us → IsExpansion (both c d) us
+  both_across a b c d f g _ (of_both {us = us} {vs = vs} h i) = of_both (f us h) (g vs i)
+
+  pub same_both : (a b c d : Form Rule Sort) → SameExpansions a c → SameExpansions b d → SameExpansions (both a b) (both c d)
+  same_both a b c d h i = record { onward = both_across a b c d h.onward i.onward; back = both_across c d a b h.back i.back }
+
+  either_across : (a b c d : Form Rule Sort) → ((us : List (Symbol Rule Sort)) → IsExpansion a us → IsExpansion c us) → ((us : List (Symbol Rule Sort)) → IsExpansion b us → IsExpansion d us)
+      → (us : List (Symbol Rule Sort)) → IsExpansion (either a b) us → IsExpansion (either c d) us
+  either_across a b c d f g us (of_first h) = of_first (f us h)
+  either_across a b c d f g us (of_second h) = of_second (g us h)
+
+  pub same_either : (a b c d : Form Rule Sort) → SameExpansions a c → SameExpansions b d → SameExpansions (either a b) (either c d)
+  same_either a b c d h i = record { onward = either_across a b c d h.onward i.onward; back = either_across c d a b h.back i.back }
+
+  many_across : (a c : Form Rule Sort) → ((us : List (Symbol Rule Sort)) → IsExpansion a us → IsExpansion c us) → (us : List (Symbol Rule Sort)) → IsExpansion (many a) us → IsExpansion (many c) us
+  many_across a c f _ of_no_turn = of_no_turn
+  many_across a c f _ (of_turn {us = us} {vs = vs} h i) = of_turn (f us h) (many_across a c f vs i)
+
+  pub same_many : (a c : Form Rule Sort) → SameExpansions a c → SameExpansions (many a) (many c)
+  same_many a c h = record { onward = many_across a c h.onward; back = many_across c a h.back }
+
+  unrolled : (a : Form Rule Sort) (us : List (Symbol Rule Sort)) → IsExpansion (many a) us → IsExpansion (either nothing (both a (many a))) us
+  unrolled a _ of_no_turn = of_first of_nothing
+  unrolled a _ (of_turn h i) = of_second (of_both h i)
+
+  rolled : (a : Form Rule Sort) (us : List (Symbol Rule Sort)) → IsExpansion (either nothing (both a (many a))) us → IsExpansion (many a) us
+  rolled a _ (of_first of_nothing) = of_no_turn
+  rolled a _ (of_second (of_both h i)) = of_turn h i
+
+  -- a repetition is nothing, or a turn and the repetition
+  pub many_unrolled : (a : Form Rule Sort) → SameExpansions (many a) (either nothing (both a (many a)))
+  many_unrolled a = record { onward = unrolled a; back = rolled a }

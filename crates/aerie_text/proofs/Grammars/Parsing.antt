@@ -52,7 +52,7 @@ module _ {Rule Sort Token : Type 0} (look : Lookahead Rule Sort Token) where
 
   -- ---- a token
 
-  answer_token : (t : Sort) (xs : Stack) (k : Token) (ts : List Token) → IsTrue (look.grammar.fits t k) → answer look (token t ∷ xs) (k ∷ ts) ≡ answer look xs ts
+  pub answer_token : (t : Sort) (xs : Stack) (k : Token) (ts : List Token) → IsTrue (look.grammar.fits t k) → answer look (token t ∷ xs) (k ∷ ts) ≡ answer look xs ts
   answer_token t xs k ts h = rw (h, into_token look.openings t xs k) refl
 
   pub token_read : (t : Sort) (k : Token) (ts : List Token) → IsTrue (look.grammar.fits t k) → Reads look (token t) (k ∷ ts) ts
@@ -72,7 +72,7 @@ module _ {Rule Sort Token : Type 0} (look : Lookahead Rule Sort Token) where
 
   -- ---- one form and then another
 
-  answer_both : (a b : Form Rule Sort) (xs : Stack) (ts : List Token) → answer look (both a b ∷ xs) ts ≡ answer look (a ∷ b ∷ xs) ts
+  pub answer_both : (a b : Form Rule Sort) (xs : Stack) (ts : List Token) → answer look (both a b ∷ xs) ts ≡ answer look (a ∷ b ∷ xs) ts
   answer_both a b xs [] = ap at_end (and_assoc (empty look a) (empty look b) (all_empty look xs))
   answer_both a b xs (k ∷ ts) = by_next (both a b ∷ xs) (a ∷ b ∷ xs) k ts
       (rw (into_both look.openings a b xs k) (two_tests (begins look a k) (begins look b k) (empty look a) (empty look b) _ _ _))
@@ -98,11 +98,11 @@ module _ {Rule Sort Token : Type 0} (look : Lookahead Rule Sort Token) where
 
   -- ---- one of two forms
 
-  answer_first : (a b : Form Rule Sort) (xs : Stack) (ts : List Token) → IsTrue (begins_at look a ts) → answer look (either a b ∷ xs) ts ≡ answer look (a ∷ xs) ts
+  pub answer_first : (a b : Form Rule Sort) (xs : Stack) (ts : List Token) → IsTrue (begins_at look a ts) → answer look (either a b ∷ xs) ts ≡ answer look (a ∷ xs) ts
   answer_first a b xs [] h = cc
   answer_first a b xs (k ∷ ts) h = by_next (either a b ∷ xs) (a ∷ xs) k ts (rw (into_either look.openings a b xs k, h) refl)
 
-  answer_second : (a b : Form Rule Sort) (xs : Stack) (ts : List Token) → begins_at look a ts ≡ false → empty look a ≡ false → answer look (either a b ∷ xs) ts ≡ answer look (b ∷ xs) ts
+  pub answer_second : (a b : Form Rule Sort) (xs : Stack) (ts : List Token) → begins_at look a ts ≡ false → empty look a ≡ false → answer look (either a b ∷ xs) ts ≡ answer look (b ∷ xs) ts
   answer_second a b xs [] h i = rw i refl
   answer_second a b xs (k ∷ ts) h i = by_next (either a b ∷ xs) (b ∷ xs) k ts (rw (into_either look.openings a b xs k, h, i) refl)
 
@@ -140,11 +140,11 @@ module _ {Rule Sort Token : Type 0} (look : Lookahead Rule Sort Token) where
 
   -- ---- a repetition
 
-  answer_turn : (a : Form Rule Sort) (xs : Stack) (ts : List Token) → IsTrue (begins_at look a ts) → answer look (many a ∷ xs) ts ≡ answer look (a ∷ many a ∷ xs) ts
+  pub answer_turn : (a : Form Rule Sort) (xs : Stack) (ts : List Token) → IsTrue (begins_at look a ts) → answer look (many a ∷ xs) ts ≡ answer look (a ∷ many a ∷ xs) ts
   answer_turn a xs [] h = cc
   answer_turn a xs (k ∷ ts) h = by_next (many a ∷ xs) (a ∷ many a ∷ xs) k ts (rw (into_many look.openings a xs k, h) refl)
 
-  answer_over : (a : Form Rule Sort) (xs : Stack) (ts : List Token) → begins_at look a ts ≡ false → answer look (many a ∷ xs) ts ≡ answer look xs ts
+  pub answer_over : (a : Form Rule Sort) (xs : Stack) (ts : List Token) → begins_at look a ts ≡ false → answer look (many a ∷ xs) ts ≡ answer look xs ts
   answer_over a xs [] h = refl
   answer_over a xs (k ∷ ts) h = by_next (many a ∷ xs) xs k ts (rw h refl)
 
@@ -171,7 +171,7 @@ module _ {Rule Sort Token : Type 0} (look : Lookahead Rule Sort Token) where
     rule_into zero r xs k s b = cc
     rule_into (suc d) r xs k s b = same_inside look ok d k (look.grammar.form r) xs s (ok.rule_begins r k b)
 
-    answer_rule : (r : Rule) (xs : Stack) (ts : List Token) → answer look (rule r ∷ xs) ts ≡ answer look (look.grammar.form r ∷ xs) ts
+    pub answer_rule : (r : Rule) (xs : Stack) (ts : List Token) → answer look (rule r ∷ xs) ts ≡ answer look (look.grammar.form r ∷ xs) ts
     answer_rule r xs [] = ap (λ (e : Bool). at_end (e && all_empty look xs)) (equal_tests (look.empty r) (empty look (look.grammar.form r)) (ok.rule_empty r) (ok.empty_rule r))
     answer_rule r xs (k ∷ ts) = by_next (rule r ∷ xs) (look.grammar.form r ∷ xs) k ts
         (by_begins (look.begins r k) refl (equal_tests (look.begins r k) (begins look (look.grammar.form r) k) (ok.rule_begins r k) (ok.begins_rule r k)) (equal_tests (look.empty r) (empty look (look.grammar.form r)) (ok.rule_empty r) (ok.empty_rule r)))

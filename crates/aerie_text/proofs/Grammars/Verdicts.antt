@@ -14,7 +14,7 @@ use Rattle.aerie_text.specs.grammar.Verdicts.{IsRefusedBefore, Tells}
 use Rattle.aerie_text.proofs.Grammars.Choices.{readable_lazily, readable_at_once, read_lazily, read_at_once}
 use Rattle.aerie_text.proofs.Grammars.Exact.{Exact, exact}
 
-order : (i j : ℕ) → (i < j) ⊎ ((i ≡ j) ⊎ (j < i))
+pub order : (i j : ℕ) → (i < j) ⊎ ((i ≡ j) ⊎ (j < i))
 order zero zero = inr (inl refl)
 order zero (suc j) = inl (omega arith)
 order (suc i) zero = inr (inr (omega arith))
@@ -23,7 +23,7 @@ order (suc i) (suc j) = elim (order i j) [ inl l ↦ inl (omega (arith, l)) | in
 module _ {Rule Sort Token : Type 0} (g : Grammar Rule Sort Token) where
   -- ---- what is read can be read in part
 
-  shortened : (us vs : List (Symbol Rule Sort)) (all : List Token) → Reading g us all vs → (ts rest : List Token) → all ≡ ts ++ rest → (left : List (Symbol Rule Sort)) × Reading g us ts left
+  pub shortened : (us vs : List (Symbol Rule Sort)) (all : List Token) → Reading g us all vs → (ts rest : List Token) → all ≡ ts ++ rest → (left : List (Symbol Rule Sort)) × Reading g us ts left
   shortened us _ _ h [] rest e = (us, stops)
   shortened us _ _ stops (k ∷ ts) rest e = cc
   shortened _ vs _ (reads {t = t} {k = j} {us = us} {tokens = tokens} f h) (k ∷ ts) rest e =

@@ -1,5 +1,5 @@
 -- What a reader of one form does, whatever is still to be read behind it.
-use Rattle.std.specs.Prelude.{◌≡◌, List, ◌∷◌, Result, MatchResult}
+use Rattle.std.specs.Prelude.{◌≡◌, List, ◌∷◌, ◌++◌, Result, MatchResult}
 use denote.Bor.{Bor}
 use Rattle.aerie_text.specs.grammar.Forms.{Form, many}
 use Rattle.aerie_text.specs.grammar.Lookahead.{Lookahead, answer, stops}
@@ -20,3 +20,7 @@ module _ {Rule Sort Token : Type 0} (look : Lookahead Rule Sort Token) where
   -- what a reader of one form answers over a slice: what is left after the form, or where reading stops
   abbrev pub Parses : Form Rule Sort → List Token → Result (Bor (List Token)) (Bor (List Token)) → Type 0
   Parses a tokens result = MatchResult result (λ rest. Reads a tokens rest.now) (λ rest. Stops a tokens rest.now)
+
+  -- part of the form is read: reading goes on with the rest of the tokens, and these forms of it are still to be read
+  pub record Comes (a : Form Rule Sort) (tokens rest : List Token) (left : List (Form Rule Sort)) : Type 0 where
+    pub onward : (xs : List (Form Rule Sort)) → answer look (a ∷ xs) tokens ≡ answer look (left ++ xs) rest
