@@ -1,9 +1,9 @@
 -- Where reading stands inside a form, as a limit is passed there: what was read until then can be read.
-use Rattle.std.proofs.Common.{◌≡◌, ℕ, zero, suc, ◌<◌, ◌≤◌, ◌+◌, Bool, true, false, List, [], ◌∷◌, ◌++◌, take, length, IsTrue, refl, ap, sym, ◌∙◌, arith, subst, append_assoc, append-nil, inl, inr, ◌⊎◌}
+use Rattle.std.proofs.Common.{◌≡◌, ℕ, ◌<◌, ◌≤◌, ◌+◌, Bool, true, false, List, [], ◌∷◌, ◌++◌, take, length, IsTrue, refl, ap, sym, ◌∙◌, arith, append_assoc, inl, inr, ◌⊎◌}
 use Rattle.std.proofs.Math.Seq.{take-append_seam}
 use Rattle.std.proofs.lemmas.List.{length-append}
 use Rattle.aerie_text.specs.grammar.Forms.{Form, rule, both, either, many, Grammar}
-use Rattle.aerie_text.specs.grammar.Readings.{IsReadable, IsRead, IsRefusedAt, IsRefusedAtEnd}
+use Rattle.aerie_text.specs.grammar.Readings.{IsReadable, IsRefusedAt}
 use Rattle.aerie_text.specs.grammar.Lookahead as lookahead
 use Rattle.aerie_text.specs.grammar.Lookahead.{Lookahead, Ahead, refused, unfinished, remains, empty, begins_at, next, Answer, answer, whole, go_on, all_empty, at_end}
 use Rattle.aerie_text.specs.grammar.Predictive.{IsPredictive}
@@ -23,7 +23,8 @@ module _ {Rule Sort Token : Type 0} (look : Lookahead Rule Sort Token) where
   -- inside the first of two forms, and inside the second
   pub comes_first : (a b : Form Rule Sort) (ts rest : List Token) (left : List (Form Rule Sort)) → Comes look a ts rest left → Comes look (both a b) ts rest (left ++ (b ∷ []))
   comes_first a b ts rest left h = record {
-    onward = λ xs. answer_both look a b xs ts ∙ h.onward (b ∷ xs) ∙ ap (λ (ys : List (Form Rule Sort)). answer look ys rest) (sym (append_assoc left (b ∷ []) xs)) }
+    onward = λ xs. answer_both look a b xs ts ∙ h.onward (b ∷ xs) ∙ ap (λ (ys : List (Form Rule Sort)). answer look ys rest) (sym (append_assoc left (b ∷ []) xs));
+  }
 
   pub comes_second : (a b : Form Rule Sort) (ts middle rest : List Token) (left : List (Form Rule Sort)) → Reads look a ts middle → Comes look b middle rest left → Comes look (both a b) ts rest left
   comes_second a b ts middle rest left h i = record { onward = λ xs. answer_both look a b xs ts ∙ h.onward (b ∷ xs) ∙ i.onward xs }
@@ -41,7 +42,8 @@ module _ {Rule Sort Token : Type 0} (look : Lookahead Rule Sort Token) where
 
   pub comes_turn : (a : Form Rule Sort) (all ts rest : List Token) (left : List (Form Rule Sort)) → Turns look a all ts → IsTrue (begins_at look a ts) → Comes look a ts rest left → Comes look (many a) all rest (left ++ (many a ∷ []))
   comes_turn a all ts rest left t h i = record {
-    onward = λ xs. t.onward xs ∙ answer_turn look a xs ts h ∙ i.onward (many a ∷ xs) ∙ ap (λ (ys : List (Form Rule Sort)). answer look ys rest) (sym (append_assoc left (many a ∷ []) xs)) }
+    onward = λ xs. t.onward xs ∙ answer_turn look a xs ts h ∙ i.onward (many a ∷ xs) ∙ ap (λ (ys : List (Form Rule Sort)). answer look ys rest) (sym (append_assoc left (many a ∷ []) xs));
+  }
 
   -- what is not read yet stands behind what was read
   behind : (xs : List (Form Rule Sort)) (ts s : List Token) → answer look xs ts ≡ lookahead.stops s → (front : List Token) × (ts ≡ front ++ s)
@@ -76,10 +78,10 @@ module _ {Rule Sort Token : Type 0} (look : Lookahead Rule Sort Token) (ok : IsP
           let b = behind look (left ++ []) rest (k ∷ s) e in
           let all : front ++ rest ≡ (front ++ b.0) ++ (k ∷ s) = ap (λ (x : List Token). front ++ x) b.1 ∙ sym (append_assoc front b.0 (k ∷ s)) in
           let l : length t.front + length (k ∷ s) ≡ length (front ++ b.0) + length (k ∷ s) =
-            sym (length-append t.front (k ∷ s)) ∙ ap (λ (x : List Token). length x) (sym t.is ∙ all) ∙ length-append (front ++ b.0) (k ∷ s) in
+          sym (length-append t.front (k ∷ s)) ∙ ap (λ (x : List Token). length x) (sym t.is ∙ all) ∙ length-append (front ++ b.0) (k ∷ s) in
           let n : length t.front ≡ length (front ++ b.0) = omega (arith, l) in
           let f : take (length t.front) (front ++ rest) ≡ front ++ b.0 =
-            ap (λ (m : ℕ). take m (front ++ rest)) n ∙ ap (λ (x : List Token). take (length (front ++ b.0)) x) all ∙ take-append_seam (front ++ b.0) (k ∷ s) in
+          ap (λ (m : ℕ). take m (front ++ rest)) n ∙ ap (λ (x : List Token). take (length (front ++ b.0)) x) all ∙ take-append_seam (front ++ b.0) (k ∷ s) in
           part start _ front b.0 f t.refused.before
 
 module _ {Rule Sort Token : Type 0} (g : Grammar Rule Sort Token) where
