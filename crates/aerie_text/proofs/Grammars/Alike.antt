@@ -2,10 +2,9 @@
 use Rattle.std.proofs.Common.{◌≡◌, ℕ, zero, suc, ◌<◌, ◌+◌, Bool, true, false, List, [], ◌∷◌, ◌++◌, refl, sym, ap, ◌∙◌, arith, subst, inl, inr, ◌⊎◌, length}
 use Rattle.aerie_text.specs.grammar.Forms.{Form, token, rule, nothing, both, either, many, Grammar}
 use Rattle.aerie_text.specs.grammar.Expansions.{Symbol, nonterminal}
-use Rattle.aerie_text.specs.grammar.Readings.{Reading, stops, reads, replaces, IsRefusedAt, IsRefusedAtEnd}
+use Rattle.aerie_text.specs.grammar.Readings.{Reading, over, takes, replaces, IsRefusedAt, IsRefusedAtEnd}
 use Rattle.aerie_text.specs.grammar.LazyReadings.{Goes, stop, read, open_rule, pass, in_turn, first_of_two, second_of_two, no_more, once_more, LazyReading}
-use Rattle.aerie_text.specs.grammar.Lookahead as lookahead
-use Rattle.aerie_text.specs.grammar.Lookahead.{Answer, whole}
+use Rattle.aerie_text.specs.grammar.Lookahead.{Answer, whole, stops}
 use Rattle.aerie_text.specs.grammar.Verdicts.{Tells}
 use Rattle.aerie_text.specs.grammar.Alternatives.{SameExpansions}
 use Rattle.aerie_text.specs.grammar.Alike.{AreAlike, rewritten, is_rule, StandsFor, named, inlined, IsNamed}
@@ -15,13 +14,13 @@ use Rattle.aerie_text.proofs.Grammars.Choices.{readable_lazily, readable_at_once
 
 module _ {Rule Sort Token : Type 0} (g h : Grammar Rule Sort Token) (same_fits : (t : Sort) (k : Token) → g.fits t k ≡ h.fits t k) (same : (r : Rule) → SameExpansions (g.form r) (h.form r)) where
   across : (us : List (Symbol Rule Sort)) (ts : List Token) (vs : List (Symbol Rule Sort)) → Reading g us ts vs → Reading h us ts vs
-  across us _ _ stops = stops
-  across _ _ vs (reads {t = t} {k = k} {us = us} {tokens = ts} f i) = reads (sym (same_fits t k) ∙ f) (across us ts vs i)
+  across us _ _ over = over
+  across _ _ vs (takes {t = t} {k = k} {us = us} {tokens = ts} f i) = takes (sym (same_fits t k) ∙ f) (across us ts vs i)
   across _ ts vs (replaces {r = r} {expansion = expansion} {us = us} e i) = replaces ((same r).onward expansion e) (across (expansion ++ us) ts vs i)
 
   across_back : (us : List (Symbol Rule Sort)) (ts : List Token) (vs : List (Symbol Rule Sort)) → Reading h us ts vs → Reading g us ts vs
-  across_back us _ _ stops = stops
-  across_back _ _ vs (reads {t = t} {k = k} {us = us} {tokens = ts} f i) = reads (same_fits t k ∙ f) (across_back us ts vs i)
+  across_back us _ _ over = over
+  across_back _ _ vs (takes {t = t} {k = k} {us = us} {tokens = ts} f i) = takes (same_fits t k ∙ f) (across_back us ts vs i)
   across_back _ ts vs (replaces {r = r} {expansion = expansion} {us = us} e i) = replaces ((same r).back expansion e) (across_back (expansion ++ us) ts vs i)
 
   pub alike_forms : (r : Rule) → AreAlike g r h r
@@ -167,8 +166,8 @@ module _ {Rule Other Sort Token : Type 0} (g : Grammar Rule Sort Token) (start :
 
   pub alike_tells : (tokens : List Token) (a : Answer Token) → Tells g start tokens a → Tells h other tokens a
   alike_tells tokens whole t = alike.read tokens t
-  alike_tells tokens (lookahead.stops []) t = alike_refused_at_end tokens t
-  alike_tells tokens (lookahead.stops (k ∷ rest)) t = record { front = t.front; is = t.is; refused = alike_refused tokens (length t.front) t.refused }
+  alike_tells tokens (stops []) t = alike_refused_at_end tokens t
+  alike_tells tokens (stops (k ∷ rest)) t = record { front = t.front; is = t.is; refused = alike_refused tokens (length t.front) t.refused }
 
 module _ {Rule Other Sort Token : Type 0} (g : Grammar Rule Sort Token) (start : Rule) (h : Grammar Other Sort Token) (other : Other) where
   pub alike_turned : AreAlike g start h other → AreAlike h other g start

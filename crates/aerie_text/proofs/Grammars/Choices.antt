@@ -2,7 +2,7 @@
 use Rattle.std.proofs.Common.{◌≡◌, ℕ, suc, List, [], ◌∷◌, ◌++◌, refl, sym, ap, ◌∙◌, subst, append_assoc, append-nil}
 use Rattle.aerie_text.specs.grammar.Forms.{Form, token, rule, nothing, both, either, many, Grammar}
 use Rattle.aerie_text.specs.grammar.Expansions.{Symbol, terminal, nonterminal, IsExpansion, of_token, of_rule, of_nothing, of_both, of_first, of_second, of_no_turn, of_turn}
-use Rattle.aerie_text.specs.grammar.Readings.{Reading, stops, reads, replaces, IsReadable, IsRead}
+use Rattle.aerie_text.specs.grammar.Readings.{Reading, over, takes, replaces, IsReadable, IsRead}
 use Rattle.aerie_text.specs.grammar.LazyReadings.{Goes, stop, read, open_rule, pass, in_turn, first_of_two, second_of_two, no_more, once_more, LazyReading}
 
 module _ {Rule Sort : Type 0} where
@@ -56,9 +56,9 @@ module _ {Rule Sort Token : Type 0} (g : Grammar Rule Sort Token) where
   -- what a lazy reading reads, some reading reads that leaves any expansion of what is left
   pub chosen : (n : ℕ) (xs : List (Form Rule Sort)) (ts : List Token) (zs : List (Form Rule Sort)) → Goes g n xs ts zs → (vs : List (Symbol Rule Sort)) → Expand zs vs
       → (us : List (Symbol Rule Sort)) × Expand xs us × Reading g us ts vs
-  chosen _ xs _ _ stop vs e = (vs, e, stops)
+  chosen _ xs _ _ stop vs e = (vs, e, over)
   chosen _ _ _ zs (read {n = n} {t = t} {xs = xs} {ts = ts} f h) vs e =
-      let i = chosen n xs ts zs h vs e in (terminal t ∷ i.0, (terminal t ∷ [], i.0, of_token, i.1, refl), reads f i.2)
+      let i = chosen n xs ts zs h vs e in (terminal t ∷ i.0, (terminal t ∷ [], i.0, of_token, i.1, refl), takes f i.2)
   chosen _ _ ts zs (open_rule {n = n} {r = r} {xs = xs} h) vs e =
       let i = chosen n (g.form r ∷ xs) ts zs h vs e in
       let j = i.1 in
@@ -114,8 +114,8 @@ module _ {Rule Sort Token : Type 0} (g : Grammar Rule Sort Token) where
   pub delayed : (us : List (Symbol Rule Sort)) (ts : List Token) (vs : List (Symbol Rule Sort)) → Reading g us ts vs → (Q : List (Form Rule Sort) → Type 0)
       → ((ys : List (Form Rule Sort)) → Expand ys vs → (zs : List (Form Rule Sort)) × LazyReading g ys [] zs × Q zs)
       → (xs : List (Form Rule Sort)) → Expand xs us → (zs : List (Form Rule Sort)) × LazyReading g xs ts zs × Q zs
-  delayed us _ _ stops Q final xs e = final xs e
-  delayed _ _ vs (reads {t = t} {us = us} {tokens = ts} f h) Q final xs e =
+  delayed us _ _ over Q final xs e = final xs e
+  delayed _ _ vs (takes {t = t} {us = us} {tokens = ts} f h) Q final xs e =
       let o = open_forms (terminal t) us xs _ e refl in
       let i = delayed us ts vs h Q final o.rest o.behind in
       (i.0, o.leads _ i.0 (suc i.1.0, read f i.1.1), i.2)

@@ -4,8 +4,7 @@ use Rattle.std.proofs.Math.Seq.{take-append_seam}
 use Rattle.std.proofs.lemmas.List.{length-append}
 use Rattle.aerie_text.specs.grammar.Forms.{Form, rule, both, either, many, Grammar}
 use Rattle.aerie_text.specs.grammar.Readings.{IsReadable, IsRefusedAt}
-use Rattle.aerie_text.specs.grammar.Lookahead as lookahead
-use Rattle.aerie_text.specs.grammar.Lookahead.{Lookahead, Ahead, refused, unfinished, remains, empty, begins_at, next, Answer, answer, whole, go_on, all_empty, at_end}
+use Rattle.aerie_text.specs.grammar.Lookahead.{Lookahead, Ahead, refused, unfinished, remains, empty, begins_at, next, Answer, answer, whole, stops, go_on, all_empty, at_end}
 use Rattle.aerie_text.specs.grammar.Predictive.{IsPredictive}
 use Rattle.aerie_text.specs.grammar.Parsing.{Reads, Turns, Comes}
 use Rattle.aerie_text.specs.grammar.Verdicts.{Tells}
@@ -46,16 +45,16 @@ module _ {Rule Sort Token : Type 0} (look : Lookahead Rule Sort Token) where
   }
 
   -- what is not read yet stands behind what was read
-  behind : (xs : List (Form Rule Sort)) (ts s : List Token) → answer look xs ts ≡ lookahead.stops s → (front : List Token) × (ts ≡ front ++ s)
+  behind : (xs : List (Form Rule Sort)) (ts s : List Token) → answer look xs ts ≡ stops s → (front : List Token) × (ts ≡ front ++ s)
   behind xs [] s e = at_the_end (all_empty look xs) e
     where
-      at_the_end : (v : Bool) → at_end v ≡ lookahead.stops s → (front : List Token) × ([] ≡ front ++ s)
+      at_the_end : (v : Bool) → at_end v ≡ stops s → (front : List Token) × ([] ≡ front ++ s)
       at_the_end true e = cc
       at_the_end false e = ([], cc)
   behind xs (k ∷ ts) s e = by_next (next look look.openings xs k) e (λ ys f. behind ys ts s f)
     where
-      by_next : (n : Ahead Rule Sort) → go_on n (λ ys. answer look ys ts) (lookahead.stops (k ∷ ts)) ≡ lookahead.stops s
-          → ((ys : List (Form Rule Sort)) → answer look ys ts ≡ lookahead.stops s → (front : List Token) × (ts ≡ front ++ s)) → (front : List Token) × ((k ∷ ts) ≡ front ++ s)
+      by_next : (n : Ahead Rule Sort) → go_on n (λ ys. answer look ys ts) (stops (k ∷ ts)) ≡ stops s
+          → ((ys : List (Form Rule Sort)) → answer look ys ts ≡ stops s → (front : List Token) × (ts ≡ front ++ s)) → (front : List Token) × ((k ∷ ts) ≡ front ++ s)
       by_next (remains ys) e f = let i = f ys e in (k ∷ i.0, ap (λ (x : List Token). k ∷ x) i.1)
       by_next refused e f = ([], cc)
       by_next unfinished e f = ([], cc)
@@ -73,8 +72,8 @@ module _ {Rule Sort Token : Type 0} (look : Lookahead Rule Sort Token) (ok : IsP
     where
       by_answer : (a : Answer Token) → Tells look.grammar start (front ++ rest) a → answer look (left ++ []) rest ≡ a → IsReadable look.grammar start front
       by_answer whole t e = part start (front ++ rest) front rest refl (read_is_readable look.grammar start (front ++ rest) t)
-      by_answer (lookahead.stops []) t e = part start (front ++ rest) front rest refl t.before
-      by_answer (lookahead.stops (k ∷ s)) t e =
+      by_answer (stops []) t e = part start (front ++ rest) front rest refl t.before
+      by_answer (stops (k ∷ s)) t e =
           let b = behind look (left ++ []) rest (k ∷ s) e in
           let all : front ++ rest ≡ (front ++ b.0) ++ (k ∷ s) = ap (λ (x : List Token). front ++ x) b.1 ∙ sym (append_assoc front b.0 (k ∷ s)) in
           let l : length t.front + length (k ∷ s) ≡ length (front ++ b.0) + length (k ∷ s) =

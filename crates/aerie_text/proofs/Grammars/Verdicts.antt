@@ -4,10 +4,9 @@ use Rattle.std.proofs.Math.Seq.{take-append_seam, take-append-add, take-length, 
 use Rattle.std.proofs.lemmas.List.{take-append-le, take-append-drop, length-append, length-take}
 use Rattle.aerie_text.specs.grammar.Forms.{rule, Grammar}
 use Rattle.aerie_text.specs.grammar.Expansions.{Symbol, terminal, nonterminal}
-use Rattle.aerie_text.specs.grammar.Readings.{Reading, stops, reads, replaces, IsReadable, IsRead, IsRefusedAt, IsRefusedAtEnd}
+use Rattle.aerie_text.specs.grammar.Readings.{Reading, over, takes, replaces, IsReadable, IsRead, IsRefusedAt, IsRefusedAtEnd}
 use Rattle.aerie_text.specs.grammar.LazyReadings.{LazyReading}
-use Rattle.aerie_text.specs.grammar.Lookahead as lookahead
-use Rattle.aerie_text.specs.grammar.Lookahead.{Lookahead, Answer, answer, whole, list_begins}
+use Rattle.aerie_text.specs.grammar.Lookahead.{Lookahead, Answer, answer, whole, stops}
 use Rattle.aerie_text.specs.grammar.Predictive.{IsPredictive, AreDecided}
 use Rattle.aerie_text.specs.grammar.Parsing.{Reads, Stops}
 use Rattle.aerie_text.specs.grammar.Verdicts.{IsRefusedBefore, Tells}
@@ -24,13 +23,13 @@ module _ {Rule Sort Token : Type 0} (g : Grammar Rule Sort Token) where
   -- ---- what is read can be read in part
 
   pub shortened : (us vs : List (Symbol Rule Sort)) (all : List Token) → Reading g us all vs → (ts rest : List Token) → all ≡ ts ++ rest → (left : List (Symbol Rule Sort)) × Reading g us ts left
-  shortened us _ _ h [] rest e = (us, stops)
-  shortened us _ _ stops (k ∷ ts) rest e = cc
-  shortened _ vs _ (reads {t = t} {k = j} {us = us} {tokens = tokens} f h) (k ∷ ts) rest e =
+  shortened us _ _ h [] rest e = (us, over)
+  shortened us _ _ over (k ∷ ts) rest e = cc
+  shortened _ vs _ (takes {t = t} {k = j} {us = us} {tokens = tokens} f h) (k ∷ ts) rest e =
       let same : j ≡ k = cc in
       let more : tokens ≡ ts ++ rest = cc in
       let i = shortened us vs tokens h ts rest more in
-      (i.0, subst (λ (c : Token). Reading g (terminal t ∷ us) (c ∷ ts) i.0) same (reads f i.1))
+      (i.0, subst (λ (c : Token). Reading g (terminal t ∷ us) (c ∷ ts) i.0) same (takes f i.1))
   shortened _ vs all (replaces {expansion = expansion} {us = us} f h) (k ∷ ts) rest e =
       let i = shortened (expansion ++ us) vs all h (k ∷ ts) rest e in (i.0, replaces f i.1)
 
@@ -71,13 +70,13 @@ module _ {Rule Sort Token : Type 0} (look : Lookahead Rule Sort Token) (ok : IsP
 
   told : (tokens : List Token) (a : Answer Token) → Exact look ok (rule start ∷ []) tokens a → Tells look.grammar start tokens a
   told tokens whole h = read_at_once look.grammar start tokens h
-  told tokens (lookahead.stops []) h =
+  told tokens (stops []) h =
       let e : tokens ≡ h.front = h.is ∙ append-nil h.front in
       record {
         before = readable_at_once look.grammar start tokens h.left (subst (λ (x : List Token). LazyReading look.grammar (rule start ∷ []) x h.left) (sym e) h.before);
         here = λ r. h.no_further (subst (λ (x : List Token). LazyReading look.grammar (rule start ∷ []) x []) e (read_lazily look.grammar start tokens r));
       }
-  told tokens (lookahead.stops (k ∷ rest)) h =
+  told tokens (stops (k ∷ rest)) h =
       let b : take (length h.front) tokens ≡ h.front = ap (λ (x : List Token). take (length h.front) x) h.is ∙ take-append_seam h.front (k ∷ rest) in
       let c : take (length h.front + 1) tokens ≡ h.front ++ (k ∷ []) = ap (λ (x : List Token). take (length h.front + 1) x) h.is ∙ front_before h.front rest k in
       let l : length tokens ≡ length h.front + length (k ∷ rest) = ap (λ (x : List Token). length x) h.is ∙ length-append h.front (k ∷ rest) in
@@ -105,7 +104,7 @@ module _ {Rule Sort Token : Type 0} (look : Lookahead Rule Sort Token) (ok : IsP
   pub more_left : (tokens rest : List Token) (k : Token) → Reads look (rule start) tokens (k ∷ rest) → IsRefusedBefore look.grammar start tokens (k ∷ rest)
   more_left tokens rest k h = subst (λ (a : Answer Token). Tells look.grammar start tokens a) (h.onward []) (tells tokens)
 
-  pub stopped : (tokens rest : List Token) → Stops look (rule start) tokens rest → Tells look.grammar start tokens (lookahead.stops rest)
+  pub stopped : (tokens rest : List Token) → Stops look (rule start) tokens rest → Tells look.grammar start tokens (stops rest)
   stopped tokens rest h = subst (λ (a : Answer Token). Tells look.grammar start tokens a) (h.here []) (tells tokens)
 
   -- ---- what is so, the reader answers
@@ -115,23 +114,23 @@ module _ {Rule Sort Token : Type 0} (look : Lookahead Rule Sort Token) (ok : IsP
     where
       by_answer : (a : Answer Token) → Tells look.grammar start tokens a → a ≡ whole
       by_answer whole t = refl
-      by_answer (lookahead.stops []) t = absurd (t.here h)
-      by_answer (lookahead.stops (k ∷ rest)) t = absurd (refused_not_readable look.grammar start tokens (length t.front) t.refused (read_is_readable look.grammar start tokens h))
+      by_answer (stops []) t = absurd (t.here h)
+      by_answer (stops (k ∷ rest)) t = absurd (refused_not_readable look.grammar start tokens (length t.front) t.refused (read_is_readable look.grammar start tokens h))
 
-  pub end_answered : (tokens : List Token) → IsRefusedAtEnd look.grammar start tokens → answer look (rule start ∷ []) tokens ≡ lookahead.stops []
+  pub end_answered : (tokens : List Token) → IsRefusedAtEnd look.grammar start tokens → answer look (rule start ∷ []) tokens ≡ stops []
   end_answered tokens h = by_answer (answer look (rule start ∷ []) tokens) (tells tokens)
     where
-      by_answer : (a : Answer Token) → Tells look.grammar start tokens a → a ≡ lookahead.stops []
+      by_answer : (a : Answer Token) → Tells look.grammar start tokens a → a ≡ stops []
       by_answer whole t = absurd (h.here t)
-      by_answer (lookahead.stops []) t = refl
-      by_answer (lookahead.stops (k ∷ rest)) t = absurd (refused_not_readable look.grammar start tokens (length t.front) t.refused h.before)
+      by_answer (stops []) t = refl
+      by_answer (stops (k ∷ rest)) t = absurd (refused_not_readable look.grammar start tokens (length t.front) t.refused h.before)
 
-  pub token_answered : (tokens : List Token) (place : ℕ) → IsRefusedAt look.grammar start tokens place → answer look (rule start ∷ []) tokens ≡ lookahead.stops (drop place tokens)
+  pub token_answered : (tokens : List Token) (place : ℕ) → IsRefusedAt look.grammar start tokens place → answer look (rule start ∷ []) tokens ≡ stops (drop place tokens)
   token_answered tokens place h = by_answer (answer look (rule start ∷ []) tokens) (tells tokens)
     where
-      by_answer : (a : Answer Token) → Tells look.grammar start tokens a → a ≡ lookahead.stops (drop place tokens)
+      by_answer : (a : Answer Token) → Tells look.grammar start tokens a → a ≡ stops (drop place tokens)
       by_answer whole t = absurd (refused_not_readable look.grammar start tokens place h (read_is_readable look.grammar start tokens t))
-      by_answer (lookahead.stops []) t = absurd (refused_not_readable look.grammar start tokens place h t.before)
-      by_answer (lookahead.stops (k ∷ rest)) t =
+      by_answer (stops []) t = absurd (refused_not_readable look.grammar start tokens place h t.before)
+      by_answer (stops (k ∷ rest)) t =
           let e : length t.front ≡ place = refused_once look.grammar start tokens (length t.front) place t.refused h in
-          ap (λ (x : List Token). lookahead.stops x) (sym (drop-append_seam t.front (k ∷ rest)) ∙ ap (λ (x : List Token). drop (length t.front) x) (sym t.is) ∙ ap (λ (n : ℕ). drop n tokens) e)
+          ap (λ (x : List Token). stops x) (sym (drop-append_seam t.front (k ∷ rest)) ∙ ap (λ (x : List Token). drop (length t.front) x) (sym t.is) ∙ ap (λ (n : ℕ). drop n tokens) e)

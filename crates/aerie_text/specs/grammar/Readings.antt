@@ -8,8 +8,8 @@ module _ {Rule Sort Token : Type 0} (g : Grammar Rule Sort Token) where
   -- Where a token of some sort stands first, it reads the next token, if that is of the sort; where a rule stands first, it
   -- replaces the rule by one expansion of the rule's form.
   pub data Reading : List (Symbol Rule Sort) → List Token → List (Symbol Rule Sort) → Type 0 where
-    stops : {left : List (Symbol Rule Sort)} → Reading left [] left
-    reads : {t : Sort} {k : Token} {us left : List (Symbol Rule Sort)} {tokens : List Token} → IsTrue (g.fits t k) → Reading us tokens left → Reading (terminal t ∷ us) (k ∷ tokens) left
+    over : {left : List (Symbol Rule Sort)} → Reading left [] left
+    takes : {t : Sort} {k : Token} {us left : List (Symbol Rule Sort)} {tokens : List Token} → IsTrue (g.fits t k) → Reading us tokens left → Reading (terminal t ∷ us) (k ∷ tokens) left
     replaces : {r : Rule} {expansion us left : List (Symbol Rule Sort)} {tokens : List Token} → IsExpansion (g.form r) expansion → Reading (expansion ++ us) tokens left → Reading (nonterminal r ∷ us) tokens left
 
   -- some reading that begins with the rule alone reads the tokens; what it leaves is not asked to be completed
