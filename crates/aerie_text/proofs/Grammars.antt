@@ -10,3 +10,4 @@ pub mod Alternatives
 pub mod Alike
 pub mod Levels
 pub mod Partly
+pub mod Classes

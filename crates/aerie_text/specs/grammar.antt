@@ -8,6 +8,7 @@ pub mod Parsing
 pub mod Verdicts
 pub mod Alternatives
 pub mod Alike
+pub mod Classes
 pub mod Levels
 pub mod LevelsCases
 pub mod WordLists

@@ -33,6 +33,9 @@ module _ {Rule Sort Token : Type 0} (look : Lookahead Rule Sort Token) (ok : IsP
   abbrev pub Passes : Form Rule Sort → Type 0
   Passes a = (xs : Stack) (ts : List Token) (zs : Stack) → LazyReading look.grammar xs ts zs → LazyReading look.grammar (a ∷ xs) ts zs
 
+  turned : (a b : Form Rule Sort) (xs : Stack) (ts : List Token) (zs : Stack) → LazyReading look.grammar (a ∷ b ∷ xs) ts zs → LazyReading look.grammar (both a b ∷ xs) ts zs
+  turned a b xs ts zs h = (suc h.0, in_turn h.1)
+
   inside_passes : (f : Rule → Bool) → ((r : Rule) → IsTrue (f r) → IsTrue (look.empty r) → Passes (rule r)) → (a : Form Rule Sort) → IsTrue (shallow_inside look f a) → IsTrue (empty look a) → Passes a
   inside_passes f h (token t) s e xs ts zs g = cc
   inside_passes f h (rule r) s e xs ts zs g = h r s e xs ts zs g
@@ -42,7 +45,7 @@ module _ {Rule Sort Token : Type 0} (look : Lookahead Rule Sort Token) (ok : IsP
       let r : IsTrue (empty look b) = and_back (empty look a) (empty look b) e in
       let i : IsTrue (shallow_inside look f a) = grind arith in
       let t : IsTrue (shallow_inside look f b) = grind arith in
-      let j = inside_passes f h a i q (b ∷ xs) ts zs (inside_passes f h b t r xs ts zs g) in (suc j.0, in_turn j.1)
+      turned a b xs ts zs (inside_passes f h a i q (b ∷ xs) ts zs (inside_passes f h b t r xs ts zs g))
   inside_passes f h (either a b) s e xs ts zs g = by_first (empty look a) refl
       (λ q. let i = inside_passes f h a (and_front (shallow_inside look f a) _ s) q xs ts zs g in (suc i.0, first_of_two i.1))
       (λ q. let i = inside_passes f h b (and_back (shallow_inside look f a) (shallow_inside look f b) s) q xs ts zs g in (suc i.0, second_of_two i.1))
