@@ -6,3 +6,4 @@ pub mod Figures
 pub mod Matching
 pub mod Reading
 pub mod Units
+pub mod Grammars

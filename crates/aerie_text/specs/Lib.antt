@@ -9,3 +9,4 @@ pub mod Symbols
 pub mod TokenAt
 pub mod TokenTexts
 pub mod Tokens
+pub mod grammar

@@ -1,9 +1,10 @@
-//! Texts of sessions and of answers: the tokens that a text is cut into, the place of a byte for a reader, and JSON
-//! in lines.
+//! Texts of sessions and of answers: the tokens that a text is cut into, the place of a byte for a reader, grammars
+//! over tokens, and JSON in lines.
 #![tactic(auto)]
 
 mod bytes;
 mod gaps;
+pub mod grammar;
 mod json;
 mod longest;
 mod numerals;

@@ -1,0 +1,13 @@
+pub mod Starts
+pub mod Shallow
+pub mod Follows
+pub mod Exact
+pub mod Choices
+pub mod Parsing
+pub mod Verdicts
+pub mod WordLists
+pub mod Alternatives
+pub mod Alike
+pub mod Levels
+pub mod Partly
+pub mod Classes

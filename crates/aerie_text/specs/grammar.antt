@@ -1,0 +1,16 @@
+pub mod Forms
+pub mod Expansions
+pub mod Readings
+pub mod LazyReadings
+pub mod Lookahead
+pub mod Predictive
+pub mod Parsing
+pub mod Verdicts
+pub mod Alternatives
+pub mod Alike
+pub mod Classes
+pub mod Levels
+pub mod LevelsCases
+pub mod WordLists
+pub mod WordListsCases
+pub mod WordListsVerdict
