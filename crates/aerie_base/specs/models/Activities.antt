@@ -76,12 +76,12 @@ is_result enums (Some kind) body = is_kind enums kind && ends_in_return body
 
 abbrev pub activity_setting : List EnumType → NamedCells → List Activity → Activity → Setting
 activity_setting enums cells activities activity = record {
-    enums = enums;
-    cells = cells;
-    activities = activities;
-    parameters = length activity.parameters;
-    result = activity.result
-  }
+  enums = enums;
+  cells = cells;
+  activities = activities;
+  parameters = length activity.parameters;
+  result = activity.result;
+}
 
 -- whether an activity type is as it should be, by the names of the cells and enumerations
 unfoldable pub is_activity : List EnumType → NamedCells → List Activity → List (List ℕ) → Activity → Bool

@@ -43,23 +43,23 @@ add by = Emit 0 (emission.Add by)
 
 abbrev activity : ℕ → List Stmt → Activity
 activity slots body = record {
-    name = codes "Bump";
-    parameters = by_int ∷ [];
-    result = None;
-    requires_ = [];
-    slots = slots;
-    body = body
-  }
+  name = codes "Bump";
+  parameters = by_int ∷ [];
+  result = None;
+  requires_ = [];
+  slots = slots;
+  body = body;
+}
 
 abbrev with_activity : Activity → Parts
 with_activity of = record {
-    name = codes "m";
-    enums = [];
-    cells = (codes "n", cell.Counter (pos 0)) ∷ [];
-    resources = (codes "n", resource.Discrete (read.Counter 0)) ∷ [];
-    activities = of ∷ [];
-    daemons = []
-  }
+  name = codes "m";
+  enums = [];
+  cells = (codes "n", cell.Counter (pos 0)) ∷ [];
+  resources = (codes "n", resource.Discrete (read.Counter 0)) ∷ [];
+  activities = of ∷ [];
+  daemons = [];
+}
 
 -- the activity adds its argument, waits ten microseconds and adds it again
 pub a_bump_is_valid : valid_model (with_activity (activity 1 (add (local 0) ∷ Delay (number 10) ∷ add (local 0) ∷ []))) ≡ true

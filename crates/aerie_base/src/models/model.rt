@@ -202,7 +202,10 @@ mod tests {
         assert!(&rt; model.is_same(&copy));
         assert!(&rt; !model.is_same(&other));
         assert_eq!(&rt; copy.name().as_str(), "mission");
-        assert_eq!(&rt; copy.enums().len() + copy.cells().len() + copy.resources().len(), 0);
+        assert_eq!(&rt;
+            copy.enums().len() + copy.cells().len() + copy.resources().len(),
+            0
+        );
         assert_eq!(&rt; copy.activities().len() + copy.daemons().len(), 0);
     }
 }
