@@ -1,0 +1,3 @@
+pub mod Found
+pub mod Joins
+pub mod Order

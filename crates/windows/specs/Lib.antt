@@ -1,0 +1,4 @@
+pub mod Ends
+pub mod Joining
+pub mod Linear
+pub mod Times
