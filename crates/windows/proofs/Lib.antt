@@ -1,3 +1,11 @@
+pub mod Both
+pub mod Builds
+pub mod Clips
+pub mod Either
 pub mod Found
 pub mod Joins
+pub mod Left
+pub mod Long
 pub mod Order
+pub mod Shifts
+pub mod Spans

@@ -6,7 +6,7 @@ ghost use Rattle.windows.specs.Ends.{clipped};
 use aerie_base::Time;
 
 /// The first time.
-pub(crate) fn start() -> Time
+pub(crate) fn first_time() -> Time
     ensures { result ≡ 0 }
 {
     Time::new(0).unwrap()

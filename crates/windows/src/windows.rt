@@ -1,8 +1,12 @@
 ghost use Rattle.std.specs.Prelude.{◌≡◌, ◌≤◌, true, IfOk};
 ghost use Rattle.windows.specs.Times.{TimeSet, contains, AreIntervals, InOrder};
 
+mod algebra;
+mod lengths;
+mod spans;
+
 use aerie_base::{List, OutOfMemory, Time};
-use crate::ends::{is_by, start};
+use crate::ends::{first_time, is_by};
 use crate::joining::join;
 use std::alloc::Global;
 use std::marker::Model;
@@ -62,7 +66,7 @@ impl Windows {
         ensures times { IfOk result (λ all. AreIntervals all.reach (λ t. true) all.intervals) }
     {
         let mut intervals = List::new(alloc);
-        join(&mut intervals, start(), reach)?;
+        join(&mut intervals, first_time(), reach)?;
         Ok(Windows { reach, intervals })
     }
 }
