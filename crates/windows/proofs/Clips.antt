@@ -22,3 +22,7 @@ clipped_order low high (pos n) (pos m) order below = grind (arith, ints)
 clipped_order low high (pos n) (negsuc m) order below = absurd (omega (arith, ints))
 clipped_order low high (negsuc n) (pos m) order below = grind (arith, ints)
 clipped_order low high (negsuc n) (negsuc m) order below = grind (arith, ints)
+
+pub clipped_above : (low high : ℕ) (z : ℤ) → low ≤ high → low ≤ clipped low high z
+clipped_above low high (pos n) order = grind (arith, ints)
+clipped_above low high (negsuc n) order = grind (arith, ints)

@@ -1,6 +1,7 @@
 //! Sets of whole times in a span that begins at 0.
 #![tactic(auto)]
 
+mod crossing;
 mod ends;
 mod joining;
 mod segments;

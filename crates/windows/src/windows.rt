@@ -1,8 +1,9 @@
-ghost use Rattle.std.specs.Prelude.{◌≡◌, ◌≤◌, true, IfOk};
-ghost use Rattle.windows.specs.Times.{TimeSet, contains, AreIntervals, InOrder};
+ghost use Rattle.std.specs.Prelude.{◌≡◌, ◌≤◌, List, true, IfOk};
+ghost use Rattle.windows.specs.Times.{Interval, TimeSet, contains, AreIntervals, InOrder};
 
 mod algebra;
 mod lengths;
+mod linear;
 mod spans;
 
 use aerie_base::{List, OutOfMemory, Time};
@@ -33,6 +34,7 @@ impl Windows {
     pub fn intervals(&self) -> &[(Time, Time)]
         ensures value { result.now ≡ self.now.intervals }
         ensures in_order { InOrder self.now.reach 0 result.now }
+        ensures unique { (intervals : List Interval) → AreIntervals self.now.reach (λ t. contains result.now t) intervals → intervals ≡ result.now }
     {
         self.intervals.as_slice()
     }
