@@ -1,10 +1,7 @@
 -- Intervals that are put together, and the times that are still to come.
-use Rattle.std.proofs.Common.{◌≡◌, ℕ, suc, ◌+◌, ◌<◌, ◌≤◌, min, max, Bool, true, false, not, ◌&&◌, ◌||◌, List, [], ◌∷◌, length, drop, get_or, refl, sym, ap, ◌∙◌, arith, nat_le, nat_lt}
-use Rattle.std.proofs.Math.Seq.{drop-cons}
-use Rattle.std.proofs.lemmas.Grind.{common_steps}
+use Rattle.std.proofs.Common.{◌≡◌, ℕ, ◌<◌, ◌≤◌, Bool, true, false, ◌||◌, List, [], refl, sym, ap, ◌∙◌}
 use Rattle.windows.specs.Times.{Interval, covers, contains, InOrder, AreIntervals}
-use Rattle.windows.specs.Joining.{last_start, Joins}
-use Rattle.windows.proofs.Order.{none_before, order_from}
+use Rattle.windows.specs.Joining.{Joins}
 
 -- with the times that are still to come they have just the times of the whole
 pub record Builds (reach : ℕ) (made : List Interval) (rest whole : ℕ → Bool) : Type 0 where

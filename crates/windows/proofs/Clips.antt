@@ -1,8 +1,7 @@
 -- What clipping to a span keeps: the order, and the times that lie before and after.
-use Rattle.std.proofs.Common.{◌≡◌, ℕ, suc, ◌+◌, ◌<◌, ◌≤◌, Bool, true, false, cond, ℤ, pos, negsuc, ◌+ℤ◌, ◌≤ℤ◌, ◌<ℤ◌, nat_abs, refl, sym, ap, ◌∙◌, arith, nat_le, nat_lt}
+use Rattle.std.proofs.Common.{◌≡◌, ℕ, ◌<◌, ◌≤◌, ℤ, pos, negsuc, ◌≤ℤ◌, arith, nat_le, nat_lt}
 use Rattle.std.specs.Int.RustNames.{int_lt, int_le}
 use Rattle.std.proofs.lemmas.Int.{ints}
-use Rattle.std.proofs.lemmas.Grind.{common_steps}
 use Rattle.windows.specs.Ends.{clipped}
 
 pub clipped_from : (low high : ℕ) (z : ℤ) (t : ℕ) → low ≤ t → t < high → nat_le (clipped low high z) t ≡ int_le z (pos t)

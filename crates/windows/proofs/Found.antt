@@ -1,8 +1,8 @@
 -- The first interval that has not ended is the only one that can have the time.
-use Rattle.std.proofs.Common.{◌≡◌, ℕ, zero, suc, ◌+◌, ◌<◌, ◌≤◌, Bool, true, false, ◌&&◌, ◌||◌, List, [], ◌∷◌, length, get_or, refl, sym, ap, ◌∙◌, arith, nat_le, nat_lt}
+use Rattle.std.proofs.Common.{◌≡◌, ℕ, zero, suc, ◌+◌, ◌<◌, ◌≤◌, true, false, List, [], ◌∷◌, length, get_or, refl, sym, ap, ◌∙◌, arith, nat_le}
 use Rattle.std.proofs.lemmas.Grind.{common_steps}
 use Rattle.std.specs.List.Sorted.{IsPartitionedBy, IsPartitionPoint}
-use Rattle.windows.specs.Times.{Interval, covers, contains, InOrder}
+use Rattle.windows.specs.Times.{Interval, contains, InOrder}
 use Rattle.windows.proofs.Order.{none_before}
 
 -- an interval that begins no earlier than `from` ends after it

@@ -1,9 +1,9 @@
 -- One interval more, joined to the last one or put behind it.
-use Rattle.std.proofs.Common.{◌≡◌, ℕ, ◌+◌, ◌<◌, ◌≤◌, max, Bool, true, false, ◌&&◌, ◌||◌, List, [], ◌∷◌, ◌++◌, refl, sym, ap, ◌∙◌, arith, nat_le, nat_lt}
+use Rattle.std.proofs.Common.{◌≡◌, ℕ, ◌<◌, ◌≤◌, max, Bool, true, false, ◌||◌, List, [], ◌∷◌, ◌++◌, refl, sym, ap, ◌∙◌, arith}
 use Rattle.std.proofs.lemmas.Grind.{common_steps}
-use Rattle.windows.specs.Times.{Interval, covers, contains, InOrder}
+use Rattle.windows.specs.Times.{Interval, covers, contains}
 use Rattle.windows.specs.Joining.{last_start, Joins}
-use Rattle.windows.proofs.Order.{next_start, IsBehind, push_parts, push_order, next_push, contains_push}
+use Rattle.windows.proofs.Order.{next_start, push_parts, push_order, next_push, contains_push}
 
 pub last_start_push : (intervals : List Interval) (interval : Interval) → last_start (intervals ++ interval ∷ []) ≡ interval.0
 last_start_push [] interval = refl

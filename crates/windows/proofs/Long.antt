@@ -1,6 +1,6 @@
 -- Intervals that are kept where they are long.
-use Rattle.std.proofs.Common.{◌≡◌, ℕ, suc, ◌+◌, ◌-◌, ◌<◌, ◌≤◌, Bool, true, false, ◌&&◌, ◌||◌, List, [], ◌∷◌, length, drop, get_or, refl, sym, ap, ◌∙◌, arith, nat_le, nat_lt}
-use Rattle.windows.specs.Times.{Interval, covers, contains, long_contains, InOrder, AreIntervals}
+use Rattle.std.proofs.Common.{◌≡◌, ℕ, ◌+◌, ◌-◌, ◌<◌, ◌≤◌, Bool, true, false, ◌&&◌, ◌||◌, List, [], ◌∷◌, length, drop, get_or, ap, ◌∙◌, arith, nat_le}
+use Rattle.windows.specs.Times.{Interval, covers, long_contains, InOrder}
 use Rattle.windows.specs.Joining.{last_start, Joins}
 use Rattle.windows.proofs.Order.{order_from}
 use Rattle.windows.proofs.Both.{cut_at}

@@ -1,8 +1,8 @@
 -- Pieces of one span, each put in or left out.
-use Rattle.std.proofs.Common.{◌≡◌, ℕ, zero, suc, ◌+◌, ◌-◌, ◌<◌, ◌≤◌, Bool, true, false, cond, not, ◌&&◌, ◌||◌, ℤ, pos, negsuc, ◌+ℤ◌, ◌-ℤ◌, ◌*ℤ◌, ◌≤ℤ◌, ◌<ℤ◌, List, [], ◌∷◌, refl, sym, ap, ◌∙◌, arith, nat_le, nat_lt}
-use Rattle.std.specs.Int.RustNames.{int_lt, int_le}
+use Rattle.std.proofs.Common.{◌≡◌, ℕ, ◌-◌, ◌<◌, ◌≤◌, Bool, true, false, not, ◌&&◌, ◌||◌, ℤ, pos, ◌+ℤ◌, ◌-ℤ◌, ◌*ℤ◌, ◌≤ℤ◌, ◌<ℤ◌, List, refl, sym, ap, ◌∙◌, arith, nat_le, nat_lt}
+use Rattle.std.specs.Int.RustNames.{int_lt}
 use Rattle.std.specs.declared.cmp.Ordering.{Ordering}
-use Rattle.std.specs.Ordering.{int_cmp, int_eq, is_eq, is_ne, is_lt, is_le, is_gt, is_ge}
+use Rattle.std.specs.Ordering.{int_cmp, is_eq, is_ne}
 use Rattle.std.specs.Ordering.{MatchOrdering}
 use Rattle.std.specs.declared.cmp.Ordering.TheVariants as order
 use Rattle.std.proofs.Math.IntN.{*ℤ-zero}
@@ -12,13 +12,13 @@ use Rattle.std.proofs.lemmas.Grind.{common_steps}
 use Rattle.aerie_base.specs.declared.expressions.Comparison.{Comparison}
 use Rattle.aerie_base.specs.declared.expressions.Comparison.TheVariants.{Equal, Unequal, Less, AtMost, More, AtLeast}
 use Rattle.windows.specs.Ends.{clipped}
-use Rattle.windows.specs.Times.{Interval, covers, contains, InOrder}
+use Rattle.windows.specs.Times.{Interval, covers, contains}
 use Rattle.windows.specs.Joining.{last_start, Joins}
 use Rattle.windows.specs.Linear.{segment_value, compared, IsSum}
 use Rattle.windows.specs.declared.segments.Segment.{Segment}
 use Rattle.windows.specs.Crossing.{order_at, meets, JoinsWhere}
 use Rattle.windows.specs.declared.crossing.Crossing.{Crossing}
-use Rattle.windows.proofs.Clips.{clipped_to, clipped_within, clipped_order}
+use Rattle.windows.proofs.Clips.{clipped_to}
 
 and_true : (b : Bool) → b ≡ (b && true)
 and_true true = refl
@@ -54,18 +54,21 @@ joined_on old between new from mid to one two whole first second front back same
   where
     alike : (t : ℕ) → (nat_le from t && nat_lt t mid) ≡ true → one t ≡ whole t
     alike t e = same_front t (grind (arith, common_steps)) (grind (arith, common_steps))
+
     front_case : (t : ℕ) (a b c : Bool) → t < mid → nat_le from t ≡ c → ((contains old t || (covers (from, mid) t && one t)) || (covers (mid, to) t && two t)) ≡ (contains old t || (covers (from, to) t && whole t))
     front_case t a b true below e =
         let after : from ≤ t = grind arith in
         let same = same_front t after below in
         grind (arith, common_steps)
     front_case t a b false below e = grind (arith, common_steps)
+
     back_case : (t : ℕ) (c : Bool) → mid ≤ t → nat_lt t to ≡ c → ((contains old t || (covers (from, mid) t && one t)) || (covers (mid, to) t && two t)) ≡ (contains old t || (covers (from, to) t && whole t))
     back_case t true after e =
         let below : t < to = grind arith in
         let same = same_back t after below in
         grind (arith, common_steps)
     back_case t false after e = grind (arith, common_steps)
+
     by_place : (t : ℕ) (b : Bool) → nat_lt t mid ≡ b → ((contains old t || (covers (from, mid) t && one t)) || (covers (mid, to) t && two t)) ≡ (contains old t || (covers (from, to) t && whole t))
     by_place t true e = front_case t true true (nat_le from t) (grind arith) refl
     by_place t false e = back_case t (nat_lt t to) (grind arith) refl
@@ -170,11 +173,13 @@ segment_pieces how segment with crossing end there after old one two new some_ti
     before_it t from below =
         let step = step_before segment.from end t crossing.at from (omega arith) (rw (← there_is) below) in
         sym (value_order how segment with crossing t order ∙ ap (meets how) (at_before crossing (pos (t - segment.from)) step))
+
     at_meeting : (t : ℕ) → there ≤ t → t < after → meets how crossing.there ≡ compared how (segment_value segment t) with
     at_meeting t from below =
         let step = step_from segment.from end t crossing.at (omega arith) (omega arith) (rw (← there_is) from) in
         let next = step_before segment.from end t (crossing.at +ℤ pos 1) (omega arith) (omega arith) (rw (← after_is) below) in
         sym (value_order how segment with crossing t order ∙ ap (meets how) (at_there crossing (pos (t - segment.from)) step (not_past crossing.at (pos (t - segment.from)) next)))
+
     past_it : (t : ℕ) → after ≤ t → t < end → meets how crossing.after ≡ compared how (segment_value segment t) with
     past_it t from below =
         let next = step_from segment.from end t (crossing.at +ℤ pos 1) (omega arith) below (rw (← after_is) from) in

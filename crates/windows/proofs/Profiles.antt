@@ -1,9 +1,10 @@
 -- Segments, one after another, and the times at which each compares so.
-use Rattle.std.proofs.Common.{◌≡◌, ℕ, zero, suc, ◌+◌, ◌-◌, ◌<◌, ◌≤◌, Bool, true, false, cond, not, ◌&&◌, ◌||◌, ℤ, List, [], ◌∷◌, length, drop, get_or, refl, sym, ap, ◌∙◌, arith, nat_le, nat_lt}
+use Rattle.std.proofs.Common.{◌≡◌, ℕ, ◌+◌, ◌<◌, ◌≤◌, Bool, true, false, cond, ◌&&◌, ◌||◌, ℤ, List, [], ◌∷◌, length, drop, get_or, refl, sym, ap, subst, ◌∙◌, arith, add-one, nat_le}
+use Rattle.std.proofs.Math.Seq.{drop-cons}
 use Rattle.std.proofs.lemmas.List.{drop_all}
 use Rattle.std.proofs.lemmas.Grind.{common_steps}
 use Rattle.aerie_base.specs.declared.expressions.Comparison.{Comparison}
-use Rattle.windows.specs.Times.{Interval, covers, contains, InOrder, AreIntervals}
+use Rattle.windows.specs.Times.{Interval, covers, contains, AreIntervals}
 use Rattle.windows.specs.Joining.{last_start}
 use Rattle.windows.specs.Linear.{segment_value, value_at, compared, first_start, Follow, AreSegments, IsSum}
 use Rattle.windows.specs.declared.segments.Segment.{Segment}
@@ -57,4 +58,67 @@ pub record Follows (reach : ℕ) (how : Comparison) (with : ℤ) (made : List In
   pub builds : Builds reach made (some_compared reach how with rest) whole
   pub follow : Follow reach rest
   pub start : last_start made ≤ first_start reach rest
-  pub within : first_start reach rest ≤ reach
+
+start_within : (reach : ℕ) (segments : List Segment) → Follow reach segments → first_start reach segments ≤ reach
+start_within reach [] follow = omega arith
+start_within reach (segment ∷ rest) follow = let next = follow.0 in let later = start_within reach rest follow.2 in omega arith
+
+pub follows_none : (reach : ℕ) (how : Comparison) (with : ℤ) (segments : List Segment) → AreSegments reach segments → Follows reach how with [] segments (λ t. compared how (value_at segments t) with)
+follows_none reach how with segments are = record {
+  builds = record {
+    in_order = tt;
+    times = λ t below. compared_at reach how with segments t are.follow (let zero_first = are.begin_at_zero (omega arith) in omega arith) below;
+  };
+  follow = are.follow;
+  start = omega arith;
+}
+
+cut_at : (segments : List Segment) (i : ℕ) (segment : Segment) → i < length segments → segment ≡ get_or segments i segment → drop i segments ≡ segment ∷ drop (i + 1) segments
+cut_at segments i segment within is = rw (add-one, is) (drop-cons segments i segment within)
+
+-- what the next segment is known to be
+pub record IsNext (made : List Interval) (segment : Segment) (end : ℕ) : Type 0 where
+  pub order : last_start made ≤ segment.from
+  pub span : segment.from < end
+  pub values : (t : ℕ) → segment.from ≤ t → t < end → IsSum (segment_value segment t)
+
+pub follows_next : (reach i : ℕ) (how : Comparison) (with : ℤ) (made : List Interval) (segments : List Segment) (segment : Segment) (end : ℕ) (whole : ℕ → Bool) → i < length segments → segment ≡ get_or segments i segment →
+    end ≡ first_start reach (drop (i + 1) segments) → Follows reach how with made (drop i segments) whole → IsNext made segment end
+follows_next reach i how with made segments segment end whole within is end_is before =
+    let cut = cut_at segments i segment within is in
+    let follow : Follow reach (segment ∷ drop (i + 1) segments) = rw cut at before.follow in
+    let start : last_start made ≤ segment.from = rw cut at before.start in
+    rw end_is (record { order = start; span = follow.0; values = follow.1 })
+
+or_assoc : (a b c : Bool) → ((a || b) || c) ≡ (a || (b || c))
+or_assoc true b c = refl
+or_assoc false b c = refl
+
+pub follows_more : (reach i : ℕ) (how : Comparison) (with : ℤ) (made new : List Interval) (segments : List Segment) (segment : Segment) (end : ℕ) (whole : ℕ → Bool) → i < length segments → segment ≡ get_or segments i segment →
+    end ≡ first_start reach (drop (i + 1) segments) → Follows reach how with made (drop i segments) whole → JoinsWhere made segment.from end (λ t. compared how (segment_value segment t) with) new →
+    Follows reach how with new (drop (i + 1) segments) whole
+follows_more reach i how with made new segments segment end whole within is end_is before joins =
+    let rest = drop (i + 1) segments in
+    let cut = cut_at segments i segment within is in
+    let follow : Follow reach (segment ∷ rest) = rw cut at before.follow in
+    record {
+      builds = record {
+        in_order = joins.in_order reach before.builds.in_order (rw end_is (start_within reach rest follow.2));
+        times = λ t below.
+            ap (λ b. b || some_compared reach how with rest t) (joins.times t)
+            ∙ (or_assoc (contains made t) (covers (segment.from, end) t && compared how (segment_value segment t) with) (some_compared reach how with rest t)
+            ∙ (ap (λ n. contains made t || ((covers (segment.from, n) t && compared how (segment_value segment t) with) || some_compared reach how with rest t)) end_is
+            ∙ (ap (λ (l : List Segment). contains made t || some_compared reach how with l t) (sym cut)
+            ∙ before.builds.times t below)));
+      };
+      follow = follow.2;
+      start = rw (← end_is) joins.start;
+    }
+
+-- no segment is left
+pub follows_all : (reach i : ℕ) (how : Comparison) (with same : ℤ) (made : List Interval) (segments : List Segment) → length segments ≤ i → with ≡ same →
+    Follows reach how with made (drop i segments) (λ t. compared how (value_at segments t) with) → AreIntervals reach (λ t. compared how (value_at segments t) same) made
+follows_all reach i how with same made segments past is before =
+    subst (λ (z : ℤ). AreIntervals reach (λ t. compared how (value_at segments t) z) made) is
+    (builds_all reach made (some_compared reach how with (drop i segments)) (λ t. compared how (value_at segments t) with) before.builds
+    (λ t below. ap (λ (l : List Segment). some_compared reach how with l t) (drop_all i segments past)))

@@ -1,8 +1,8 @@
 -- Intervals moved one after another.
-use Rattle.std.proofs.Common.{◌≡◌, ℕ, suc, ◌+◌, ◌<◌, ◌≤◌, Bool, true, false, ◌&&◌, ◌||◌, ℤ, pos, ◌+ℤ◌, List, [], ◌∷◌, length, drop, get_or, refl, sym, ap, ◌∙◌, arith, nat_le, nat_lt}
+use Rattle.std.proofs.Common.{◌≡◌, ℕ, ◌+◌, ◌<◌, ◌≤◌, Bool, ◌||◌, ℤ, pos, ◌+ℤ◌, List, [], ◌∷◌, length, drop, get_or, refl, ap, ◌∙◌, arith}
 use Rattle.std.proofs.lemmas.Int.{ints}
 use Rattle.windows.specs.Ends.{clipped}
-use Rattle.windows.specs.Times.{Interval, covers, contains, shifted_contains, InOrder, AreIntervals}
+use Rattle.windows.specs.Times.{Interval, covers, shifted_contains, InOrder}
 use Rattle.windows.specs.Joining.{last_start, Joins}
 use Rattle.windows.proofs.Order.{order_from}
 use Rattle.windows.proofs.Both.{cut_at}

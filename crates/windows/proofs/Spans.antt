@@ -1,10 +1,10 @@
 -- Spans by the order of their starts, put together one after another.
-use Rattle.std.proofs.Common.{◌≡◌, ℕ, suc, ◌+◌, ◌<◌, ◌≤◌, min, Bool, true, false, ◌&&◌, ◌||◌, List, [], ◌∷◌, length, drop, get_or, refl, sym, ap, ◌∙◌, arith, nat_le, nat_lt}
+use Rattle.std.proofs.Common.{◌≡◌, ℕ, ◌+◌, ◌<◌, ◌≤◌, min, Bool, ◌||◌, List, [], ◌∷◌, length, drop, get_or, sym, ap, ◌∙◌, arith}
 use Rattle.std.proofs.lemmas.Grind.{common_steps}
 use Rattle.std.specs.List.Sorted.{IsNonDecreasingBy, IsPermutation}
 use Rattle.std.proofs.lemmas.List.Sorted.{IsNonDecreasingBy-drop, list_any-IsPermutation}
 use Rattle.std.proofs.lemmas.List.{drop_all}
-use Rattle.windows.specs.Times.{Interval, covers, contains, InOrder, AreIntervals}
+use Rattle.windows.specs.Times.{Interval, covers, contains, AreIntervals}
 use Rattle.windows.specs.Joining.{last_start, Joins}
 use Rattle.windows.proofs.Both.{cut_at}
 use Rattle.windows.proofs.Builds.{Builds, builds_none, builds_more, builds_all}

@@ -1,7 +1,7 @@
 -- Two lists of maximal intervals with the same times are one list.
-use Rattle.std.proofs.Common.{◌≡◌, ℕ, ◌+◌, ◌<◌, ◌≤◌, Bool, true, false, ◌&&◌, ◌||◌, List, [], ◌∷◌, refl, sym, ap, ◌∙◌, arith, nat_le, nat_lt}
+use Rattle.std.proofs.Common.{◌≡◌, ℕ, ◌+◌, ◌<◌, ◌≤◌, Bool, true, false, List, [], ◌∷◌, refl, sym, ◌∙◌, arith, nat_lt}
 use Rattle.std.proofs.lemmas.Grind.{common_steps}
-use Rattle.windows.specs.Times.{Interval, covers, contains, InOrder, AreIntervals}
+use Rattle.windows.specs.Times.{Interval, contains, InOrder, AreIntervals}
 use Rattle.windows.proofs.Order.{none_before, none_past}
 
 abbrev Alike : List Interval → List Interval → Type 0

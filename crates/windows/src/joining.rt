@@ -1,13 +1,16 @@
 ghost use Rattle.std.specs.Prelude.{◌≤◌, OnOk};
 ghost use Rattle.windows.specs.Joining.{last_start, Joins};
 
-use aerie_base::{List, OutOfMemory, Time};
-
 use crate::ends::{is_by, later};
+use aerie_base::{List, OutOfMemory, Time};
 
 /// Puts the times from `from` up to `to` behind intervals that began no later, and joins them to the last one where
 /// they overlap or touch it. Where there is no such time nothing changes.
-pub(crate) fn join(intervals: &mut List<(Time, Time)>, from: Time, to: Time) -> Result<(), OutOfMemory>
+pub(crate) fn join(
+    intervals: &mut List<(Time, Time)>,
+    from: Time,
+    to: Time,
+) -> Result<(), OutOfMemory>
     requires order { last_start intervals.old ≤ from }
     ensures { OnOk result (Joins intervals.old from to intervals.new) }
 {

@@ -6,9 +6,9 @@ mod lengths;
 mod linear;
 mod spans;
 
-use aerie_base::{List, OutOfMemory, Time};
 use crate::ends::{first_time, is_by};
 use crate::joining::join;
+use aerie_base::{List, OutOfMemory, Time};
 use std::alloc::Global;
 use std::marker::Model;
 

@@ -4,15 +4,19 @@ ghost use Rattle.std.specs.Prelude.{◌≡◌, ◌<◌, ◌≤◌, ◌&&◌, ◌
 ghost use Rattle.windows.specs.Joining.{stands_first};
 ghost use Rattle.windows.specs.Times.{contains, AreIntervals};
 
-use aerie_base::{List, OutOfMemory, Time};
-use std::alloc::Global;
-
 use super::Windows;
 use crate::ends::{earlier, first_time, is_by, later};
 use crate::joining::join;
+use aerie_base::{List, OutOfMemory, Time};
+use std::alloc::Global;
 
 /// Whether the next interval on the left is there, and begins no later than the next one on the right, if any.
-fn stands_first(left: &[(Time, Time)], at_left: usize, right: &[(Time, Time)], at_right: usize) -> bool
+fn stands_first(
+    left: &[(Time, Time)],
+    at_left: usize,
+    right: &[(Time, Time)],
+    at_right: usize,
+) -> bool
     requires on_left { at_left ≤ length left.now }
     requires on_right { at_right ≤ length right.now }
     ensures value { result ≡ stands_first (drop at_left left.now) (drop at_right right.now) }

@@ -5,12 +5,11 @@ ghost use Rattle.aerie_base.specs.Ranges.{time_limit};
 ghost use Rattle.windows.specs.Ends.{clipped};
 ghost use Rattle.windows.specs.Times.{shifted_contains, long_contains, AreIntervals};
 
-use aerie_base::{List, OutOfMemory, Time};
-use std::alloc::Global;
-
 use super::Windows;
 use crate::ends::{first_time, within};
 use crate::joining::join;
+use aerie_base::{List, OutOfMemory, Time};
+use std::alloc::Global;
 
 /// The time moved by so many microseconds, but not out of [0, reach].
 fn moved(time: Time, by: i64, reach: Time) -> Time

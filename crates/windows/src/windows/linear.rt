@@ -6,17 +6,21 @@ ghost use Rattle.windows.specs.Joining.{last_start};
 ghost use Rattle.windows.specs.Linear.{AreSegments, IsSum, compared, first_start, segment_value, value_at};
 ghost use Rattle.windows.specs.Times.{AreIntervals};
 
-use aerie_base::{Comparison, List, OutOfMemory, Time};
-use std::alloc::Global;
-
 use super::Windows;
 use crate::crossing::{cross, meets};
 use crate::ends::within;
 use crate::joining::join;
 use crate::segments::Segment;
+use aerie_base::{Comparison, List, OutOfMemory, Time};
+use std::alloc::Global;
 
 /// Puts the times from `from` up to `to` behind the others where `holds`.
-fn join_where(intervals: &mut List<(Time, Time)>, holds: bool, from: Time, to: Time) -> Result<(), OutOfMemory>
+fn join_where(
+    intervals: &mut List<(Time, Time)>,
+    holds: bool,
+    from: Time,
+    to: Time,
+) -> Result<(), OutOfMemory>
     requires order { last_start intervals.old ≤ from }
     requires span { from ≤ to }
     ensures { OnOk result (JoinsWhere intervals.old from to (λ t. holds) intervals.new) }
@@ -29,7 +33,13 @@ fn join_where(intervals: &mut List<(Time, Time)>, holds: bool, from: Time, to: T
 
 /// Puts in the times of a segment that ends at `end` at which its value compares so with the number. The value passes
 /// the number once, so that these are the times before, at and after that whole time, or none of each.
-fn join_compared(intervals: &mut List<(Time, Time)>, segment: &Segment, end: Time, how: Comparison, with: i128) -> Result<(), OutOfMemory>
+fn join_compared(
+    intervals: &mut List<(Time, Time)>,
+    segment: &Segment,
+    end: Time,
+    how: Comparison,
+    with: i128,
+) -> Result<(), OutOfMemory>
     requires order { last_start intervals.old ≤ segment.now.from }
     requires span { segment.now.from < end }
     requires values { (t : ℕ) → segment.now.from ≤ t → t < end → IsSum (segment_value segment.now t) }
@@ -60,7 +70,13 @@ fn end_of(reach: Time, segments: &[Segment], at: usize) -> Time
 impl Windows {
     /// The times below the reach at which the value of the segments compares so with the number. Each segment has the
     /// times from its start up to the next one, or up to the reach. It takes steps as there are segments.
-    pub fn where_linear(alloc: Global, reach: Time, segments: &[Segment], how: Comparison, with: i128) -> Result<Windows, OutOfMemory>
+    pub fn where_linear(
+        alloc: Global,
+        reach: Time,
+        segments: &[Segment],
+        how: Comparison,
+        with: i128,
+    ) -> Result<Windows, OutOfMemory>
         requires segments { AreSegments reach segments.now }
         requires with { IsSum with }
         ensures reach { IfOk result (λ made. made.reach ≡ reach) }

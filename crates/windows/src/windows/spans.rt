@@ -4,12 +4,11 @@ ghost use Rattle.std.specs.Prelude.{◌≡◌, IfOk, IsPermutation};
 ghost use Rattle.std.specs.List.Sorted.{IsNonDecreasingBy};
 ghost use Rattle.windows.specs.Times.{Interval, contains, AreIntervals};
 
-use aerie_base::{List, OutOfMemory, Time};
-use std::alloc::Global;
-
 use super::Windows;
 use crate::ends::earlier;
 use crate::joining::join;
+use aerie_base::{List, OutOfMemory, Time};
+use std::alloc::Global;
 
 /// The spans by the order of their starts.
 fn by_start(alloc: Global, spans: &[(Time, Time)]) -> Result<Vec<(Time, Time)>, OutOfMemory>
@@ -24,7 +23,11 @@ fn by_start(alloc: Global, spans: &[(Time, Time)]) -> Result<Vec<(Time, Time)>, 
 impl Windows {
     /// The times below the reach that some span has. A span has the times from its start up to its end; one that ends
     /// where it starts, or before, has none. The spans may stand in any order, which is sorted once.
-    pub fn of_spans(alloc: Global, reach: Time, spans: &[(Time, Time)]) -> Result<Windows, OutOfMemory>
+    pub fn of_spans(
+        alloc: Global,
+        reach: Time,
+        spans: &[(Time, Time)],
+    ) -> Result<Windows, OutOfMemory>
         ensures reach { IfOk result (λ made. made.reach ≡ reach) }
         ensures times { IfOk result (λ made. AreIntervals made.reach (λ t. contains spans.now t) made.intervals) }
     {

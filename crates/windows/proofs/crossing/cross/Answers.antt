@@ -1,6 +1,6 @@
-use Rattle.std.proofs.Common.{◌≡◌, ◌<◌, ◌^◌, ℤ, FitsSigned, unsigned_abs, of_z, sym, ◌∙◌, ap, arith}
+use Rattle.std.proofs.Common.{◌<◌, ◌^◌, ℤ, FitsSigned, unsigned_abs, of_z, ap, arith}
 use Rattle.std.specs.Int.{w128}
-use Rattle.std.specs.Int.RustNames.{int_div, int_rem}
+use Rattle.std.specs.Int.RustNames.{int_div}
 use Rattle.std.proofs.lemmas.Int.{quot_is, rem_is, to_z-of_z, fits_signed_from_abs}
 use Rattle.windows.proofs.Lines.{near, crosses_rising, crosses_falling}
 use Rattle.windows.proofs.crossing.cross.Goals as goal

@@ -1,5 +1,5 @@
 -- All intervals before the place that was found have ended, and none from there on.
-use Rattle.std.proofs.Common.{◌≡◌, ◌∙◌, List, ap, sym, arith, refl, rules, nat_le}
+use Rattle.std.proofs.Common.{◌∙◌, List, ap, rules, nat_le}
 use Rattle.std.proofs.lemmas.List.Sorted.{IsPartitionPoint-from_clause}
 use Rattle.windows.specs.Times.{Interval, TimeSet, InOrder, contains}
 use Rattle.windows.proofs.Found.{parted, found, found_past}

@@ -1,4 +1,4 @@
-use Rattle.std.proofs.Common.{◌∙◌, sym}
+use Rattle.std.proofs.Common.{sym}
 use Rattle.windows.proofs.Spans.{covers_more, covers_all}
 use Rattle.windows.proofs.windows.Windows.of_spans.Goals as goal
 

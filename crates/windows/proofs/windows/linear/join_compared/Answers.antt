@@ -1,5 +1,5 @@
 -- The two places lie in the segment, in order, and at each step the code's numbers are the segment's.
-use Rattle.std.proofs.Common.{◌≡◌, ◌≤◌, ℤ, pos, ◌+ℤ◌, ◌-ℤ◌, ◌*ℤ◌, ◌≤ℤ◌, to_z, of_z, FitsSigned, ap, sym, ◌∙◌, arith, rules}
+use Rattle.std.proofs.Common.{◌≡◌, ◌≤◌, ℤ, pos, ◌+ℤ◌, ◌-ℤ◌, ◌*ℤ◌, to_z, of_z, FitsSigned, ap, ◌∙◌, arith, rules}
 use Rattle.std.specs.Int.{w128}
 use Rattle.std.specs.Ordering.{int_cmp}
 use Rattle.std.proofs.lemmas.Int.{ints, to_z-of_z}
@@ -32,12 +32,12 @@ returns c =
     let rate_is : to_z w128 (of_z w128 segment.rate) ≡ segment.rate = to_z-of_z w128 segment.rate rate in
     let away_is : to_z w128 (of_z w128 (to_z w128 (of_z w128 c.args.with) -ℤ to_z w128 (of_z w128 segment.value))) ≡ c.args.with -ℤ segment.value = omega (arith, ints) in
     let order : (step : ℤ) → int_cmp (segment.rate *ℤ step) (c.args.with -ℤ segment.value) ≡ order_at c.cross-crossing.result step =
-        λ step. rw (rate_is, away_is) at (c.cross-crossing.ensures.order step) in
+    λ step. rw (rate_is, away_is) at (c.cross-crossing.ensures.order step) in
     let near = c.cross-crossing.ensures.near in
     let there : c.within-there.result ≡ clipped segment.from c.args.end (pos segment.from +ℤ c.cross-crossing.result.at) =
-        c.within-there.ensures ∙ ap (clipped segment.from c.args.end) (omega (arith, ints)) in
+    c.within-there.ensures ∙ ap (clipped segment.from c.args.end) (omega (arith, ints)) in
     let after : c.within-after.result ≡ clipped segment.from c.args.end (pos segment.from +ℤ (c.cross-crossing.result.at +ℤ pos 1)) =
-        c.within-after.ensures ∙ ap (clipped segment.from c.args.end) (omega (arith, ints)) in
+    c.within-after.ensures ∙ ap (clipped segment.from c.args.end) (omega (arith, ints)) in
     let some_time = c.requires.span in
     let first : segment.from ≤ c.within-there.result = rw there (clipped_above segment.from c.args.end _ (omega arith)) in
     let second : c.within-there.result ≤ c.within-after.result = rw (there, after) (clipped_order segment.from c.args.end _ _ (omega arith) (omega (arith, ints))) in
