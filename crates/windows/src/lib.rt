@@ -9,3 +9,4 @@ mod windows;
 
 pub use segments::Segment;
 pub use windows::Windows;
+
