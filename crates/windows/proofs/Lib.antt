@@ -11,5 +11,6 @@ pub mod Order
 pub mod Pieces
 pub mod Profiles
 pub mod Shifts
+pub mod Single
 pub mod Spans
 pub mod Unique

@@ -10,3 +10,5 @@ mod windows;
 pub use segments::Segment;
 pub use windows::Windows;
 
+#[cfg(test)]
+mod tests;
