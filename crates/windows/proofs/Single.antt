@@ -1,10 +1,10 @@
 -- One segment over the whole reach.
-use Rattle.std.proofs.Common.{◌≡◌, ℕ, ◌+◌, ◌-◌, ◌*◌, ◌<◌, ◌≤◌, ◌^◌, ℤ, pos, ◌+ℤ◌, ◌*ℤ◌, List, [], ◌∷◌, refl, sym, ap, ◌∙◌, arith}
+use Rattle.std.proofs.Common.{◌≡◌, ℕ, ◌-◌, ◌<◌, ◌≤◌, pos, ◌*ℤ◌, [], ◌∷◌, ap, ◌∙◌, arith}
 use Rattle.std.specs.Int.RustNames.{unsigned_abs}
 use Rattle.std.proofs.Math.IntN.{*ℤ-zero}
 use Rattle.std.proofs.lemmas.Int.{ints, unsigned_abs-mul}
 use Rattle.std.proofs.lemmas.Nat.{mul-le}
-use Rattle.windows.specs.Linear.{segment_value, first_start, Follow, AreSegments, IsSum}
+use Rattle.windows.specs.Linear.{segment_value, AreSegments, IsSum}
 use Rattle.windows.specs.declared.segments.Segment.{Segment}
 
 -- the value and the rate are 32 bits long, so that no value up to the last time is out of range
