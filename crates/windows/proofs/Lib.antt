@@ -1,0 +1,16 @@
+pub mod Both
+pub mod Builds
+pub mod Clips
+pub mod Either
+pub mod Found
+pub mod Joins
+pub mod Left
+pub mod Lines
+pub mod Long
+pub mod Order
+pub mod Pieces
+pub mod Profiles
+pub mod Shifts
+pub mod Single
+pub mod Spans
+pub mod Unique

@@ -1,0 +1,8 @@
+use Rattle.std.proofs.Common.{drop}
+use Rattle.windows.specs.Linear.{compared, value_at}
+use Rattle.windows.proofs.Profiles.{Follows}
+use Rattle.windows.proofs.windows.Windows.where_linear.Given as goal
+
+-- the segments before this one are put in
+abbrev pub invariant-loop-at : goal.invariant-loop-at
+invariant-loop-at l = Follows l.reach l.how l.with l.intervals (drop l.at l.segments) (λ t. compared l.how (value_at l.segments t) l.with)

@@ -1,0 +1,5 @@
+pub mod Crossing
+pub mod Ends
+pub mod Joining
+pub mod Linear
+pub mod Times
