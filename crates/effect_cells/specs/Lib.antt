@@ -1,0 +1,16 @@
+pub mod CellCases
+pub mod Cells
+pub mod ChangeCases
+pub mod ChangeLaws
+pub mod Changes
+pub mod Folded
+pub mod Gathering
+pub mod Pending
+pub mod Reads
+pub mod States
+pub mod SumLaws
+pub mod Sums
+pub mod TreeRecursion
+pub mod WakeTimes
+pub mod Worth
+pub mod WorthLaws

@@ -1,0 +1,113 @@
+ghost use Rattle.std.specs.Prelude.{◌≡◌, ◌<◌, ◌^◌, length, slice_get, IsTrue, Some, OnOk, OnErr, IfOk};
+ghost use Rattle.effect_cells.specs.Sums.{sum_limit};
+ghost use Rattle.effect_cells.specs.Worth.{magnitude_of};
+ghost use Rattle.effect_cells.specs.Cells.{initial, fits_cells, committed, passed, emitted, IsSmallOn, verdict, AreInRange};
+
+use crate::committing::{check_pending, commit_each};
+use crate::effects::{CellState, Effect};
+use crate::passing::{check_later, pass_each};
+use crate::pending::{Pending, gather, nothing_pending};
+use crate::starts::first_states;
+use crate::states::applied;
+use crate::trees::Tree;
+use aerie_base::{Model, OutOfMemory, Time};
+use std::alloc::Global;
+use thiserror::Error;
+
+/// A cell would leave its range: the first such cell, counted from 0 in the order of the model.
+#[derive(Clone, Copy, Debug, PartialEq, Eq, Drop, Error)]
+#[error("cell {cell} would leave its range")]
+pub struct OutOfRange {
+    /// The cell.
+    pub cell: u16,
+}
+
+/// The cells of a model. Contracts see them as the list of their states, in the order of the model.
+#[derive(Debug, Drop)]
+pub struct Cells {
+    states: Vec<CellState>,
+    pending: Vec<Pending>,
+}
+
+impl std::marker::Model for Cells {
+    ghost use Rattle.std.specs.Prelude.{List, length, ◌≡◌, ◌<◌, ◌^◌};
+    ghost use Rattle.effect_cells.specs.declared.effects.CellState.{CellState};
+
+    ghost Value = { List CellState };
+
+    ghost view = { λ cells. cells.states.items };
+
+    ghost invariant = { λ cells. (length cells.states.items < 2 ^ 16) × (length cells.pending.items ≡ length cells.states.items) };
+}
+
+impl Cells {
+    /// The cells of the model as they are declared.
+    #[tactic(auto, using(crate::proofs::ModelCells::model_begins, crate::proofs::ModelCells::few_cells))]
+    pub fn initial(alloc: Global, model: &Model) -> Result<Cells, OutOfMemory>
+        ensures value { IfOk result (λ cells. cells ≡ initial model.now) }
+        ensures range { IfOk result (λ cells. AreInRange cells) }
+    {
+        let starts = model.cells();
+        let states = first_states(alloc, starts)?;
+        let pending = nothing_pending(alloc, states.as_slice())?;
+        Ok(Cells { states, pending })
+    }
+
+    /// The state of the cell. It takes no memory.
+    pub fn state(&self, cell: u16) -> CellState
+        requires { cell < length self.now }
+        ensures { slice_get self.now cell ≡ Some result }
+    {
+        self.states[cell as usize]
+    }
+
+    /// Puts the effects of a batch on the cells: each becomes its state with the worth of the tree on it applied. Where
+    /// a cell would leave its range, the cells stay as they are and the first such cell is named. It takes no memory.
+    pub fn commit(&mut self, tree: &Tree) -> Result<(), OutOfRange>
+        requires range { AreInRange self.old }
+        requires kinds { IsTrue (fits_cells self.old tree.now) }
+        requires small { magnitude_of tree.now < sum_limit }
+        ensures answer { result ≡ verdict (committed self.old tree.now) }
+        ensures range { OnOk result (AreInRange self.new) }
+        ensures committed { OnOk result (self.new ≡ committed self.old tree.now) }
+        ensures unchanged { OnErr result (self.new ≡ self.old) }
+    {
+        gather(tree, self.states.as_slice(), self.pending.as_mut_slice());
+        check_pending(self.states.as_slice(), self.pending.as_slice())?;
+        commit_each(self.states.as_mut_slice(), self.pending.as_slice());
+        Ok(())
+    }
+
+    /// Applies one effect to one cell, also past the cell's range. It takes no memory.
+    pub fn emit(&mut self, cell: u16, effect: &Effect)
+        requires cell { cell < length self.old }
+        requires small { IsSmallOn (slice_get self.old cell) effect.now }
+        ensures { self.new ≡ emitted self.old cell effect.now }
+    {
+        let state = applied(&self.states[cell as usize], effect);
+        self.states[cell as usize] = state;
+    }
+
+    /// Moves to a time `dt` later, while there is no effect. Where a cell would leave its range, the cells stay as they
+    /// are and the first such cell is named. It takes no memory.
+    pub fn passed(&mut self, dt: Time) -> Result<(), OutOfRange>
+        requires { AreInRange self.old }
+        ensures answer { result ≡ verdict (passed self.old dt) }
+        ensures range { OnOk result (AreInRange self.new) }
+        ensures moved { OnOk result (self.new ≡ passed self.old dt) }
+        ensures unchanged { OnErr result (self.new ≡ self.old) }
+    {
+        check_later(self.states.as_slice(), dt)?;
+        pass_each(self.states.as_mut_slice(), dt);
+        Ok(())
+    }
+
+    /// An equal value.
+    pub fn copy(&self) -> Result<Cells, OutOfMemory>
+        ensures { IfOk result (λ copy. copy ≡ self.now) }
+    {
+        let states = self.states.clone()?;
+        let pending = self.pending.clone()?;
+        Ok(Cells { states, pending })
+    }
+}

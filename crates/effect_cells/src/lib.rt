@@ -1,0 +1,31 @@
+//! Effects on the cells of a model: the three kinds of cell with the laws of their effects, the trees of effects that
+//! concurrent tasks leave, and the cells themselves, which only their own methods change.
+#![tactic(auto)]
+
+mod accumulators;
+mod cells;
+mod committing;
+mod counters;
+mod effect_trait;
+mod effects;
+mod kinds;
+mod passing;
+mod pending;
+mod registers;
+mod starts;
+mod states;
+mod sums;
+#[cfg(test)]
+mod tests;
+mod trees;
+mod worths;
+
+pub use accumulators::Accumulator;
+pub use cells::{Cells, OutOfRange};
+pub use counters::Counter;
+pub use effect_trait::EffectTrait;
+pub use effects::{CellState, Effect};
+pub use kinds::CellKind;
+pub use registers::{Change, Register};
+pub use trees::{Part, Tree};
+pub use worths::worth;
