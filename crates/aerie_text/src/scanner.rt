@@ -17,7 +17,22 @@ use std::alloc::Global;
 /// The tokens of a text, in order. `BadToken` names the first place where no token begins, which is behind the white
 /// space and the comments that follow the last token. It takes time linear in the text, since each byte is read a few
 /// times at most, and copies no text.
-pub fn tokens(alloc: Global, text: &str) -> Result<List<Token>, TextError>
+pub fn tokens(alloc: Global, text: &str) -> Result<Vec<Token>, TextError>
+    ensures exact { IfOk result (λ tokens. tokens_of text.now ≡ Ok tokens.items) }
+    ensures cut { IfOk result (λ tokens. AreTokens text.now 0 tokens.items (length text.now)) }
+    ensures edges { IfOk result (λ tokens. All (IsAtEdges text.now) tokens.items) }
+    ensures refused { (at : ℕ) → result ≡ Err (BadToken at) → tokens_of text.now ≡ Err at }
+    ensures first { (at : ℕ) → result ≡ Err (BadToken at) → IsFirstBad text.now at }
+    ensures edge { (at : ℕ) → result ≡ Err (BadToken at) → IsCharBoundary text.now at }
+{
+    match token_list(alloc, text) {
+        Ok(tokens) => Ok(tokens.into_vec()),
+        Err(error) => Err(error),
+    }
+}
+
+/// The tokens as a list.
+fn token_list(alloc: Global, text: &str) -> Result<List<Token>, TextError>
     ensures exact { IfOk result (λ tokens. tokens_of text.now ≡ Ok tokens) }
     ensures cut { IfOk result (λ tokens. AreTokens text.now 0 tokens (length text.now)) }
     ensures edges { IfOk result (λ tokens. All (IsAtEdges text.now) tokens) }
