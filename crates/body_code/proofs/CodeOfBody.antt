@@ -1,0 +1,45 @@
+-- The flat code of a body stands for what is left at its places.
+use Rattle.std.proofs.Common.{◌≡◌, ◌+◌, List, [], ◌∷◌, ◌++◌, sym, ap, ◌∙◌, subst, arith, length, length-append, append-nil}
+use Rattle.aerie_base.specs.declared.statements.Stmt.{Stmt}
+use Rattle.aerie_base.specs.statements.Places.{placed, block_lefts, all_lefts, left, block_size}
+use Rattle.aerie_base.specs.statements.Induction.{each}
+use Rattle.body_code.specs.FlatCode.{block_code, body_code}
+use Rattle.body_code.specs.Standing.{Stands, Turns, IsCodeOf}
+use Rattle.body_code.specs.declared.instructions.Instruction.{Instruction}
+use Rattle.body_code.specs.declared.instructions.Instruction.TheVariants.{End}
+use Rattle.body_code.proofs.Lengths.{block_length, lefts_block_length}
+use Rattle.body_code.proofs.StandingCode.{Has, Fine, Shows, has_front, has_back, has_all, fine_both, fine_at, block_shows, stmt_shows}
+use Rattle.body_code.proofs.TurningCode.{HasCode, AllTurn, Turning, code_front, code_all, turn_both, turn_at, block_turn, stmt_turn}
+
+-- ---- a body's code
+
+pub is_code : (body : List Stmt) (code : List Instruction) → code ≡ body_code body → IsCodeOf body code
+unfolding left
+is_code body code e =
+    let left_at = left body in
+    let places = length code in
+    let last_place = block_size body in
+    let long : places ≡ last_place + 1 = omega (arith, ap length e, length-append (block_code body 0) (End ∷ []), block_length body 0) in
+    let all : Has left_at 0 (all_lefts body) = has_all (all_lefts body) [] in
+    let end : left_at last_place ≡ [] = (has_back left_at 0 last_place (block_lefts body 0 []) ([] ∷ []) (omega (arith, lefts_block_length body 0 [])) all).0 in
+    let end' : left_at (0 + last_place) ≡ [] = (let k : last_place ≡ 0 + last_place = omega arith in subst (λ inner. left_at inner ≡ []) k end) in
+    let part = block_shows left_at places body (each (Shows left_at places) (stmt_shows left_at places) body) 0 [] (has_front left_at 0 (block_lefts body 0 []) ([] ∷ []) all) end' (omega arith) in
+    let last : Fine left_at places last_place (End ∷ []) = (end, tt) in
+    let fine = fine_both left_at places 0 last_place (block_code body 0) (End ∷ []) (omega (arith, block_length body 0)) part.0 last in
+    let fine' : Fine left_at places 0 code = subst (Fine left_at places 0) (sym e) fine in
+    let whole = block_code body 0 ++ End ∷ [] in
+    let has : HasCode code 0 whole = subst (λ c. HasCode c 0 whole) (sym e) (code_all whole []) in
+    let over : AllTurn code last_place (End ∷ []) = (tt, tt) in
+    let turn : AllTurn code 0 whole = turn_both code 0 last_place (block_code body 0) (End ∷ []) (omega (arith, block_length body 0)) (block_turn code body (each (Turning code) (stmt_turn code) body) 0 (code_front code 0 (block_code body 0) (End ∷ []) has)) over in
+    let turn' : AllTurn code 0 code = subst (AllTurn code 0) (sym e) turn in
+    record {
+      begins = part.1 ∙ append-nil (placed 0 body);
+      places = long;
+      stands = λ at instruction k. (let z : 0 + at ≡ at = omega arith in subst (λ outer. Stands left_at places outer instruction) z (fine_at left_at places 0 at code instruction fine' k));
+      turns = λ at instruction k. (let z : 0 + at ≡ at = omega arith in subst (λ outer. Turns code outer instruction) z (turn_at code 0 at code instruction turn' k));
+    }
+
+-- ---- what is written for a body
+
+pub flat_is : (body : List Stmt) (code code1 code2 : List Instruction) → code ≡ [] → code1 ≡ code ++ block_code body (length code) → code2 ≡ code1 ++ End ∷ [] → code2 ≡ body_code body
+flat_is body code code1 code2 e0 e1 e2 = e2 ∙ ap (λ l. l ++ End ∷ []) (e1 ∙ ap (λ l. l ++ block_code body (length l)) e0)

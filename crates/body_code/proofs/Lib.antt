@@ -1,0 +1,9 @@
+pub mod FlatForms
+pub mod Lengths
+pub mod StandingCode
+pub mod TurningCode
+pub mod CodeOfBody
+pub mod Rooms
+pub mod Patches
+pub mod ModelBodies
+pub mod Counting
