@@ -1,0 +1,17 @@
+mod Budgets
+mod Counting
+mod DueTimes
+mod Ending
+mod FramePaths
+mod Generations
+mod InTurn
+mod Keeping
+mod Orders
+mod PathOrder
+mod Paying
+mod Reading
+mod Replay
+mod Rising
+mod Tables
+mod ValidRecords
+mod WaveGenerations

@@ -1,0 +1,5 @@
+pub mod Missions
+pub mod Simple
+pub mod Registers
+pub mod Waits
+pub mod Anchors

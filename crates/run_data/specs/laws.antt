@@ -1,0 +1,11 @@
+pub mod Budgets
+pub mod Ending
+pub mod Folding
+pub mod Generations
+pub mod InTurn
+pub mod Orders
+pub mod Reads
+pub mod Replay
+pub mod Rising
+pub mod ValidRecords
+pub mod WaveGenerations

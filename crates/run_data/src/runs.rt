@@ -1,0 +1,150 @@
+ghost use Rattle.std.specs.Prelude.{◌≡◌, IfOk};
+
+use crate::frames::Frame;
+use crate::reads::copy_cells;
+use aerie_base::{Fault, List, OutOfMemory, Path, Plan, Time, copy_list};
+use effect_cells::CellState;
+use std::alloc::Global;
+
+/// A settled time of a run.
+#[derive(Debug, Drop)]
+pub struct Instant {
+    /// The time, in microseconds from the start of the plan.
+    pub time: Time,
+    /// Its batches in order, each with its frames in order of path.
+    pub batches: List<List<Frame>>,
+    /// The cells on which a batch had an effect, in order of number, each with its settled state.
+    pub changed: List<(u16, CellState)>,
+}
+
+/// What a run failed of.
+#[derive(Debug, Drop)]
+pub enum Who {
+    /// A task that faulted.
+    Task(Path),
+    /// A cell that left its range, counted from 0 in the order of the model.
+    Cell(u16),
+}
+
+/// How a run ended.
+#[derive(Debug, Drop)]
+pub enum Outcome {
+    /// It came to the end of the plan.
+    Completed,
+    /// A task faulted or a cell left its range; nothing of that time is part of the run.
+    Failed {
+        /// When.
+        time: Time,
+        /// The task or the cell.
+        who: Who,
+        /// The fault.
+        fault: Fault,
+    },
+    /// The costs of the steps together passed the bound; nothing of that time is part of the run.
+    StepLimit {
+        /// When.
+        time: Time,
+    },
+}
+
+/// A simulation of a plan.
+#[derive(Debug, Drop)]
+pub struct Run {
+    /// The plan.
+    pub plan: Plan,
+    /// What the costs of all steps together may come to.
+    pub bound: u64,
+    /// The settled instants, in order of time.
+    pub instants: List<Instant>,
+    /// The time that it reached: everything before it is known.
+    pub reach: Time,
+    /// How it ended.
+    pub outcome: Outcome,
+}
+
+impl Instant {
+    /// An equal instant.
+    pub fn copy(&self, alloc: Global) -> Result<Instant, OutOfMemory>
+        ensures { IfOk result (λ copy. copy ≡ self.now) }
+    {
+        let batches = copy_batches(alloc, &self.batches)?;
+        let changed = copy_cells(alloc, &self.changed)?;
+        Ok(Instant {
+            time: self.time,
+            batches,
+            changed,
+        })
+    }
+}
+
+/// Equal batches.
+fn copy_batches(
+    alloc: Global,
+    batches: &List<List<Frame>>,
+) -> Result<List<List<Frame>>, OutOfMemory>
+    ensures { IfOk result (λ copies. copies ≡ batches.now) }
+{
+    let mut copies = List::new(alloc);
+    for batch in batches.as_slice() {
+        copies.push(copy_list(alloc, batch)?)?;
+    }
+    Ok(copies)
+}
+
+impl Who {
+    /// An equal value.
+    pub fn copy(&self, alloc: Global) -> Result<Who, OutOfMemory>
+        ensures { IfOk result (λ copy. copy ≡ self.now) }
+    {
+        match self {
+            Who::Task(path) => Ok(Who::Task(path.copy(alloc)?)),
+            Who::Cell(cell) => Ok(Who::Cell(*cell)),
+        }
+    }
+}
+
+impl Outcome {
+    /// An equal outcome.
+    pub fn copy(&self, alloc: Global) -> Result<Outcome, OutOfMemory>
+        ensures { IfOk result (λ copy. copy ≡ self.now) }
+    {
+        match self {
+            Outcome::Completed => Ok(Outcome::Completed),
+            Outcome::Failed { time, who, fault } => Ok(Outcome::Failed {
+                time: *time,
+                who: who.copy(alloc)?,
+                fault: *fault,
+            }),
+            Outcome::StepLimit { time } => Ok(Outcome::StepLimit { time: *time }),
+        }
+    }
+}
+
+impl Run {
+    /// An equal run.
+    pub fn copy(&self, alloc: Global) -> Result<Run, OutOfMemory>
+        ensures { IfOk result (λ copy. copy ≡ self.now) }
+    {
+        let plan = self.plan.copy(alloc)?;
+        let instants = copy_instants(alloc, &self.instants)?;
+        let outcome = self.outcome.copy(alloc)?;
+        Ok(Run {
+            plan,
+            bound: self.bound,
+            instants,
+            reach: self.reach,
+            outcome,
+        })
+    }
+}
+
+/// Equal instants.
+fn copy_instants(alloc: Global, instants: &List<Instant>) -> Result<List<Instant>, OutOfMemory>
+    ensures { IfOk result (λ copies. copies ≡ instants.now) }
+{
+    let mut copies = List::new(alloc);
+    for instant in instants.as_slice() {
+        copies.push(instant.copy(alloc)?)?;
+    }
+    Ok(copies)
+}

@@ -1,0 +1,43 @@
+ghost use Rattle.std.specs.Prelude.{◌≡◌, ◌≤◌, IfOk};
+ghost use Rattle.aerie_base.specs.plans.OfModel.{IsPlanOf};
+ghost use Rattle.run_data.specs.Fresh.{IsFresh};
+
+use crate::kept::Kept;
+use aerie_base::{OutOfMemory, Plan, Shared, Steps};
+use std::alloc::Global;
+use std::sync::ledger::Ledger;
+
+/// What simulates plans of one model under one bound.
+pub trait Simulator {
+    ghost use Rattle.std.specs.Prelude.{ℕ};
+    ghost use Rattle.aerie_base.specs.declared.models.model.Parts.{Parts};
+
+    /// The model.
+    ghost model: { Self → Parts };
+    /// What the costs of a run may come to.
+    ghost bound: { Self → ℕ };
+    /// What names that which it was lent, and stays so.
+    ghost anchor: { Self → ℕ };
+    /// What it shares between threads may be shared.
+    ghost shares: { Type 0 };
+
+    /// The kept fresh run of the plan. `steps` counts the statements and tests that are run, and `looks` the searches among
+    /// stored steps.
+    fn run<L: Ledger, K: Ledger>(
+        &mut self,
+        alloc: Global,
+        plan: &Plan,
+        steps: &mut Steps<L>,
+        looks: &mut Steps<K>,
+    ) -> Result<Shared<Kept>, OutOfMemory>
+        requires shares { shares }
+        requires plan { IsPlanOf (model self.old) plan.now }
+        ensures model_of { IfOk result (λ kept. kept.model ≡ model self.old) }
+        ensures plan_of { IfOk result (λ kept. kept.run.plan ≡ plan.now) }
+        ensures fresh { IfOk result (λ kept. IsFresh (model self.old) plan.now (bound self.old) kept.run) }
+        ensures steps { steps.old ≤ steps.new }
+        ensures looks { looks.old ≤ looks.new }
+        ensures same_model { model self.new ≡ model self.old }
+        ensures same_bound { bound self.new ≡ bound self.old }
+        ensures anchor { anchor self.new ≡ anchor self.old };
+}

@@ -1,0 +1,68 @@
+ghost use Rattle.std.specs.Prelude.{◌≡◌, ◌+◌, ◌*◌, ◌≤◌, IfOk, length};
+ghost use Rattle.std.specs.List.{All, Contains};
+ghost use Rattle.run_data.specs.Jobs.{IsJobOf};
+ghost use Rattle.run_data.specs.Records.{IsValid};
+ghost use Rattle.run_data.specs.Waves.{wave_of, IsFrugal, RoseAlike};
+
+use crate::frames::Frame;
+use crate::jobs::Job;
+use aerie_base::{List, Model, OutOfMemory, Steps};
+use std::alloc::Global;
+use std::sync::ledger::Ledger;
+
+/// What a wave gives.
+#[derive(Debug, Drop)]
+pub enum Wave {
+    /// The frames of the jobs, in their order, without their children.
+    Frames(List<Frame>),
+    /// The costs of the jobs together pass the fuel.
+    Spent,
+}
+
+/// What runs steps. It is of certain models, and may have stored steps, each valid for all of these.
+pub trait Stepper {
+    ghost use Rattle.std.specs.Prelude.{ℕ, List};
+    ghost use Rattle.std.specs.List.{All, Contains};
+    ghost use Rattle.aerie_base.specs.declared.models.model.Parts.{Parts};
+    ghost use Rattle.run_data.specs.declared.frames.Record.{Record};
+    ghost use Rattle.run_data.specs.Records.{IsValid};
+
+    /// The models that it is of.
+    ghost models: { Self → List Parts };
+    /// The steps that it has stored.
+    ghost records: { Self → List Record };
+    /// How many statements and tests it ran, up to 2^64 - 1.
+    ghost opened: { Self → ℕ };
+    /// What names that which it was lent, and stays so.
+    ghost anchor: { Self → ℕ };
+    /// What it shares between threads may be shared.
+    ghost shares: { Type 0 };
+
+    /// Each stored step is valid for each of its models.
+    ghost valid: { (stepper : Self) (model : Parts) → Contains (models stepper) model → All (IsValid model) (records stepper) };
+
+    /// The frames of the jobs, in their order and without their children, or `Spent` exactly where the sum of their costs
+    /// passes the fuel, which is at most 100,000,000. `steps` counts the statements and tests that are run, and `looks`
+    /// the searches among stored steps.
+    fn wave<L: Ledger, K: Ledger>(
+        &mut self,
+        alloc: Global,
+        model: &Model,
+        jobs: &[Job],
+        fuel: u64,
+        steps: &mut Steps<L>,
+        looks: &mut Steps<K>,
+    ) -> Result<Wave, OutOfMemory>
+        requires shares { shares }
+        requires model { Contains (models self.old) model.now }
+        requires jobs { All (IsJobOf model.now) jobs.now }
+        requires fuel { fuel ≤ 100_000_000 }
+        ensures wave { IfOk result (λ wave. wave ≡ wave_of model.now fuel jobs.now) }
+        ensures frugal { IfOk result (λ wave. IsFrugal wave (records self.old) steps.old steps.new) }
+        ensures looks { looks.old ≤ looks.new }
+        ensures few_looks { looks.new ≤ looks.old + 2 * length jobs.now }
+        ensures opened { RoseAlike (opened self.old) steps.old (opened self.new) steps.new }
+        ensures same_models { models self.new ≡ models self.old }
+        ensures same_records { records self.new ≡ records self.old }
+        ensures anchor { anchor self.new ≡ anchor self.old };
+}

@@ -1,0 +1,46 @@
+ghost use Rattle.std.specs.Prelude.{◌≡◌, ◌↔◌, IsTrue, IfOk};
+
+use aerie_base::{List, OutOfMemory, Value, copy_list, same_values};
+use std::alloc::Global;
+
+/// A body of the model.
+#[derive(Clone, Copy, Debug, PartialEq, Eq)]
+pub enum BodyId {
+    /// That of an activity type, counted from 0 in the order of the model.
+    Activity(u16),
+    /// That of a daemon, counted from 0 in the order of the model.
+    Daemon(u16),
+}
+
+/// What a task keeps from one step to the next.
+#[derive(Debug, Drop)]
+pub struct TaskState {
+    /// Its body.
+    pub kind: BodyId,
+    /// The place in the body from which it goes on.
+    pub at: u32,
+    /// The values of its locals, in the order of the slots, parameters first; one that is not set yet has 0.
+    pub locals: List<Value>,
+}
+
+impl TaskState {
+    /// An equal state.
+    pub fn copy(&self, alloc: Global) -> Result<TaskState, OutOfMemory>
+        ensures { IfOk result (λ copy. copy ≡ self.now) }
+    {
+        Ok(TaskState {
+            kind: self.kind,
+            at: self.at,
+            locals: copy_list(alloc, &self.locals)?,
+        })
+    }
+
+    /// Whether the two are the same state.
+    pub fn is_same(&self, other: &TaskState) -> bool
+        ensures { IsTrue result ↔ (self.now ≡ other.now) }
+    {
+        self.kind == other.kind
+            && self.at == other.at
+            && same_values(self.locals.as_slice(), other.locals.as_slice())
+    }
+}

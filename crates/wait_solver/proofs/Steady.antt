@@ -1,0 +1,158 @@
+-- A condition answers the same until a comparison in it changes.
+use Rattle.std.proofs.Common.{◌≡◌, ℕ, ◌+◌, ℤ, pos, ◌+ℤ◌, ◌-ℤ◌, ◌*ℤ◌, Bool, true, not, ◌&&◌, ◌||◌, List, [], Option, Some, None, slice_get, refl, ap, sym, ◌∙◌, arith, if◌then◌else◌}
+use Rattle.std.specs.Prelude.{IsSome}
+use Rattle.std.specs.Option.{option_map}
+use Rattle.std.proofs.lemmas.Int.{ints}
+use Rattle.std.proofs.lemmas.Bool.{and_parts}
+use Rattle.std.proofs.lemmas.Option.{slice_get-map}
+use Rattle.aerie_base.specs.conditions.Holding.{holds, holds_step, operand_value, side_value}
+use Rattle.aerie_base.specs.expressions.Arithmetic.{truth_in, same_value, compares}
+use Rattle.aerie_base.specs.expressions.Readings.{cell_of}
+use Rattle.aerie_base.specs.models.Conditions.{may_equal}
+use Rattle.aerie_base.specs.declared.values.Kind.{Kind}
+use Rattle.aerie_base.specs.declared.values.Value.TheVariants.{Int}
+use Rattle.aerie_base.specs.declared.operands.CellRead.{CellRead}
+use Rattle.aerie_base.specs.declared.operands.CellRead.TheVariants as read
+use Rattle.aerie_base.specs.declared.operands.Operand.{Operand}
+use Rattle.aerie_base.specs.declared.operands.Operand.TheVariants.{Read, Local}
+use Rattle.aerie_base.specs.declared.linear.Linear.{Linear}
+use Rattle.aerie_base.specs.declared.expressions.Comparison.{Comparison}
+use Rattle.aerie_base.specs.declared.conditions.Simple.{Simple}
+use Rattle.aerie_base.specs.declared.conditions.Simple.TheVariants as simple
+use Rattle.aerie_base.specs.declared.conditions.Cond.{Cond, Literal, Flag, Same, Compare, Not', And', Or', more_of-Cond, end_of-Cond}
+use Rattle.aerie_base.specs.declared.conditions.Cond.TheOpen.{Cond-F}
+use Rattle.aerie_base.specs.declared.conditions.Cond.TheBlock.{hidden-the_row-Cond-0, shape-the_row-Cond-0}
+use denote.Hole.Carrier.{hidden}
+use Rattle.effect_cells.specs.Cells.{passed}
+use Rattle.effect_cells.specs.Reads.{state_value, value_on}
+use Rattle.effect_cells.specs.States.{later}
+use Rattle.effect_cells.specs.WakeTimes.{holds_in}
+use Rattle.effect_cells.specs.declared.effects.CellState.{CellState}
+use Rattle.effect_cells.specs.declared.effects.CellState.TheVariants.{Counter, Register, Volume}
+use Rattle.wait_solver.specs.Lines.{value_at, form_line, gap_from}
+use Rattle.wait_solver.specs.Changes.{until_change, earlier, next_change}
+use Rattle.wait_solver.specs.Solvable.{may_be_solved, side_kind_on}
+use Rattle.wait_solver.specs.declared.lines.Line.{Line}
+use Rattle.wait_solver.proofs.FormLaws.{form_at}
+use Rattle.wait_solver.proofs.Products.{difference_times}
+use Rattle.wait_solver.proofs.Signs.{IsBefore, answer, sign_of, compares_by_sign, keeps_sign}
+
+-- ---- what stands while time passes
+
+truth_stands : (read : CellRead) (state : Option CellState) (dt : ℕ) → truth_in (state_value read (option_map (later dt) state)) ≡ truth_in (state_value read state)
+truth_stands (read.Counter cell) None dt = refl
+truth_stands (read.Counter cell) (Some (Counter number)) dt = refl
+truth_stands (read.Counter cell) (Some (Register value conflicted)) dt = refl
+truth_stands (read.Counter cell) (Some (Volume volume rate)) dt = refl
+truth_stands (read.Register cell) None dt = refl
+truth_stands (read.Register cell) (Some (Counter number)) dt = refl
+truth_stands (read.Register cell) (Some (Register value conflicted)) dt = refl
+truth_stands (read.Register cell) (Some (Volume volume rate)) dt = refl
+truth_stands (read.Conflicted cell) None dt = refl
+truth_stands (read.Conflicted cell) (Some (Counter number)) dt = refl
+truth_stands (read.Conflicted cell) (Some (Register value conflicted)) dt = refl
+truth_stands (read.Conflicted cell) (Some (Volume volume rate)) dt = refl
+truth_stands (read.Volume cell) None dt = refl
+truth_stands (read.Volume cell) (Some (Counter number)) dt = refl
+truth_stands (read.Volume cell) (Some (Register value conflicted)) dt = refl
+truth_stands (read.Volume cell) (Some (Volume volume rate)) dt = refl
+truth_stands (read.Rate cell) None dt = refl
+truth_stands (read.Rate cell) (Some (Counter number)) dt = refl
+truth_stands (read.Rate cell) (Some (Register value conflicted)) dt = refl
+truth_stands (read.Rate cell) (Some (Volume volume rate)) dt = refl
+
+register_stands : (cell : ℕ) (state : Option CellState) (dt : ℕ) → state_value (read.Register cell) (option_map (later dt) state) ≡ state_value (read.Register cell) state
+register_stands cell None dt = refl
+register_stands cell (Some (Counter number)) dt = refl
+register_stands cell (Some (Register value conflicted)) dt = refl
+register_stands cell (Some (Volume volume rate)) dt = refl
+
+module _ (cells : List CellState) where
+  pub flag_stands : (operand : Operand) (dt : ℕ) → truth_in (operand_value (value_on (passed cells dt)) [] operand) ≡ truth_in (operand_value (value_on cells) [] operand)
+  flag_stands (Read read) dt =
+      ap (λ (state : Option CellState). truth_in (state_value read state)) (slice_get-map (later dt) cells (cell_of read))
+      ∙ truth_stands read (slice_get cells (cell_of read)) dt
+  flag_stands (Local slot) dt = refl
+
+  -- a side of an equality is a literal or a register
+  pub side_stands : (side : Simple) (dt : ℕ) → IsSome (side_kind_on cells side) → side_value (value_on (passed cells dt)) [] side ≡ side_value (value_on cells) [] side
+  side_stands (simple.Literal value) dt typed = refl
+  side_stands (simple.Operand (Read (read.Register cell))) dt typed =
+      ap (state_value (read.Register cell)) (slice_get-map (later dt) cells cell) ∙ register_stands cell (slice_get cells cell) dt
+  side_stands (simple.Operand (Read (read.Counter cell))) dt typed = absurd (cc)
+  side_stands (simple.Operand (Read (read.Conflicted cell))) dt typed = absurd (cc)
+  side_stands (simple.Operand (Read (read.Volume cell))) dt typed = absurd (cc)
+  side_stands (simple.Operand (Read (read.Rate cell))) dt typed = absurd (cc)
+  side_stands (simple.Operand (Local slot)) dt typed = absurd (cc)
+
+-- ---- comparisons
+
+gap_at : (a b : Line) (dt n : ℕ) → value_at a (dt + n) -ℤ value_at b (dt + n) ≡ (gap_from dt a b).value +ℤ (gap_from dt a b).rate *ℤ pos n
+gap_at a b dt n = let spread = difference_times a.rate b.rate n in omega (arith, ints, spread)
+
+compares_alike : (how : Comparison) (a b : Line) (dt n : ℕ) → IsBefore n (until_change (gap_from dt a b)) →
+    compares how (Int (value_at a (dt + n))) (Int (value_at b (dt + n))) ≡ compares how (Int (value_at a dt)) (Int (value_at b dt))
+compares_alike how a b dt n before =
+    compares_by_sign how (value_at a (dt + n)) (value_at b (dt + n))
+    ∙ ap (λ (d : ℤ). answer how (sign_of d)) (gap_at a b dt n)
+    ∙ ap (answer how) (keeps_sign (gap_from dt a b).value (gap_from dt a b).rate n before)
+    ∙ sym (compares_by_sign how (value_at a dt) (value_at b dt))
+
+before_left : (n : ℕ) (a b : Option ℕ) → IsBefore n (earlier a b) → IsBefore n a
+before_left n None b h = tt
+before_left n (Some a) None h = h
+before_left n (Some a) (Some b) h = omega (arith, h)
+
+before_right : (n : ℕ) (a b : Option ℕ) → IsBefore n (earlier a b) → IsBefore n b
+before_right n None b h = h
+before_right n (Some a) None h = tt
+before_right n (Some a) (Some b) h = omega (arith, h)
+
+-- ---- conditions
+
+pub typed_left : (a b : Option Kind) → may_equal a b ≡ true → IsSome a
+typed_left None b h = absurd (cc)
+typed_left (Some a) b h = refl
+
+pub typed_right : (a b : Option Kind) → may_equal a b ≡ true → IsSome b
+typed_right None b h = absurd (cc)
+typed_right (Some a) None h = absurd (cc)
+typed_right (Some a) (Some b) h = refl
+
+-- an equality answers after a time what it answers now
+pub equality_moves : (cells : List CellState) (left right : Simple) (equal : Bool) (dt : ℕ) → may_equal (side_kind_on cells left) (side_kind_on cells right) ≡ true →
+    holds_step (Cond-F.Same left right equal) (value_on (passed cells dt)) [] ≡ holds_step (Cond-F.Same left right equal) (value_on cells) []
+equality_moves cells left right equal dt typed =
+    let left_same = side_stands cells left dt (typed_left _ _ typed) in
+    let right_same = side_stands cells right dt (typed_right _ _ typed) in
+    λ i. let same = same_value (left_same i) (right_same i) in if equal then same else not same
+
+module _ (cells : List CellState) (dt n : ℕ) where
+  equality_stands : (left right : Simple) (equal : Bool) → may_equal (side_kind_on cells left) (side_kind_on cells right) ≡ true →
+      holds_in cells (Same left right equal) (dt + n) ≡ holds_in cells (Same left right equal) dt
+  unfolding holds
+  equality_stands left right equal typed = equality_moves cells left right equal (dt + n) typed ∙ sym (equality_moves cells left right equal dt typed)
+
+  comparison_stands : (left : Linear) (how : Comparison) (right : Linear) → IsBefore n (until_change (gap_from dt (form_line cells left) (form_line cells right))) →
+      holds_in cells (Compare left how right) (dt + n) ≡ holds_in cells (Compare left how right) dt
+  unfolding holds
+  comparison_stands left how right before =
+      (λ i. compares how (Int (form_at cells (dt + n) left i)) (Int (form_at cells (dt + n) right i)))
+      ∙ compares_alike how (form_line cells left) (form_line cells right) dt n before
+      ∙ sym (λ i. compares how (Int (form_at cells dt left i)) (Int (form_at cells dt right i)))
+
+  -- until a comparison changes, the condition answers the same
+  pub steady : (condition : Cond) → may_be_solved cells condition ≡ true → IsBefore n (next_change cells dt condition) →
+      holds_in cells condition (dt + n) ≡ holds_in cells condition dt
+  unfolding holds next_change may_be_solved hidden-the_row-Cond-0 shape-the_row-Cond-0 hidden
+  steady (Literal truth) solvable before = refl
+  steady (Flag operand) solvable before = flag_stands cells operand (dt + n) ∙ sym (flag_stands cells operand dt)
+  steady (Same left right equal) solvable before = equality_stands left right equal solvable
+  steady (Compare left how right) solvable before = comparison_stands left how right before
+  steady (Not' s (more_of-Cond part end_of-Cond)) solvable before = ap not (steady part solvable before)
+  steady (And' s (more_of-Cond left end_of-Cond) t (more_of-Cond right end_of-Cond)) solvable before =
+      let both = and_parts _ _ solvable in
+      λ i. steady left both.0 (before_left n _ _ before) i && steady right both.1 (before_right n _ _ before) i
+  steady (Or' s (more_of-Cond left end_of-Cond) t (more_of-Cond right end_of-Cond)) solvable before =
+      let both = and_parts _ _ solvable in
+      λ i. steady left both.0 (before_left n _ _ before) i || steady right both.1 (before_right n _ _ before) i

@@ -1,0 +1,4 @@
+pub mod Changes
+pub mod Holding
+pub mod Lines
+pub mod Solvable
