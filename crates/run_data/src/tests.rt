@@ -2,13 +2,14 @@ ghost use Rattle.std.specs.Prelude.{◌≡◌, [], IfOk};
 ghost use Rattle.run_data.specs.KeptRuns.{idle_run};
 
 use crate::frames::{Frame, Item, Record, Status};
+use crate::jobs::Job;
 use crate::kept::Kept;
 use crate::runs::{Instant, Outcome, Run, Who};
 use crate::tasks::{BodyId, TaskState};
 use aerie_base::{
     Cond, Fault, List, Model, Name, Number, OutOfMemory, Path, Plan, Shared, Time, Value,
 };
-use effect_cells::{CellState, Effect};
+use effect_cells::{CellState, Cells, Effect};
 use std::alloc::Global;
 
 /// The state at a place, with one local.
@@ -260,4 +261,26 @@ fn keeps_a_fresh_run(rt: HostRuntime) {
         .expect(&rt, "a name");
     assert_eq!(&rt; kept.get().run().reach.get(), 5);
     assert_eq!(&rt; kept.get().model().get().name().as_str(), "mission");
+}
+
+/// A job over a model without cells.
+fn job(alloc: Global, model: &Model) -> Result<Job, OutOfMemory> {
+    let path = Path::of_daemon(alloc, 3)?;
+    let state = state(alloc, 2)?;
+    let cells = Cells::initial(alloc, model)?;
+    let view = Shared::new(alloc, cells)?;
+    Ok(Job { path, state, view })
+}
+
+#[test]
+fn copies_a_job(rt: HostRuntime) {
+    let alloc = rt.alloc();
+    let name = Name::new(alloc, "mission")
+        .expect(&rt, "memory")
+        .expect(&rt, "a name");
+    let model = empty_model(alloc, name);
+    let job = job(alloc, &model).expect(&rt, "memory");
+    let copy = job.copy(alloc).expect(&rt, "memory");
+    assert!(&rt; copy.path.is_same(&job.path));
+    assert!(&rt; copy.state.is_same(&job.state));
 }
