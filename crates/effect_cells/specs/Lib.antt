@@ -7,6 +7,7 @@ pub mod Folded
 pub mod Gathering
 pub mod Pending
 pub mod Reads
+pub mod Solvable
 pub mod States
 pub mod SumLaws
 pub mod Sums

@@ -9,6 +9,8 @@ pub mod Fold
 pub mod Fresh
 pub mod Scopes
 pub mod Jobs
+pub mod Typed
+pub mod Numbers
 pub mod Records
 pub mod Waves
 pub mod KeptRuns

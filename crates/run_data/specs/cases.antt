@@ -3,3 +3,4 @@ pub mod Simple
 pub mod Registers
 pub mod Waits
 pub mod Anchors
+pub mod Parts

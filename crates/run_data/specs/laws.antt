@@ -3,9 +3,13 @@ pub mod Ending
 pub mod Folding
 pub mod Generations
 pub mod InTurn
+pub mod ModelSteps
 pub mod Orders
+pub mod Places
 pub mod Reads
 pub mod Replay
+pub mod Results
 pub mod Rising
+pub mod Typing
 pub mod ValidRecords
 pub mod WaveGenerations

@@ -1,5 +1,6 @@
 ghost use Rattle.std.specs.Prelude.{◌≡◌, ◌+◌, ◌*◌, ◌≤◌, IfOk, length};
-ghost use Rattle.std.specs.List.{All, Contains};
+ghost use Rattle.std.specs.List.{All};
+ghost use Rattle.aerie_base.specs.declared.models.model.Parts.{Parts};
 ghost use Rattle.run_data.specs.Jobs.{IsJobOf};
 ghost use Rattle.run_data.specs.Records.{IsValid};
 ghost use Rattle.run_data.specs.Waves.{wave_of, IsFrugal, RoseAlike};
@@ -19,16 +20,16 @@ pub enum Wave {
     Spent,
 }
 
-/// What runs steps. It is of certain models, and may have stored steps, each valid for all of these.
+/// What runs steps. It is of certain models, and may have stored steps, each valid for all of these. A wave changes neither.
 pub trait Stepper {
     ghost use Rattle.std.specs.Prelude.{ℕ, List};
-    ghost use Rattle.std.specs.List.{All, Contains};
+    ghost use Rattle.std.specs.List.{All};
     ghost use Rattle.aerie_base.specs.declared.models.model.Parts.{Parts};
     ghost use Rattle.run_data.specs.declared.frames.Record.{Record};
     ghost use Rattle.run_data.specs.Records.{IsValid};
 
-    /// The models that it is of.
-    ghost models: { Self → List Parts };
+    /// Whether it is of a model.
+    ghost is_of: { Self → Parts → Type 0 };
     /// The steps that it has stored.
     ghost records: { Self → List Record };
     /// How many statements and tests it ran, up to 2^64 - 1.
@@ -38,8 +39,8 @@ pub trait Stepper {
     /// What it shares between threads may be shared.
     ghost shares: { Type 0 };
 
-    /// Each stored step is valid for each of its models.
-    ghost valid: { (stepper : Self) (model : Parts) → Contains (models stepper) model → All (IsValid model) (records stepper) };
+    /// Each stored step is valid for each model that it is of.
+    ghost valid: { (stepper : Self) (model : Parts) → is_of stepper model → All (IsValid model) (records stepper) };
 
     /// The frames of the jobs, in their order and without their children, or `Spent` exactly where the sum of their costs
     /// passes the fuel, which is at most 100,000,000. `steps` counts the statements and tests that are run, and `looks`
@@ -54,7 +55,7 @@ pub trait Stepper {
         looks: &mut Steps<K>,
     ) -> Result<Wave, OutOfMemory>
         requires shares { shares }
-        requires model { Contains (models self.old) model.now }
+        requires model { is_of self.old model.now }
         requires jobs { All (IsJobOf model.now) jobs.now }
         requires fuel { fuel ≤ 100_000_000 }
         ensures wave { IfOk result (λ wave. wave ≡ wave_of model.now fuel jobs.now) }
@@ -62,7 +63,7 @@ pub trait Stepper {
         ensures looks { looks.old ≤ looks.new }
         ensures few_looks { looks.new ≤ looks.old + 2 * length jobs.now }
         ensures opened { RoseAlike (opened self.old) steps.old (opened self.new) steps.new }
-        ensures same_models { models self.new ≡ models self.old }
+        ensures same_models { (of : Parts) → (is_of self.old of → is_of self.new of) × (is_of self.new of → is_of self.old of) }
         ensures same_records { records self.new ≡ records self.old }
         ensures anchor { anchor self.new ≡ anchor self.old };
 }

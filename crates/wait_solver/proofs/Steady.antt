@@ -24,14 +24,14 @@ use Rattle.aerie_base.specs.declared.conditions.Cond.TheOpen.{Cond-F}
 use Rattle.aerie_base.specs.declared.conditions.Cond.TheBlock.{hidden-the_row-Cond-0, shape-the_row-Cond-0}
 use denote.Hole.Carrier.{hidden}
 use Rattle.effect_cells.specs.Cells.{passed}
-use Rattle.effect_cells.specs.Reads.{state_value, value_on}
+use Rattle.effect_cells.specs.Reads.{state_value, value_on, kind_on}
+use Rattle.effect_cells.specs.Solvable.{may_be_solved, side_kind}
 use Rattle.effect_cells.specs.States.{later}
 use Rattle.effect_cells.specs.WakeTimes.{holds_in}
 use Rattle.effect_cells.specs.declared.effects.CellState.{CellState}
 use Rattle.effect_cells.specs.declared.effects.CellState.TheVariants.{Counter, Register, Volume}
 use Rattle.wait_solver.specs.Lines.{value_at, form_line, gap_from}
 use Rattle.wait_solver.specs.Changes.{until_change, earlier, next_change}
-use Rattle.wait_solver.specs.Solvable.{may_be_solved, side_kind_on}
 use Rattle.wait_solver.specs.declared.lines.Line.{Line}
 use Rattle.wait_solver.proofs.FormLaws.{form_at}
 use Rattle.wait_solver.proofs.Products.{difference_times}
@@ -75,7 +75,7 @@ module _ (cells : List CellState) where
   flag_stands (Local slot) dt = refl
 
   -- a side of an equality is a literal or a register
-  pub side_stands : (side : Simple) (dt : ℕ) → IsSome (side_kind_on cells side) → side_value (value_on (passed cells dt)) [] side ≡ side_value (value_on cells) [] side
+  pub side_stands : (side : Simple) (dt : ℕ) → IsSome (side_kind (kind_on cells) side) → side_value (value_on (passed cells dt)) [] side ≡ side_value (value_on cells) [] side
   side_stands (simple.Literal value) dt typed = refl
   side_stands (simple.Operand (Read (read.Register cell))) dt typed =
       ap (state_value (read.Register cell)) (slice_get-map (later dt) cells cell) ∙ register_stands cell (slice_get cells cell) dt
@@ -120,7 +120,7 @@ typed_right (Some a) None h = absurd (cc)
 typed_right (Some a) (Some b) h = refl
 
 -- an equality answers after a time what it answers now
-pub equality_moves : (cells : List CellState) (left right : Simple) (equal : Bool) (dt : ℕ) → may_equal (side_kind_on cells left) (side_kind_on cells right) ≡ true →
+pub equality_moves : (cells : List CellState) (left right : Simple) (equal : Bool) (dt : ℕ) → may_equal (side_kind (kind_on cells) left) (side_kind (kind_on cells) right) ≡ true →
     holds_step (Cond-F.Same left right equal) (value_on (passed cells dt)) [] ≡ holds_step (Cond-F.Same left right equal) (value_on cells) []
 equality_moves cells left right equal dt typed =
     let left_same = side_stands cells left dt (typed_left _ _ typed) in
@@ -128,7 +128,7 @@ equality_moves cells left right equal dt typed =
     λ i. let same = same_value (left_same i) (right_same i) in if equal then same else not same
 
 module _ (cells : List CellState) (dt n : ℕ) where
-  equality_stands : (left right : Simple) (equal : Bool) → may_equal (side_kind_on cells left) (side_kind_on cells right) ≡ true →
+  equality_stands : (left right : Simple) (equal : Bool) → may_equal (side_kind (kind_on cells) left) (side_kind (kind_on cells) right) ≡ true →
       holds_in cells (Same left right equal) (dt + n) ≡ holds_in cells (Same left right equal) dt
   unfolding holds
   equality_stands left right equal typed = equality_moves cells left right equal (dt + n) typed ∙ sym (equality_moves cells left right equal dt typed)
@@ -142,7 +142,7 @@ module _ (cells : List CellState) (dt n : ℕ) where
       ∙ sym (λ i. compares how (Int (form_at cells dt left i)) (Int (form_at cells dt right i)))
 
   -- until a comparison changes, the condition answers the same
-  pub steady : (condition : Cond) → may_be_solved cells condition ≡ true → IsBefore n (next_change cells dt condition) →
+  pub steady : (condition : Cond) → may_be_solved (kind_on cells) condition ≡ true → IsBefore n (next_change cells dt condition) →
       holds_in cells condition (dt + n) ≡ holds_in cells condition dt
   unfolding holds next_change may_be_solved hidden-the_row-Cond-0 shape-the_row-Cond-0 hidden
   steady (Literal truth) solvable before = refl

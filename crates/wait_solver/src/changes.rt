@@ -3,9 +3,10 @@
 ghost use Rattle.std.specs.Prelude.{◌≡◌, ◌≤◌, ◌<◌, ◌+◌, ◌-◌, ◌/◌, ◌^◌, unsigned_abs, IsTrue, IfSome};
 ghost use Rattle.aerie_base.specs.Ranges.{IsTime};
 ghost use Rattle.effect_cells.specs.Cells.{AreInRange};
+ghost use Rattle.effect_cells.specs.Reads.{kind_on};
+ghost use Rattle.effect_cells.specs.Solvable.{is_form_for, may_be_solved, may_be_solved_by_fold};
 ghost use Rattle.wait_solver.specs.Lines.{form_line, gap_from, IsWithin};
 ghost use Rattle.wait_solver.specs.Changes.{until_reached, until_change, earlier, next_change, next_change_by_fold};
-ghost use Rattle.wait_solver.specs.Solvable.{is_form_on, may_be_solved, may_be_solved_by_fold};
 
 use crate::forms::form_line;
 use crate::lines::Line;
@@ -70,8 +71,8 @@ fn earlier(a: Option<u128>, b: Option<u128>) -> Option<u128>
 fn comparison_change(left: &Linear, right: &Linear, cells: &Cells, dt: u128) -> Option<u128>
     requires range { AreInRange cells.now }
     requires time { IsTime dt }
-    requires left { IsTrue (is_form_on cells.now left.now) }
-    requires right { IsTrue (is_form_on cells.now right.now) }
+    requires left { IsTrue (is_form_for (kind_on cells.now) left.now) }
+    requires right { IsTrue (is_form_for (kind_on cells.now) right.now) }
     ensures value { result ≡ until_change (gap_from dt (form_line cells.now left.now) (form_line cells.now right.now)) }
     ensures bounds { IfSome result (λ change. (0 < change) × (change ≤ 2 ^ 117)) }
 {
@@ -82,11 +83,11 @@ fn comparison_change(left: &Linear, right: &Linear, cells: &Cells, dt: u128) -> 
 
 /// How many microseconds after `dt` the sides of a comparison in the condition first stand otherwise to one another than
 /// at `dt`, where they ever do. It takes a time in the order of the condition's size.
-#[tactic(auto, using(crate::specs::Changes::next_change_is, crate::specs::Solvable::may_be_solved_is))]
+#[tactic(auto, using(crate::specs::Changes::next_change_is, effect_cells::specs::Solvable::may_be_solved_is))]
 pub(crate) fn next_change(condition: &Cond, cells: &Cells, dt: u128) -> Option<u128>
     requires range { AreInRange cells.now }
     requires time { IsTime dt }
-    requires condition { IsTrue (may_be_solved cells.now condition.now) }
+    requires condition { IsTrue (may_be_solved (kind_on cells.now) condition.now) }
     ensures value { result ≡ next_change cells.now dt condition.now }
     ensures bounds { IfSome result (λ change. (0 < change) × (change ≤ 2 ^ 117)) }
 {
@@ -97,7 +98,7 @@ pub(crate) fn next_change(condition: &Cond, cells: &Cells, dt: u128) -> Option<u
 fn next_change_by_fold(condition: &Cond, cells: &Cells, dt: u128) -> Option<u128>
     requires range { AreInRange cells.now }
     requires time { IsTime dt }
-    requires condition { IsTrue (may_be_solved_by_fold cells.now condition.now) }
+    requires condition { IsTrue (may_be_solved_by_fold (kind_on cells.now) condition.now) }
     ensures value { result ≡ next_change_by_fold cells.now dt condition.now }
     ensures bounds { IfSome result (λ change. (0 < change) × (change ≤ 2 ^ 117)) }
 {

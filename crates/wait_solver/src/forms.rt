@@ -8,9 +8,9 @@ ghost use Rattle.aerie_base.specs.models.Conditions.{operand_kind, is_term};
 ghost use Rattle.aerie_base.specs.models.Expressions.{is_kind_of};
 ghost use Rattle.effect_cells.specs.Cells.{AreInRange};
 ghost use Rattle.effect_cells.specs.Reads.{kind_on};
+ghost use Rattle.effect_cells.specs.Solvable.{no_locals, is_form_for};
 ghost use Rattle.effect_cells.specs.States.{is_in_range};
 ghost use Rattle.wait_solver.specs.Lines.{state_line, operand_line, term_line, form_line, IsWithin};
-ghost use Rattle.wait_solver.specs.Solvable.{no_locals, is_form_on};
 
 use crate::lines::Line;
 use aerie_base::{CellRead, Linear, Operand, Term, Value};
@@ -72,7 +72,7 @@ fn term_line(term: &Term, cells: &Cells) -> Line
 /// The linear form.
 pub(crate) fn form_line(form: &Linear, cells: &Cells) -> Line
     requires range { AreInRange cells.now }
-    requires form { IsTrue (is_form_on cells.now form.now) }
+    requires form { IsTrue (is_form_for (kind_on cells.now) form.now) }
     ensures value { result ≡ form_line cells.now form.now }
     ensures small { IsWithin (2 ^ 101) (2 ^ 64) result }
 {

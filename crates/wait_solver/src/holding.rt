@@ -12,9 +12,9 @@ ghost use Rattle.aerie_base.specs.models.Conditions.{operand_kind, may_equal};
 ghost use Rattle.aerie_base.specs.models.Expressions.{is_kind_of};
 ghost use Rattle.effect_cells.specs.Cells.{AreInRange, passed};
 ghost use Rattle.effect_cells.specs.Reads.{kind_on, state_kind, value_on, state_value};
+ghost use Rattle.effect_cells.specs.Solvable.{no_locals, is_form_for, side_kind, may_be_solved, may_be_solved_by_fold};
 ghost use Rattle.effect_cells.specs.WakeTimes.{holds_in};
 ghost use Rattle.wait_solver.specs.Holding.{holds_in_by_fold};
-ghost use Rattle.wait_solver.specs.Solvable.{no_locals, is_form_on, side_kind_on, may_be_solved, may_be_solved_by_fold};
 
 use crate::forms::form_line;
 use aerie_base::{CellRead, Comparison, Cond, Linear, Operand, Simple, Value};
@@ -62,7 +62,7 @@ fn register_value(state: &CellState) -> Value
 
 /// The value of a side of an equality, which stands while time passes.
 fn side(side: &Simple, cells: &Cells) -> Value
-    requires { IsSome (side_kind_on cells.now side.now) }
+    requires { IsSome (side_kind (kind_on cells.now) side.now) }
     ensures { result ≡ side_value (value_on cells.now) [] side.now }
 {
     match side {
@@ -102,7 +102,7 @@ fn same_value(left: &Value, right: &Value) -> bool
 /// Whether the two sides are equal, or unequal.
 #[tactic(auto, using(crate::proofs::Steady::typed_left, crate::proofs::Steady::typed_right))]
 fn equality(left: &Simple, right: &Simple, equal: bool, cells: &Cells) -> bool
-    requires { IsTrue (may_equal (side_kind_on cells.now left.now) (side_kind_on cells.now right.now)) }
+    requires { IsTrue (may_equal (side_kind (kind_on cells.now) left.now) (side_kind (kind_on cells.now) right.now)) }
     ensures { result ≡ holds_step (Same left.now right.now equal) (value_on cells.now) [] }
 {
     let same = same_value(&side(left, cells), &side(right, cells));
@@ -128,7 +128,7 @@ fn compares(how: Comparison, left: i128, right: i128) -> bool
 fn form_value(form: &Linear, cells: &Cells, dt: u128) -> i128
     requires range { AreInRange cells.now }
     requires time { IsTime dt }
-    requires form { IsTrue (is_form_on cells.now form.now) }
+    requires form { IsTrue (is_form_for (kind_on cells.now) form.now) }
     ensures { result ≡ linear_value (value_on (passed cells.now dt)) [] form.now }
 {
     form_line(form, cells).at(dt)
@@ -138,8 +138,8 @@ fn form_value(form: &Linear, cells: &Cells, dt: u128) -> i128
 fn comparison(left: &Linear, how: Comparison, right: &Linear, cells: &Cells, dt: u128) -> bool
     requires range { AreInRange cells.now }
     requires time { IsTime dt }
-    requires left { IsTrue (is_form_on cells.now left.now) }
-    requires right { IsTrue (is_form_on cells.now right.now) }
+    requires left { IsTrue (is_form_for (kind_on cells.now) left.now) }
+    requires right { IsTrue (is_form_for (kind_on cells.now) right.now) }
     ensures { result ≡ holds_step (Compare left.now how right.now) (value_on (passed cells.now dt)) [] }
 {
     compares(
@@ -150,11 +150,11 @@ fn comparison(left: &Linear, how: Comparison, right: &Linear, cells: &Cells, dt:
 }
 
 /// Whether the condition holds so many microseconds from now. It takes a time in the order of the condition's size.
-#[tactic(auto, using(crate::specs::Holding::holds_in_is, crate::specs::Solvable::may_be_solved_is))]
+#[tactic(auto, using(crate::specs::Holding::holds_in_is, effect_cells::specs::Solvable::may_be_solved_is))]
 pub(crate) fn holds_in(condition: &Cond, cells: &Cells, dt: u128) -> bool
     requires range { AreInRange cells.now }
     requires time { IsTime dt }
-    requires condition { IsTrue (may_be_solved cells.now condition.now) }
+    requires condition { IsTrue (may_be_solved (kind_on cells.now) condition.now) }
     ensures { result ≡ holds_in cells.now condition.now dt }
 {
     holds_in_by_fold(condition, cells, dt)
@@ -164,7 +164,7 @@ pub(crate) fn holds_in(condition: &Cond, cells: &Cells, dt: u128) -> bool
 fn holds_in_by_fold(condition: &Cond, cells: &Cells, dt: u128) -> bool
     requires range { AreInRange cells.now }
     requires time { IsTime dt }
-    requires condition { IsTrue (may_be_solved_by_fold cells.now condition.now) }
+    requires condition { IsTrue (may_be_solved_by_fold (kind_on cells.now) condition.now) }
     ensures { result ≡ holds_in_by_fold cells.now condition.now dt }
 {
     match condition {

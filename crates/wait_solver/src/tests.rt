@@ -7,7 +7,7 @@ ghost use Rattle.aerie_base.specs.models.ValidModel.{valid_model};
 ghost use Rattle.aerie_base.specs.models.Expressions.{is_kind_of};
 ghost use Rattle.effect_cells.specs.Cells.{AreInRange};
 ghost use Rattle.effect_cells.specs.Reads.{kind_on, state_kind};
-ghost use Rattle.wait_solver.specs.Solvable.{no_locals, is_form_on, may_be_solved, may_be_solved_by_fold};
+ghost use Rattle.effect_cells.specs.Solvable.{no_locals, is_form_for, may_be_solved, may_be_solved_by_fold};
 
 use super::*;
 use crate::holding::holds_in;
@@ -69,7 +69,7 @@ fn is_good_term(term: &Term, cells: &Cells) -> bool
 /// Whether the linear form is one of which the time to wait is computed.
 fn is_good_form(form: &Linear, cells: &Cells) -> bool
     requires { length cells.now ≡ 1 }
-    ensures { result ≡ true → is_form_on cells.now form.now ≡ true }
+    ensures { result ≡ true → is_form_for (kind_on cells.now) form.now ≡ true }
 {
     for term in form.terms.as_slice() {
         if !is_good_term(term, cells) {
@@ -82,7 +82,7 @@ fn is_good_form(form: &Linear, cells: &Cells) -> bool
 /// Whether the condition is one of which the time to wait is computed; equalities are left out.
 fn is_good(condition: &Cond, cells: &Cells) -> bool
     requires { length cells.now ≡ 1 }
-    ensures { result ≡ true → may_be_solved cells.now condition.now ≡ true }
+    ensures { result ≡ true → may_be_solved (kind_on cells.now) condition.now ≡ true }
 {
     is_good_by_fold(condition, cells)
 }
@@ -90,7 +90,7 @@ fn is_good(condition: &Cond, cells: &Cells) -> bool
 /// The same over the fold.
 fn is_good_by_fold(condition: &Cond, cells: &Cells) -> bool
     requires { length cells.now ≡ 1 }
-    ensures { result ≡ true → may_be_solved_by_fold cells.now condition.now ≡ true }
+    ensures { result ≡ true → may_be_solved_by_fold (kind_on cells.now) condition.now ≡ true }
 {
     match condition {
         Cond::Literal(_) => true,
@@ -274,5 +274,33 @@ fn fills_up_to_ten(rt: HostRuntime) -> Result<(), Fail> {
         solved(&full, &cells, 1_000_000_000_000_000)?,
         Time::new(999_999_999_999_999)
     );
+    Ok(())
+}
+
+/// The sum of sixteen terms, each the greatest coefficient times the volume, compared with a constant.
+fn sixteen_terms(alloc: Global, constant: i128) -> Result<Cond, OutOfMemory> {
+    let mut terms = List::new(alloc);
+    for _turn in 0..16 {
+        terms.push(term(1_000_000, CellRead::Volume(0)))?;
+    }
+    Ok(Cond::Compare {
+        left: Linear { terms, constant: 0 },
+        how: Comparison::AtLeast,
+        right: Linear {
+            terms: List::new(alloc),
+            constant,
+        },
+    })
+}
+
+#[test]
+fn sums_sixteen_terms_at_the_ends_of_their_ranges(rt: HostRuntime) -> Result<(), Fail> {
+    let alloc = rt.alloc();
+    let cells = cells_of(alloc, -1_000_000_000_000_000_000)?;
+    let limit = 1_000_000_000_000_000;
+    let last = sixteen_terms(alloc, -15_952_000_000_000_000_048_000_000)?;
+    assert_eq!(&rt; solved(&last, &cells, limit)?, Time::new(limit - 1));
+    let past = sixteen_terms(alloc, -15_952_000_000_000_000_047_999_999)?;
+    assert_eq!(&rt; solved(&past, &cells, limit)?, None);
     Ok(())
 }

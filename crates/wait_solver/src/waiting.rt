@@ -3,8 +3,9 @@
 ghost use Rattle.std.specs.Prelude.{◌≡◌, Some, IsTrue};
 ghost use Rattle.aerie_base.specs.Ranges.{IsTime};
 ghost use Rattle.effect_cells.specs.Cells.{AreInRange};
+ghost use Rattle.effect_cells.specs.Reads.{kind_on};
+ghost use Rattle.effect_cells.specs.Solvable.{may_be_solved};
 ghost use Rattle.effect_cells.specs.WakeTimes.{wake_time};
-ghost use Rattle.wait_solver.specs.Solvable.{may_be_solved};
 
 use crate::changes::next_change;
 use crate::holding::holds_in;
@@ -37,7 +38,7 @@ fn time_of(micros: u128) -> Option<Time>
 /// whatever the limit is.
 pub fn earliest(condition: &Cond, cells: &Cells, limit: Time) -> Option<Time>
     requires range { AreInRange cells.now }
-    requires condition { IsTrue (may_be_solved cells.now condition.now) }
+    requires condition { IsTrue (may_be_solved (kind_on cells.now) condition.now) }
     ensures { result ≡ wake_time cells.now condition.now limit }
 {
     let limit = micros_of(limit);

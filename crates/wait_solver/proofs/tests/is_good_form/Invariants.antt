@@ -2,7 +2,7 @@ use Rattle.std.proofs.Common.{◌≡◌, take, true}
 use Rattle.std.specs.List.{list_all}
 use Rattle.aerie_base.specs.models.Conditions.{is_term}
 use Rattle.effect_cells.specs.Reads.{kind_on}
-use Rattle.wait_solver.specs.Solvable.{no_locals}
+use Rattle.effect_cells.specs.Solvable.{no_locals}
 use Rattle.wait_solver.proofs.tests.is_good_form.Given as goal
 
 -- the terms so far may stand there

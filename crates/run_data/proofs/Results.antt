@@ -1,0 +1,231 @@
+-- A task of an activity type that has a result ends with a value of its type.
+use Rattle.std.proofs.Common.{◌≡◌, ℕ, zero, suc, ◌+◌, ℤ, pos, negsuc, Bool, true, false, IsTrue, List, [], ◌∷◌, ◌++◌, Option, Some, None, is_some, Ok, Err, slice_get, refl, sym, ap, ◌∙◌, subst, if◌then◌else◌}
+use Rattle.aerie_base.specs.declared.values.Kind.{Kind}
+use Rattle.aerie_base.specs.declared.values.Value.{Value}
+use Rattle.aerie_base.specs.declared.faults.Fault.{Fault}
+use Rattle.aerie_base.specs.declared.statements.Stmt.{Stmt, out-Stmt}
+use Rattle.aerie_base.specs.declared.statements.Stmt.TheOpen.{Stmt-F}
+use Rattle.aerie_base.specs.declared.models.Activity.{Activity}
+use Rattle.aerie_base.specs.declared.models.model.Parts.{Parts}
+use Rattle.aerie_base.specs.declared.expressions.Expr.{Expr}
+use Rattle.aerie_base.specs.expressions.Arithmetic.{Outcome, value_kind, number_in, truth_in}
+use Rattle.aerie_base.specs.expressions.Evaluation.{Noted}
+use Rattle.aerie_base.specs.expressions.Soundness.{Gives, sound}
+use Rattle.aerie_base.specs.models.Activities.{is_return, is_return_step}
+use Rattle.aerie_base.specs.models.Bodies.{result_of}
+use Rattle.aerie_base.specs.models.Cells.{read_kind}
+use Rattle.aerie_base.specs.models.ValidModel.{valid_model}
+use Rattle.aerie_base.specs.statements.Places.{Placed, placed, left, block_size, simple_step}
+use Rattle.run_data.specs.declared.tasks.BodyId.{BodyId}
+use Rattle.run_data.specs.declared.tasks.TaskState.{TaskState}
+use Rattle.run_data.specs.declared.frames.Status.TheVariants.{Done, Faulted}
+use Rattle.run_data.specs.Courses.{Course, after_items, starting, seen, valued, noting, paid}
+use Rattle.run_data.specs.Jobs.{AreCellsOf}
+use Rattle.run_data.specs.Steps.{Turn, onward, ended, act, with_noted, valued_all, emission_expr, delay_of, behind, Stepped, after, after_test, perform, steps}
+use Rattle.run_data.specs.TaskStates.{body_of, activity_body}
+use Rattle.run_data.specs.Typed.{AreLeft, kind_here}
+use Rattle.run_data.specs.laws.Typing.{body_result}
+use Rattle.run_data.specs.laws.Results.{IsUnderWay, EndsAsDeclared, ResultsFit, BeginsUnderWay}
+use Rattle.run_data.proofs.Keeping.{all_notes}
+use Rattle.run_data.proofs.CellKinds.{seen_readings}
+use Rattle.run_data.proofs.ModelBodies.{IsBodyOf, activity_ends}
+use Rattle.run_data.proofs.PlacesHold.{Onward, IsLeft}
+use Rattle.run_data.proofs.BodyPlaces.{its_setting, its_scopes, its_lefts, get_is}
+use Rattle.run_data.proofs.TypedStatements.{Fits, stmt_fits}
+use Rattle.run_data.proofs.TypedTurns.{TurnGoes, all_turn}
+use Rattle.run_data.proofs.Typing.{Now, now, body_there, states_begin, choice_runs_on, loop_runs_on, turn_there}
+use Rattle.run_data.proofs.Returns.{EndsReturn, in_front, left_ends, first_left}
+
+-- a result of which there is none in the case that there is one
+pub unless_some : (found : Option Kind) → (IsTrue (is_some found) → ⊥) → found ≡ None
+unless_some None h = refl
+unless_some (Some of) h = absurd (h refl)
+
+not_some : (found : Option Kind) → found ≡ None → IsTrue (is_some found) → ⊥
+not_some None e h = absurd (cc)
+not_some (Some of) e h = absurd (cc)
+
+any_turn : (P : Turn → Type 0) (course : Course) (result : Noted) (go : Value → Course → Turn) →
+    ((fault : Fault) (noted : List Bool) → P (ended (Faulted fault) (noting course noted))) → ((value : Value) (noted : List Bool) → result.0 ≡ Ok value → P (go value (noting course noted))) →
+    P (with_noted course result go)
+any_turn P course (Ok value, noted) go faulted goes = goes value noted refl
+any_turn P course (Err fault, noted) go faulted goes = faulted fault noted
+
+module _ (model : Parts) (valid : IsTrue (valid_model model)) (kind : BodyId) where
+  -- where the body has a result, what is left ends in a `return`
+  abbrev Under : List Placed → Type 0
+  Under list = IsTrue (is_some (body_result model kind)) → EndsReturn list
+
+  -- a statement that is no `return` is not the last
+  rest_under : (here : Placed) (rest : List Placed) → (IsTrue (is_return here.what) → ⊥) → Under (here ∷ rest) → Under rest
+  rest_under here [] differs h some = absurd (differs (h some))
+  rest_under here (next ∷ rest) differs h some = h some
+
+  under_way : (at : ℕ) (rest : List Placed) → left (body_of model kind) at ≡ rest → Under rest → left (body_of model kind) at ≡ [] → body_result model kind ≡ None
+  under_way at rest e h none =
+      unless_some (body_result model kind) (λ some. subst EndsReturn (sym e ∙ none) (h some))
+
+  not_return : (here : Placed) (x : Stmt-F Stmt) → out-Stmt here.what ≡ x → is_return_step x ≡ false → IsTrue (is_return here.what) → ⊥
+  unfolding is_return
+  not_return here x e differs h = let yes_it : is_return_step x ≡ true = sym (ap (λ (y : Stmt-F Stmt). is_return_step y) e) ∙ h in absurd (cc)
+
+  -- what is to hold after a statement
+  abbrev Ended : Turn → Type 0
+  Ended (onward next) = Unit {0}
+  Ended (ended status last) = EndsAsDeclared model kind status
+
+  -- a value has the type of its expression
+  value_has : (course : Course) (expr : Expr) (of : Kind) (value : Value) → AreCellsOf model (after_items course.view course.items) →
+      kind_here course.locals (read_kind model.cells) expr ≡ Some of → (valued course expr).0 ≡ Ok value → value_kind value ≡ of
+  value_has course expr of value cells e is =
+      subst (λ (o : Outcome). Gives of o) is
+      (sound expr course.locals (read_kind model.cells) (seen course.view course.items) course.noted of (seen_readings model course.view course.items cells) e)
+
+  delay_under : (by : ℤ) (next : TaskState) → IsUnderWay model next → EndsAsDeclared model kind (delay_of by next)
+  delay_under (pos micros) next h = h
+  delay_under (negsuc below) next h = tt
+
+  module _ (here : Placed) (rest : List Placed) (course : Course) (first : AreLeft model kind (here ∷ rest) course.locals)
+      (cells : AreCellsOf model (after_items course.view course.items)) (under : Under (here ∷ rest)) where
+    n : Now model kind here rest course.locals
+    n = now model kind here rest course.locals valid first
+
+    abbrev FitsHere : Stmt-F Stmt → Type 0
+    FitsHere = Fits model n.is.parameters n.is.result n.suits_it.scope course.locals n.few n.suits_it.suit n.stands.next
+
+    abbrev OnwardHere : Stmt-F Stmt → Type 0
+    OnwardHere = Onward (its_setting model kind n.is) n.is.slots (its_scopes model kind n.is) (its_lefts model kind n.is) here rest n.suits_it.scope n.stands.next
+
+    next_left : IsLeft (its_setting model kind n.is) n.is.slots (its_scopes model kind n.is) (its_lefts model kind n.is) (here.at + 1) rest → left (body_of model kind) (here.at + 1) ≡ rest
+    unfolding left
+    next_left h = get_is (its_lefts model kind n.is) (here.at + 1) rest h
+
+    goes_on : (x : Stmt-F Stmt) → out-Stmt here.what ≡ x → is_return_step x ≡ false →
+        IsLeft (its_setting model kind n.is) n.is.slots (its_scopes model kind n.is) (its_lefts model kind n.is) (here.at + 1) rest → left (body_of model kind) (here.at + 1) ≡ [] → body_result model kind ≡ None
+    goes_on x e differs h = under_way (here.at + 1) rest (next_left h) (rest_under here rest (not_return here x e differs) under)
+
+    turn_ends : (x : Stmt-F Stmt) → out-Stmt here.what ≡ x → FitsHere x → OnwardHere x → simple_step x ≡ true → Ended (act kind here.at x course)
+    turn_ends (Stmt-F.Let slot expr) e fit on simple = any_turn Ended course (valued course expr) _ (λ fault noted. tt) (λ value noted is. tt)
+    turn_ends (Stmt-F.Assign slot expr) e fit on simple = any_turn Ended course (valued course expr) _ (λ fault noted. tt) (λ value noted is. tt)
+    turn_ends (Stmt-F.Emit cell what) e fit on simple = any_turn Ended course (valued course (emission_expr what)) _ (λ fault noted. tt) (λ value noted is. tt)
+    turn_ends (Stmt-F.Delay expr) e fit on simple =
+        any_turn Ended course (valued course expr) _ (λ fault noted. tt)
+        (λ value noted is. delay_under (number_in value) (behind kind here.at (noting course noted)) (goes_on (Stmt-F.Delay expr) e refl on.2))
+    turn_ends (Stmt-F.WaitUntil condition) e fit on simple = goes_on (Stmt-F.WaitUntil condition) e refl on.2
+    turn_ends (Stmt-F.Spawn child exprs) e fit on simple =
+        all_turn Ended (λ result. Unit {0}) course (valued_all exprs course) _ (all_notes exprs course) tt (λ fault noted. tt) (λ values noted given. tt)
+    turn_ends (Stmt-F.Call child exprs into) e fit on simple =
+        all_turn Ended (λ result. Unit {0}) course (valued_all exprs course) _ (all_notes exprs course) tt (λ fault noted. tt)
+        (λ values noted given. goes_on (Stmt-F.Call child exprs into) e refl on.2)
+    turn_ends (Stmt-F.If test block other) e fit on simple = absurd (cc)
+    turn_ends (Stmt-F.While test block) e fit on simple = absurd (cc)
+    turn_ends (Stmt-F.Return None) e fit on simple = sym (n.is.result_is ∙ fit.0)
+    turn_ends (Stmt-F.Return (Some expr)) e fit on simple =
+        any_turn Ended course (valued course expr) _ (λ fault noted. tt)
+        (λ value noted is. ap Some (value_has course expr fit.0 value cells fit.2 is) ∙ sym (n.is.result_is ∙ fit.1))
+
+    pub act_ends : (x : Stmt-F Stmt) → out-Stmt here.what ≡ x → simple_step x ≡ true → Ended (act kind here.at x course)
+    act_ends x e simple =
+        turn_ends x e
+        (subst FitsHere e (stmt_fits model n.is.parameters n.is.result n.suits_it.scope course.locals n.few n.suits_it.suit here.what n.stands.next n.stands.checks))
+        (subst OnwardHere e n.stands.onward) simple
+
+  -- ---- a step
+
+  abbrev Declared : Stepped → Type 0
+  Declared None = Unit {0}
+  Declared (Some (status, course)) = EndsAsDeclared model kind status
+
+  record IsThere (list : List Placed) (course : Course) : Type 0 where
+    first : AreLeft model kind list course.locals
+    cells : AreCellsOf model (after_items course.view course.items)
+    under : Under list
+
+  tested : (course : Course) (result : Noted) (go : Bool → Course → Stepped) → ((holds : Bool) (noted : List Bool) → Declared (go holds (noting course noted))) → Declared (after_test course result go)
+  tested course (Ok value, noted) go goes = goes (truth_in value) noted
+  tested course (Err fault, noted) go goes = tt
+
+  turned : (before : Course) (rest : List Placed) (turn : Turn) (go : Course → Stepped) → Under rest → TurnGoes model kind rest before turn → Ended turn →
+      ((next : Course) → IsThere rest next → Declared (go next)) → Declared (after turn go)
+  turned before rest (onward next) go under on ends goes = goes next (record { first = on.0; cells = on.1; under = under })
+  turned before rest (ended status last) go under on ends goes = ends
+
+  module _ (here : Placed) (rest : List Placed) (course : Course) (h : IsThere (here ∷ rest) course) (go : List Placed → Course → Stepped)
+      (goes : (list : List Placed) (next : Course) → IsThere list next → Declared (go list next)) where
+    -- a `return` goes no further
+    simple_returns : (x : Stmt-F Stmt) → out-Stmt here.what ≡ x → simple_step x ≡ true → (is_return_step x ≡ false) → Declared (after (act kind here.at x course) (go rest))
+    simple_returns x e simple differs =
+        turned course rest (act kind here.at x course) (go rest) (rest_under here rest (not_return here x e differs) h.under)
+        (turn_there model kind here rest course valid h.first h.cells (act kind here.at x course) (ap (λ (y : Stmt-F Stmt). act kind here.at y course) e))
+        (act_ends here rest course h.first h.cells h.under x e simple) (goes rest)
+
+    returned : (value : Option Expr) → out-Stmt here.what ≡ Stmt-F.Return value → Ended (act {A = Stmt} kind here.at (Stmt-F.Return value) course) → Declared (after (act {A = Stmt} kind here.at (Stmt-F.Return value) course) (go rest))
+    returned None e ends = ends
+    returned (Some expr) e ends = by_value (valued course expr) ends
+      where
+        by_value : (result : Noted) → Ended (with_noted course result (λ value c. ended (Done (Some value)) c)) → Declared (after (with_noted course result (λ value c. ended (Done (Some value)) c)) (go rest))
+        by_value (Ok value, noted) done = done
+        by_value (Err fault, noted) done = done
+
+    there : (list : List Placed) (noted : List Bool) → AreLeft model kind list course.locals → Under list → IsThere list (noting course noted)
+    there list noted left under = record { first = left; cells = h.cells; under = under }
+
+    chosen : (holds : Bool) (a b : List Placed) → Under rest → Under ((if holds then a else b) ++ rest)
+    chosen holds a b under some = in_front (if holds then a else b) rest (under some)
+
+    repeated : (holds : Bool) (a : List Placed) → Under (here ∷ rest) → Under rest → Under (if holds then a ++ here ∷ rest else rest)
+    repeated true a again under some = in_front a (here ∷ rest) (again some)
+    repeated false a again under some = under some
+
+    performed : (x : Stmt-F Stmt) → out-Stmt here.what ≡ x → Declared (perform kind here rest x course go)
+    performed (Stmt-F.If test block other) e =
+        tested course (valued course test) _ (λ holds noted. goes _ (noting course noted)
+        (there ((if holds then placed (here.at + 1) block else placed (here.at + 2 + block_size block) other) ++ rest) noted
+        (choice_runs_on model kind here rest course.locals test block other holds valid h.first e)
+        (chosen holds (placed (here.at + 1) block) (placed (here.at + 2 + block_size block) other) (rest_under here rest (not_return here (Stmt-F.If test block other) e refl) h.under))))
+    performed (Stmt-F.While test block) e =
+        tested course (valued course test) _ (λ holds noted. goes _ (noting course noted)
+        (there (if holds then placed (here.at + 1) block ++ here ∷ rest else rest) noted
+        (loop_runs_on model kind here rest course.locals test block holds valid h.first e)
+        (repeated holds (placed (here.at + 1) block) h.under (rest_under here rest (not_return here (Stmt-F.While test block) e refl) h.under))))
+    performed (Stmt-F.Let slot value) e = simple_returns (Stmt-F.Let slot value) e refl refl
+    performed (Stmt-F.Assign slot value) e = simple_returns (Stmt-F.Assign slot value) e refl refl
+    performed (Stmt-F.Emit cell what) e = simple_returns (Stmt-F.Emit cell what) e refl refl
+    performed (Stmt-F.Delay by) e = simple_returns (Stmt-F.Delay by) e refl refl
+    performed (Stmt-F.WaitUntil condition) e = simple_returns (Stmt-F.WaitUntil condition) e refl refl
+    performed (Stmt-F.Spawn child arguments) e = simple_returns (Stmt-F.Spawn child arguments) e refl refl
+    performed (Stmt-F.Call child arguments into) e = simple_returns (Stmt-F.Call child arguments into) e refl refl
+    performed (Stmt-F.Return value) e = returned value e (act_ends here rest course h.first h.cells h.under (Stmt-F.Return value) e refl)
+
+  steps_declared : (budget : ℕ) (list : List Placed) (course : Course) → IsThere list course → Declared (steps kind budget list course)
+  steps_declared budget [] course h = sym (unless_some (body_result model kind) h.under)
+  steps_declared zero (here ∷ rest) course h = tt
+  steps_declared (suc budget) (here ∷ rest) course h =
+      performed here rest (paid course) (record { first = h.first; cells = h.cells; under = h.under }) (steps kind budget) (steps_declared budget) (out-Stmt here.what) refl
+
+  -- where something is left, or there is no result, what is left ends in a `return` where there is a result
+  begins_under : (at : ℕ) → IsBodyOf model kind → (left (body_of model kind) at ≡ [] → body_result model kind ≡ None) → Under (left (body_of model kind) at)
+  begins_under at is h some =
+      left_ends (body_of model kind) at (is.ends (subst (λ (o : Option Kind). IsTrue (is_some o)) is.result_is some))
+      (λ e. not_some (body_result model kind) (h e) some)
+
+pub results_fit : ResultsFit
+results_fit model budget job status course valid is under e =
+    let kind = job.state.kind in
+    subst (Declared model valid kind) e
+    (steps_declared model valid kind budget _ (starting job.view job.state.locals)
+    (record {
+      first = states_begin model job.state valid is.state;
+      cells = is.view;
+      under = begins_under model valid kind job.state.at (body_there model kind job.state.at job.state.locals valid is.state) under;
+    }))
+
+-- ---- where an activity begins
+
+begins_by : (model : Parts) (valid : IsTrue (valid_model model)) (kind : ℕ) (found : Option Activity) → slice_get model.activities kind ≡ found → left (activity_body found) 0 ≡ [] → result_of found ≡ None
+begins_by model valid kind None e none = refl
+begins_by model valid kind (Some activity) e none =
+    unless_some activity.result (λ some. first_left activity.body (activity_ends model valid kind activity e some) none)
+
+pub begins_under_way : BeginsUnderWay
+begins_under_way model kind arguments valid none = begins_by model valid kind (slice_get model.activities kind) refl none
