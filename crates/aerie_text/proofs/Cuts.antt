@@ -18,7 +18,7 @@ use Rattle.aerie_text.specs.declared.token.Token.{Token}
 use Rattle.aerie_text.specs.declared.token.TokenKind.{TokenKind}
 use Rattle.aerie_text.proofs.Beginnings.{token_facts}
 use Rattle.aerie_text.proofs.Extents.{none_matches, read_longest}
-use Rattle.aerie_text.proofs.Reading.{bad_step, end_step, gap_step, token_step}
+use Rattle.aerie_text.proofs.Scanning.{bad_step, end_step, gap_step, token_step}
 
 pub gap_within : (text : List ℕ) → gap_len text ≤ length text
 gap_within text = go (begins_comment text) refl
@@ -138,7 +138,7 @@ blank_edge : (text : List ℕ) (at to : ℕ) → IsUtf8 text → IsCharBoundary 
 blank_edge text at to utf8 edge (nothing here) = edge
 blank_edge text at to utf8 edge (gap here there positive blank) = blank_edge text (at + gap_len (drop at text)) to utf8 (gap_edge text at utf8 positive) blank
 
-token_edges : (text : List ℕ) (t : Token) → IsUtf8 text → IsTokenOf text t → IsAtEdges text t
+pub token_edges : (text : List ℕ) (t : Token) → IsUtf8 text → IsTokenOf text t → IsAtEdges text t
 token_edges text t utf8 is =
     let facts = token_facts (drop t.from text) t.kind (t.to - t.from) is.read in
     let place : t.from + (t.to - t.from) ≡ t.to = omega (arith, is.rises) in (

@@ -23,7 +23,7 @@ module _ (P : List ℕ → Type 0) (test : ℕ → Bool) (empty : P []) (more : 
 digit_value_of : (b : ℕ) → 48 ≤ b → b ≤ 57 → digit_value b ≡ b - 48
 digit_value_of b low high = grind (arith, nat_tests)
 
-digit_below : (b : ℕ) → is_ascii_digit b ≡ true → digit_value b < 10
+pub digit_below : (b : ℕ) → is_ascii_digit b ≡ true → digit_value b < 10
 digit_below b e = grind (arith, nat_tests)
 
 digit_ascii : (b : ℕ) → is_ascii_digit b ≡ true → b < 128

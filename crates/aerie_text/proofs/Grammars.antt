@@ -11,3 +11,5 @@ pub mod Alike
 pub mod Levels
 pub mod Partly
 pub mod Classes
+pub mod Tables
+pub mod Fronts

@@ -1,9 +1,12 @@
 pub mod Beginnings
+pub mod Between
 pub mod Columns
 pub mod Cuts
 pub mod Extents
 pub mod Figures
+pub mod Marking
 pub mod Matching
-pub mod Reading
+pub mod Readers
+pub mod Scanning
 pub mod Units
 pub mod Grammars

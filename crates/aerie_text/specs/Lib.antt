@@ -2,11 +2,14 @@ pub mod Bytes
 pub mod Cut
 pub mod Gaps
 pub mod Json
+pub mod Marks
 pub mod Numerals
 pub mod Places
 pub mod Quotes
+pub mod Sorts
 pub mod Symbols
 pub mod TokenAt
 pub mod TokenTexts
 pub mod Tokens
 pub mod grammar
+pub mod reading

@@ -9,6 +9,7 @@ pub mod Verdicts
 pub mod Alternatives
 pub mod Alike
 pub mod Classes
+pub mod Tables
 pub mod Levels
 pub mod LevelsCases
 pub mod WordLists

@@ -6,11 +6,15 @@ mod bytes;
 mod gaps;
 pub mod grammar;
 mod json;
+mod limits;
 mod longest;
+mod marks;
 mod numerals;
 mod places;
 mod quotes;
+pub mod reading;
 mod scanner;
+mod sorts;
 mod symbols;
 #[cfg(test)]
 mod tests;
@@ -18,7 +22,11 @@ mod text_error;
 mod token;
 
 pub use json::{line, object, text_value};
+pub use limits::Limit;
+pub use marks::{Mark, marks_of};
 pub use places::place_of;
+pub use reading::{Reader, Refusal};
 pub use scanner::tokens;
+pub use sorts::Sort;
 pub use text_error::TextError;
 pub use token::{Token, TokenKind};

@@ -63,7 +63,7 @@ fn fits_number(digits: &[u8]) -> bool
 }
 
 /// The value of digits that fit 64 bits whatever they are.
-fn decimal_value(digits: &[u8]) -> u64
+pub fn decimal_value(digits: &[u8]) -> u64
     requires digits { AllDigits 10 digits.now }
     requires short { length digits.now ≤ 19 }
     ensures { result ≡ digits_value 10 digits.now }

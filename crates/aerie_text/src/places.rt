@@ -1,6 +1,6 @@
 //! Places for a reader.
 
-ghost use Rattle.std.specs.Prelude.{◌≡◌, ◌<◌, length};
+ghost use Rattle.std.specs.Prelude.{◌≡◌, ◌<◌, ◌≤◌, length};
 ghost use Rattle.std.specs.Str.{IsCharBoundary, chars};
 ghost use Rattle.aerie_text.specs.Places.{chars_before, column_of, line_of, place_of};
 
@@ -18,6 +18,28 @@ pub fn place_of(text: &str, at: usize) -> Place
         line: line_of(before),
         column: column_of(before),
     }
+}
+
+/// The place of a byte, from the place of a byte before it: it reads what stands between them alone.
+pub fn place_on(text: &str, from: usize, to: usize, place: Place) -> Place
+    requires short { length text.now < 4_294_967_295 }
+    requires rises { from ≤ to }
+    requires begins { IsCharBoundary text.now from }
+    requires ends { IsCharBoundary text.now to }
+    requires place { place ≡ place_of text.now from }
+    ensures { result ≡ place_of text.now to }
+{
+    let mut line = place.line;
+    let mut column = place.column;
+    for c in text[from..to].chars() {
+        if c == '\n' {
+            line += 1;
+            column = 1;
+        } else {
+            column += 1;
+        }
+    }
+    Place { line, column }
 }
 
 /// 1 and the line feeds of a text.

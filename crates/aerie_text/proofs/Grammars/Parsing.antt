@@ -9,7 +9,7 @@ use Rattle.aerie_text.specs.grammar.Parsing.{Reads, Stops, Turns, Parses}
 use Rattle.aerie_text.proofs.Grammars.Shallow.{same_inside}
 
 -- of two tests and what each leads to
-two_tests : {Rule Sort : Type 0} (ba bb ea eb : Bool) (x y z : Ahead Rule Sort) → when (ba || (ea && bb)) (when ba x y) (when (ea && eb) z refused)
+pub two_tests : {Rule Sort : Type 0} (ba bb ea eb : Bool) (x y z : Ahead Rule Sort) → when (ba || (ea && bb)) (when ba x y) (when (ea && eb) z refused)
     ≡ when ba x (when ea (when bb y (when eb z refused)) refused)
 two_tests true bb ea eb x y z = refl
 two_tests false bb false eb x y z = refl

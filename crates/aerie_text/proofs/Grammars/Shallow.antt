@@ -5,11 +5,11 @@ use Rattle.aerie_text.specs.grammar.LazyReadings.{open_rule, pass, in_turn, firs
 use Rattle.aerie_text.specs.grammar.Lookahead.{Lookahead, Ahead, refused, unfinished, when, empty, begins, inside, into, next}
 use Rattle.aerie_text.specs.grammar.Predictive.{IsPredictive, shallow, shallow_inside}
 
-and_front : (a b : Bool) → IsTrue (a && b) → IsTrue a
+pub and_front : (a b : Bool) → IsTrue (a && b) → IsTrue a
 and_front true b h = refl
 and_front false b h = cc
 
-and_back : (a b : Bool) → IsTrue (a && b) → IsTrue b
+pub and_back : (a b : Bool) → IsTrue (a && b) → IsTrue b
 and_back true b h = h
 and_back false b h = cc
 

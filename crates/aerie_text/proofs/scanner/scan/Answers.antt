@@ -3,7 +3,7 @@ use Rattle.std.proofs.Common.{◌≡◌, ◌≤◌, ◌∙◌, length, drop, ap,
 use Rattle.std.proofs.lemmas.List.{length-drop}
 use Rattle.aerie_text.specs.Tokens.{tokens_of}
 use Rattle.aerie_text.specs.Gaps.{gap_len}
-use Rattle.aerie_text.proofs.Reading.{at_start, at_end, gap_read, token_read, bad_read, err_case}
+use Rattle.aerie_text.proofs.Scanning.{at_start, at_end, gap_read, token_read, bad_read, err_case}
 use Rattle.aerie_text.proofs.scanner.scan.Goals as goal
 
 pub loop-at-init : goal.loop-at-init

@@ -2,7 +2,7 @@
 use Rattle.std.proofs.Common.{◌≡◌, length, Err}
 use Rattle.aerie_text.specs.Tokens.{tokens_of}
 use Rattle.aerie_text.proofs.Cuts.{all_edges, are_tokens, bad_edge, first_bad}
-use Rattle.aerie_text.proofs.Reading.{bad_case, ok_case}
+use Rattle.aerie_text.proofs.Scanning.{bad_case, ok_case}
 use Rattle.aerie_text.proofs.scanner.token_list.Goals as goal
 
 pub returns-clause-cut : goal.returns-clause-cut
