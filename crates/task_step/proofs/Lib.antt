@@ -1,0 +1,13 @@
+pub mod CellsRead
+pub mod Doing
+pub mod FamilyJobs
+pub mod Fillings
+pub mod Landing
+pub mod OneByOne
+pub mod Places
+pub mod Starting
+pub mod Taking
+pub mod Simple
+pub mod SmallJobs
+pub mod Soundness
+pub mod Validity

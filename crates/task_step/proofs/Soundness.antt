@@ -1,0 +1,117 @@
+-- A course stays sound: the cells that are seen are those of the view with the effects of the items, and numbers stay small.
+use Rattle.std.proofs.Common.{◌≡◌, ℕ, zero, suc, ◌+◌, ◌^◌, ◌<◌, ◌≤◌, Bool, List, [], ◌∷◌, ◌++◌, Option, Some, None, refl, sym, ap, ◌∙◌, subst, arith, length, length-append}
+use Rattle.std.proofs.lemmas.Int.{ints}
+use Rattle.std.specs.Prelude.{slice_get, slice_set}
+use Rattle.aerie_base.specs.declared.values.Value.{Value}
+use Rattle.effect_cells.specs.Cells.{emitted, emitted_on, IsSmallOn}
+use Rattle.effect_cells.specs.States.{applied, IsSmallState}
+use Rattle.effect_cells.specs.declared.effects.CellState.{CellState}
+use Rattle.effect_cells.specs.declared.effects.CellState.TheVariants as state
+use Rattle.effect_cells.specs.declared.effects.Effect.{Effect}
+use Rattle.effect_cells.specs.declared.effects.Effect.TheVariants.{Add, Register, Flow}
+use Rattle.effect_cells.specs.declared.registers.Change.TheVariants as change
+use Rattle.run_data.specs.declared.frames.Item.{Item}
+use Rattle.run_data.specs.declared.frames.Item.TheVariants as item
+use Rattle.run_data.specs.Courses.{after_item, after_items}
+use Rattle.run_data.specs.Jobs.{IsModest}
+use Rattle.task_step.specs.OwnCells.{state_magnitude, effect_magnitude, AreWithin, reach, most_items, IsSound}
+
+-- ---- one item more
+
+pub after_items_more : (view : List CellState) (items : List Item) (more : Item) → after_items view (items ++ more ∷ []) ≡ after_item (after_items view items) more
+after_items_more view [] more = refl
+after_items_more view (first ∷ items) more = after_items_more (after_item view first) items more
+
+-- ---- how far numbers come
+
+set_within : (cells : List CellState) (cell most : ℕ) (new : CellState) → AreWithin most cells → state_magnitude new ≤ most → AreWithin most (slice_set cells cell new)
+set_within [] cell most new h k j s e = h j s e
+set_within (first ∷ rest) zero most new h k zero s e = (let i : new ≡ s = cc in omega (arith, k, ap state_magnitude i))
+set_within (first ∷ rest) zero most new h k (suc j) s e = h (suc j) s e
+set_within (first ∷ rest) (suc cell) most new h k zero s e = h 0 s e
+set_within (first ∷ rest) (suc cell) most new h k (suc j) s e = set_within rest cell most new (λ i. h (suc i)) k j s e
+
+applied_within : (before : CellState) (effect : Effect) → state_magnitude (applied before effect) ≤ state_magnitude before + effect_magnitude effect
+applied_within (state.Counter n) (Add x) = omega (arith, ints)
+applied_within (state.Counter n) (Register c) = omega arith
+applied_within (state.Counter n) (Flow x y) = omega arith
+applied_within (state.Register v f) (Add x) = omega arith
+applied_within (state.Register v f) (Register change.Nothing) = omega arith
+applied_within (state.Register v f) (Register (change.Set w)) = omega arith
+applied_within (state.Register v f) (Register change.Mark) = omega arith
+applied_within (state.Register v f) (Register (change.SetMark w)) = omega arith
+applied_within (state.Register v f) (Flow x y) = omega arith
+applied_within (state.Volume v r) (Add x) = omega arith
+applied_within (state.Volume v r) (Register c) = omega arith
+applied_within (state.Volume v r) (Flow x y) = omega (arith, ints)
+
+on_within : (cells : List CellState) (cell : ℕ) (effect : Effect) (there : Option CellState) (most more : ℕ) → slice_get cells cell ≡ there →
+    AreWithin most cells → effect_magnitude effect ≤ more → AreWithin (most + more) (emitted_on cells cell effect there)
+on_within cells cell effect None most more e h k = λ j s i. omega (arith, h j s i)
+on_within cells cell effect (Some before) most more e h k =
+    set_within cells cell (most + more) (applied before effect) (λ j s i. omega (arith, h j s i))
+    (omega (arith, applied_within before effect, h cell before e, k))
+
+pub emitted_within : (cells : List CellState) (cell : ℕ) (effect : Effect) (most more : ℕ) → AreWithin most cells → effect_magnitude effect ≤ more → AreWithin (most + more) (emitted cells cell effect)
+emitted_within cells cell effect most more = on_within cells cell effect (slice_get cells cell) most more refl
+
+small_state : (s : CellState) → state_magnitude s < 2 ^ 120 → IsSmallState s
+small_state (state.Counter n) h = h
+small_state (state.Register v f) h = tt
+small_state (state.Volume v r) h = (omega (arith, h), omega (arith, h))
+
+small_there : (cells : List CellState) (cell : ℕ) (effect : Effect) (there : Option CellState) (most : ℕ) → slice_get cells cell ≡ there →
+    AreWithin most cells → most + effect_magnitude effect < 2 ^ 120 → IsSmallOn there effect
+small_there cells cell effect None most e h k = tt
+small_there cells cell effect (Some before) most e h k =
+    small_state (applied before effect) (omega (arith, applied_within before effect, h cell before e, k))
+
+-- an effect of a step leaves a cell's numbers small
+pub small_on : (view cells other : List CellState) (items : List Item) (noted : List Bool) (cell : ℕ) (effect : Effect) → other ≡ cells →
+    IsSound view cells items noted → effect_magnitude effect ≤ 1_000_000_000_000_000_000 → IsSmallOn (slice_get other cell) effect
+small_on view cells other items noted cell effect e s k =
+    subst (λ l. IsSmallOn (slice_get l cell) effect) (sym e)
+    (small_there cells cell effect (slice_get cells cell) (reach (length items)) refl s.within (omega (arith, s.few_items, k)))
+
+-- ---- the start
+
+modest_within : (s : CellState) → IsModest s → state_magnitude s ≤ reach 0
+modest_within (state.Counter n) h = omega (arith, h)
+modest_within (state.Register v f) h = omega arith
+modest_within (state.Volume v r) h = omega (arith, h.0, h.1)
+
+-- ---- a course stays sound
+
+pub read_sound : (view cells view' cells' : List CellState) (items : List Item) (noted noted' : List Bool) →
+    ◌≡◌ {A = List CellState × List CellState} (view', cells') (view, cells) → length noted' ≡ length noted →
+    IsSound view cells items noted → IsSound view' cells' items noted'
+read_sound view cells view' cells' items noted noted' e n s =
+    let first : view' ≡ view = ap (λ p. p.0) e in
+    let second : cells' ≡ cells = ap (λ p. p.1) e in
+    subst (λ v. IsSound v cells' items noted') (sym first) (subst (λ c. IsSound view c items noted') (sym second)
+    (record { shown = s.shown; flags = n ∙ s.flags; within = s.within; few_items = s.few_items; few_cells = s.few_cells }))
+
+pub child_sound : (view cells : List CellState) (items items' : List Item) (noted : List Bool) (kind : ℕ) (values : List Value) →
+    items' ≡ items ++ item.Child kind values ∷ [] → length items < most_items → IsSound view cells items noted → IsSound view cells items' noted
+child_sound view cells items items' noted kind values e few s =
+    let n : length items' ≡ length items + 1 = omega (arith, ap length e, length-append items (item.Child kind values ∷ [])) in
+    record {
+      shown = s.shown ∙ sym (after_items_more view items (item.Child kind values)) ∙ ap (after_items view) (sym e);
+      flags = s.flags;
+      within = λ k c h. omega (arith, s.within k c h);
+      few_items = omega arith;
+      few_cells = s.few_cells;
+    }
+
+pub effect_sound : (view cells view' cells' : List CellState) (items items' : List Item) (noted noted' : List Bool) (cell : ℕ) (effect : Effect) →
+    view' ≡ view → cells' ≡ emitted cells cell effect → noted' ≡ noted → items' ≡ items ++ item.Emit cell effect ∷ [] → length items < most_items →
+    effect_magnitude effect ≤ 1_000_000_000_000_000_000 → IsSound view cells items noted → IsSound view' cells' items' noted'
+effect_sound view cells view' cells' items items' noted noted' cell effect ev ec er ei few small s =
+    let n : length items' ≡ length items + 1 = omega (arith, ap length ei, length-append items (item.Emit cell effect ∷ [])) in
+    subst (λ v. IsSound v cells' items' noted') (sym ev) (record {
+      shown = ec ∙ ap (λ c. emitted c cell effect) s.shown ∙ sym (after_items_more view items (item.Emit cell effect)) ∙ ap (after_items view) (sym ei);
+      flags = ap length er ∙ s.flags;
+      within = subst (AreWithin (reach (length items'))) (sym ec) (λ k c h. omega (arith, emitted_within cells cell effect (reach (length items)) 1_000_000_000_000_000_000 s.within small k c h));
+      few_items = omega arith;
+      few_cells = s.few_cells;
+    })

@@ -1,0 +1,23 @@
+-- A stepper that runs one job after another: what contracts see of it, and the steps of a wave.
+use Rattle.std.specs.Prelude.{ℕ, ◌+◌, List, Option, Some, None, length}
+use Rattle.aerie_base.specs.declared.models.model.Parts.{Parts}
+use Rattle.body_code.specs.declared.instructions.Instruction.{Instruction}
+use Rattle.run_data.specs.declared.tasks.BodyId.{BodyId}
+use Rattle.run_data.specs.declared.tasks.BodyId.TheVariants as body
+use Rattle.run_data.specs.declared.frames.Frame.{Frame}
+
+-- its codes, how many statements and tests it ran, and where its codes lie
+pub record DirectStepper : Type 0 where
+  pub codes : List (List Instruction)
+  pub opened : ℕ
+  pub codes_at : ℕ
+
+-- where the code of a body stands among a model's codes: those of the daemons behind those of all activity types
+abbrev pub place_of : Parts → BodyId → ℕ
+place_of model (body.Activity kind) = kind
+place_of model (body.Daemon number) = length model.activities + number
+
+-- the cost of a frame, where there is one
+abbrev pub cost_in : Option Frame → ℕ
+cost_in None = 0
+cost_in (Some frame) = frame.cost

@@ -1,0 +1,11 @@
+pub mod Cases
+pub mod Directs
+pub mod Doable
+pub mod FamilyMission
+pub mod Fillable
+pub mod JobFrames
+pub mod Moves
+pub mod OwnCells
+pub mod ReadingCells
+pub mod SmallMission
+pub mod Ways

@@ -1,0 +1,60 @@
+-- What one statement or test of flat code does to a step.
+use Rattle.std.specs.Prelude.{ℕ, ◌-◌, Bool, true, false, List, ◌++◌, Option, Some, None, Result, Ok, Err, length, slice_get}
+use Rattle.aerie_base.specs.declared.values.Value.{Value}
+use Rattle.aerie_base.specs.declared.faults.Fault.{Fault}
+use Rattle.aerie_base.specs.declared.statements.Stmt.{Stmt}
+use Rattle.body_code.specs.declared.instructions.Instruction.{Instruction}
+use Rattle.body_code.specs.declared.instructions.Instruction.TheVariants.{Do, Test, Jump, End}
+use Rattle.body_code.specs.Standing.{IsCodeOf}
+use Rattle.run_data.specs.declared.frames.Status.{Status}
+use Rattle.run_data.specs.Courses.{Course}
+use Rattle.run_data.specs.Steps.{Turn, onward, ended}
+
+-- how a statement ends, as the code says it
+abbrev pub turn_of : Option Status → Course → Turn
+turn_of None course = onward course
+turn_of (Some status) course = ended status course
+
+-- values in front of those of further arguments
+abbrev pub with_front : List Value → Result (List Value) Fault × Course → Result (List Value) Fault × Course
+with_front values (Ok rest, course) = (Ok (values ++ rest), course)
+with_front values (Err fault, course) = (Err fault, course)
+
+-- ---- flat code
+
+-- the code of some body
+abbrev pub IsCode : List Instruction → Type 0
+IsCode code = (body : List Stmt) × IsCodeOf body code
+
+abbrev pub is_jump : Option Instruction → Bool
+is_jump None = false
+is_jump (Some (Do stmt)) = false
+is_jump (Some (Test test otherwise)) = false
+is_jump (Some (Jump to)) = true
+is_jump (Some End) = false
+
+abbrev pub is_end : Option Instruction → Bool
+is_end None = false
+is_end (Some (Do stmt)) = false
+is_end (Some (Test test otherwise)) = false
+is_end (Some (Jump to)) = false
+is_end (Some End) = true
+
+-- a statement or a test
+abbrev pub is_work : Option Instruction → Bool
+is_work None = false
+is_work (Some (Do stmt)) = true
+is_work (Some (Test test otherwise)) = true
+is_work (Some (Jump to)) = false
+is_work (Some End) = false
+
+-- how many places may follow each other at no cost
+abbrev pub rank_of : Option Instruction → ℕ → ℕ
+rank_of None places = 0
+rank_of (Some (Do stmt)) places = 0
+rank_of (Some (Test test otherwise)) places = 0
+rank_of (Some (Jump to)) places = places
+rank_of (Some End) places = 0
+
+abbrev pub rank : List Instruction → ℕ → ℕ
+rank code at = rank_of (slice_get code at) (length code - at)

@@ -1,0 +1,78 @@
+//! A stepper that stores nothing.
+
+ghost use Rattle.std.specs.Prelude.{◌≡◌};
+
+use crate::one_by_one::run_jobs;
+use aerie_base::{Model, OutOfMemory, Steps};
+use body_code::Code;
+use run_data::{Job, Stepper, Wave};
+use std::alloc::Global;
+use std::sync::ledger::Ledger;
+
+/// Runs steps one job after another and stores none of them. It is of each model whose codes it has. Contracts see its
+/// codes, how many statements and tests it ran, up to 2^64 - 1, and where its codes lie.
+#[derive(Drop)]
+pub struct Direct<'a> {
+    codes: &'a [Code],
+    opened: u64,
+}
+
+impl<'a> std::marker::Model for Direct<'a> {
+    ghost use Rattle.std.specs.Coded.{codes as coders};
+    ghost use Rattle.aerie_base.specs.contracts.expressions.Expr as expr;
+    ghost use Rattle.aerie_base.specs.contracts.conditions.Cond as cond;
+    ghost use Rattle.aerie_base.specs.contracts.statements.Stmt as stmt;
+    ghost use Rattle.task_step.specs.Directs.{DirectStepper};
+
+    ghost Value = { DirectStepper };
+
+    ghost coded = { Prim.hlevel (coders, expr.the_row.coded, cond.the_row.coded, stmt.the_row.coded) };
+
+    ghost view = { λ direct. record { codes = direct.codes.now; opened = direct.opened; codes_at = direct.codes.ref_ptr.0 } };
+}
+
+impl<'a> Direct<'a> {
+    /// A stepper over the codes of a model's bodies: those of the activity types and then those of the daemons, in the
+    /// model's order. It takes no memory.
+    pub fn new(codes: &'a [Code]) -> Direct<'a>
+        ensures codes { result.codes ≡ codes.now }
+        ensures opened { result.opened ≡ 0 }
+    {
+        Direct { codes, opened: 0 }
+    }
+}
+
+impl<'a> Stepper for Direct<'a> {
+    ghost use Rattle.std.specs.Prelude.{[]};
+    ghost use Rattle.std.proofs.lemmas.List.Elements.{All-nil};
+    ghost use Rattle.body_code.specs.ModelCodes.{AreCodesOf};
+    ghost use Rattle.run_data.specs.Records.{IsValid};
+
+    ghost is_of = { λ direct model. AreCodesOf model direct.codes };
+
+    ghost records = { λ direct. [] };
+
+    ghost opened = { λ direct. direct.opened };
+
+    ghost anchor = { λ direct. direct.codes_at };
+
+    ghost shares = { Unit {0} };
+
+    ghost valid = { λ direct model of. All-nil (IsValid model) };
+
+    fn wave<L: Ledger, K: Ledger>(
+        &mut self,
+        alloc: Global,
+        model: &Model,
+        jobs: &[Job],
+        fuel: u64,
+        steps: &mut Steps<L>,
+        looks: &mut Steps<K>,
+    ) -> Result<Wave, OutOfMemory> {
+        let _ = looks;
+        let mut opened = self.opened;
+        let wave = run_jobs(alloc, model, self.codes, jobs, fuel, steps, &mut opened);
+        self.opened = opened;
+        wave
+    }
+}

@@ -1,0 +1,23 @@
+//! One step of a task, run over flat code: the frame of a job, exactly as its definition says.
+#![tactic(auto)]
+
+mod acting;
+mod arguments;
+mod cells_read;
+mod course;
+mod direct;
+mod filling;
+mod fresh;
+mod one_by_one;
+mod running;
+mod sight;
+mod statement_parts;
+mod step_end;
+#[cfg(test)]
+mod tests;
+mod values;
+
+pub use direct::Direct;
+pub use fresh::Fresh;
+pub use running::run_step;
+pub use step_end::StepEnd;

@@ -1,0 +1,119 @@
+//! A wave of jobs, one after another.
+
+ghost use Rattle.std.specs.Prelude.{◌≡◌, ◌+◌, ◌<◌, ◌≤◌, ◌^◌, min, [], Some, None, IsTrue, IfOk, IfSome, OnErr, length, slice_get};
+ghost use Rattle.std.specs.List.{All};
+ghost use Rattle.body_code.specs.ModelCodes.{AreCodesOf};
+ghost use Rattle.body_code.specs.Standing.{IsCodeOf};
+ghost use Rattle.run_data.specs.Jobs.{IsJobOf, is_state_of};
+ghost use Rattle.run_data.specs.TaskStates.{body_of};
+ghost use Rattle.run_data.specs.Waves.{wave_of, last_count, IsFrugal, RoseAlike};
+ghost use Rattle.task_step.specs.JobFrames.{job_frame};
+ghost use Rattle.task_step.specs.Directs.{place_of, cost_in};
+
+use crate::running::run_step;
+use crate::step_end::StepEnd;
+use aerie_base::{List, Model, OutOfMemory, Steps};
+use body_code::Code;
+use run_data::laws::budget_decides_the_end_alone;
+use run_data::{BodyId, Frame, Job, TaskState, Wave};
+use std::alloc::Global;
+use std::sync::ledger::Ledger;
+
+/// The place of a body's code among a model's codes.
+fn place(model: &Model, body: BodyId) -> usize
+    requires { place_of model.now body < 2 ^ 63 }
+    ensures { result ≡ place_of model.now body }
+{
+    match body {
+        BodyId::Activity(kind) => usize::from(kind),
+        BodyId::Daemon(number) => model.activities().len() + usize::from(number),
+    }
+}
+
+/// The code at a place.
+fn code_at(codes: &[Code], at: usize) -> &Code
+    requires { at < length codes.now }
+    ensures { slice_get codes.now at ≡ Some result.now }
+{
+    &codes[at]
+}
+
+/// The code of the body that a state names.
+fn code_of<'a>(model: &Model, codes: &'a [Code], state: &TaskState) -> &'a Code
+    requires codes { AreCodesOf model.now codes.now }
+    requires state { IsTrue (is_state_of model.now state.now) }
+    ensures { IsCodeOf (body_of model.now state.now.kind) result.now }
+{
+    code_at(codes, place(model, state.kind))
+}
+
+/// A count that rose, and stands at its last value where that is more.
+fn risen(count: u64, by: u64) -> u64
+    ensures { result ≡ min (count + by) last_count }
+{
+    count.saturating_add(by)
+}
+
+/// The frame of a job, or `None` where its cost passes the fuel.
+fn run_job<L: Ledger>(
+    alloc: Global,
+    model: &Model,
+    codes: &[Code],
+    job: &Job,
+    fuel: u64,
+    steps: &mut Steps<L>,
+    opened: &mut u64,
+) -> Result<Option<Frame>, OutOfMemory>
+    requires codes { AreCodesOf model.now codes.now }
+    requires job { IsJobOf model.now job.now }
+    requires fuel { fuel ≤ 100_000_000 }
+    requires opened { opened.old ≤ last_count }
+    ensures frame { IfOk result (λ frame. job_frame model.now fuel job.now ≡ frame) }
+    ensures steps { IfOk result (λ frame. steps.new ≡ steps.old + cost_in frame) }
+    ensures opened { RoseAlike opened.old steps.old opened.new steps.new }
+{
+    let code = code_of(model, codes, &job.state);
+    match run_step(alloc, model, code, job, fuel) {
+        Ok(fresh) => {
+            let frame = fresh.open(steps);
+            *opened = risen(*opened, frame.cost);
+            Ok(Some(frame))
+        }
+        Err(StepEnd::Fuel) => Ok(None),
+        Err(StepEnd::OutOfMemory) => Err(OutOfMemory),
+    }
+}
+
+/// The frames of the jobs, in their order, or `Spent` exactly where their costs together pass the fuel: each job may cost
+/// what those before it left. `opened` rises as `steps` does.
+pub(crate) fn run_jobs<L: Ledger>(
+    alloc: Global,
+    model: &Model,
+    codes: &[Code],
+    jobs: &[Job],
+    fuel: u64,
+    steps: &mut Steps<L>,
+    opened: &mut u64,
+) -> Result<Wave, OutOfMemory>
+    requires codes { AreCodesOf model.now codes.now }
+    requires jobs { All (IsJobOf model.now) jobs.now }
+    requires fuel { fuel ≤ 100_000_000 }
+    requires opened { opened.old ≤ last_count }
+    ensures wave { IfOk result (λ wave. wave ≡ wave_of model.now fuel jobs.now) }
+    ensures frugal { IfOk result (λ wave. IsFrugal wave [] steps.old steps.new) }
+    ensures opened { RoseAlike opened.old steps.old opened.new steps.new }
+{
+    budget_decides_the_end_alone();
+    let mut frames = List::new(alloc);
+    let mut left = fuel;
+    for job in jobs {
+        match run_job(alloc, model, codes, job, left, steps, opened)? {
+            Some(frame) => {
+                left -= frame.cost;
+                frames.push(frame)?;
+            }
+            None => return Ok(Wave::Spent),
+        }
+    }
+    Ok(Wave::Frames(frames))
+}

@@ -1,0 +1,163 @@
+//! A step: from place to place of the flat code, until a statement ends it.
+
+ghost use Rattle.std.specs.Prelude.{◌≡◌, ◌+◌, ◌<◌, ◌≤◌, ◌^◌, true, false, length, slice_get, IsTrue, IfOk, Err, Some, None};
+ghost use Rattle.aerie_base.specs.models.ValidModel.{valid_model};
+ghost use Rattle.aerie_base.specs.statements.Places.{left};
+ghost use Rattle.body_code.specs.Standing.{IsCodeOf};
+ghost use Rattle.run_data.specs.Frames.{frame_of};
+ghost use Rattle.run_data.specs.Jobs.{AreCellsOf, IsJobOf};
+ghost use Rattle.run_data.specs.Records.{IsValid, record_of};
+ghost use Rattle.run_data.specs.TaskStates.{body_of};
+ghost use Rattle.run_data.specs.Typed.{AreLeft};
+ghost use Rattle.task_step.specs.Doable.{cells_of};
+ghost use Rattle.task_step.specs.JobFrames.{job_frame};
+ghost use Rattle.task_step.specs.Moves.{is_end, is_jump, is_work};
+ghost use Rattle.task_step.specs.OwnCells.{most_items};
+ghost use Rattle.task_step.specs.Ways.{Goes};
+ghost use Rattle.task_step.specs.declared.step_end.StepEnd.TheVariants.{Fuel};
+
+use crate::acting::act;
+use crate::course::Course;
+use crate::fresh::Fresh;
+use crate::step_end::StepEnd;
+use crate::values::truth_in;
+use aerie_base::{Model, OutOfMemory, copy_list};
+use body_code::{Code, Instruction};
+use run_data::laws::{statements_are_typed, states_stand_in_bodies, steps_are_valid_records};
+use run_data::{BodyId, Job, Status};
+use std::alloc::Global;
+
+/// Where a statement or a test leads.
+pub(crate) enum Way {
+    /// The step goes on at this place.
+    Onward(u32),
+    /// The step ends so.
+    Ended(Status),
+}
+
+/// The place to which jumps lead from a place. Jumps cost nothing.
+fn land(model: &Model, code: &Code, kind: BodyId, mut at: u32) -> u32
+    requires code { IsCodeOf (body_of model.now kind) code.now }
+    requires place { at < length code.now }
+    ensures place { result < length code.now }
+    ensures left { left (body_of model.now kind) result ≡ left (body_of model.now kind) at }
+    ensures solid { is_jump (slice_get code.now result) ≡ false }
+{
+    while let Instruction::Jump(to) = code.next(at) {
+        at = *to;
+    }
+    at
+}
+
+/// Whether this is the end of the body.
+fn is_end(code: &Code, at: u32) -> bool
+    requires { at < length code.now }
+    ensures { result ≡ is_end (slice_get code.now at) }
+{
+    match code.next(at) {
+        Instruction::End => true,
+        Instruction::Do(_) | Instruction::Test { .. } | Instruction::Jump(_) => false,
+    }
+}
+
+/// Does one statement or test, at its place, and pays for it.
+fn take(
+    alloc: Global,
+    model: &Model,
+    code: &Code,
+    kind: BodyId,
+    at: u32,
+    course: &mut Course,
+) -> Result<Way, OutOfMemory>
+    requires valid { IsTrue (valid_model model.now) }
+    requires code { IsCodeOf (body_of model.now kind) code.now }
+    requires place { at < length code.now }
+    requires room { length code.now < 2 ^ 32 }
+    requires works { is_work (slice_get code.now at) ≡ true }
+    requires left { AreLeft model.now kind (left (body_of model.now kind) at) course.old.locals }
+    requires cells { AreCellsOf model.now (cells_of course.old) }
+    requires few { length course.old.items < most_items }
+    requires cheap { course.old.cost < most_items }
+    ensures { IfOk result (λ way. Goes model.now code.now kind at course.old way course.new) }
+{
+    statements_are_typed();
+    course.pay();
+    match code.next(at) {
+        Instruction::Do(stmt) => match act(alloc, kind, at, stmt, course)? {
+            None => Ok(Way::Onward(at + 1)),
+            Some(status) => Ok(Way::Ended(status)),
+        },
+        Instruction::Test { test, otherwise } => match course.value(test) {
+            Err(fault) => Ok(Way::Ended(Status::Faulted(fault))),
+            Ok(value) => {
+                if truth_in(&value) {
+                    Ok(Way::Onward(at + 1))
+                } else {
+                    Ok(Way::Onward(*otherwise))
+                }
+            }
+        },
+        Instruction::Jump(_) | Instruction::End => unreachable!(),
+    }
+}
+
+/// The frame of a step that ends so.
+fn finish(alloc: Global, job: &Job, course: Course, status: Status) -> Result<Fresh, OutOfMemory>
+    ensures { IfOk result (λ fresh. fresh ≡ frame_of job.now status course.entry) }
+{
+    let frame = course.finish(alloc, job, status)?;
+    Ok(Fresh::new(frame))
+}
+
+/// The frame of a job's step, or that it costs more than the fuel.
+fn step(alloc: Global, model: &Model, code: &Code, job: &Job, fuel: u64) -> Result<Fresh, StepEnd>
+    requires job { IsJobOf model.now job.now }
+    requires code { IsCodeOf (body_of model.now job.now.state.kind) code.now }
+    requires fuel { fuel ≤ 100_000_000 }
+    ensures frame { IfOk result (λ fresh. job_frame model.now fuel job.now ≡ Some fresh) }
+    ensures fuel { result ≡ Err Fuel → job_frame model.now fuel job.now ≡ None }
+{
+    statements_are_typed();
+    states_stand_in_bodies();
+    let kind = job.state.kind;
+    let cells = model.cells().len();
+    let locals = copy_list(alloc, &job.state.locals)?;
+    let mut course = Course::start(alloc, job.view.get(), cells, locals)?;
+    let mut at = job.state.at;
+    'places: loop {
+        let here = land(model, code, kind, at);
+        if is_end(code, here) {
+            return Ok(finish(alloc, job, course, Status::Done(None))?);
+        }
+        if course.cost() == fuel {
+            return Err(StepEnd::Fuel);
+        }
+        match take(alloc, model, code, kind, here, &mut course)? {
+            Way::Onward(to) => at = to,
+            Way::Ended(status) => return Ok(finish(alloc, job, course, status)?),
+        }
+    }
+}
+
+/// The step of a job: its frame, or `StepEnd::Fuel` exactly where it costs more than the fuel, which is at most
+/// 100,000,000. The code is that of the job's body. It takes time about linear in the statements that are run and in the
+/// cells of the model, and copies the cells only at the first effect. The frame is a valid record: it is the step of every job
+/// that it fits.
+#[tactic(auto, using(crate::proofs::Validity::frames_are_valid))]
+pub fn run_step(
+    alloc: Global,
+    model: &Model,
+    code: &Code,
+    job: &Job,
+    fuel: u64,
+) -> Result<Fresh, StepEnd>
+    requires job { IsJobOf model.now job.now }
+    requires code { IsCodeOf (body_of model.now job.now.state.kind) code.now }
+    requires fuel { fuel ≤ 100_000_000 }
+    ensures frame { IfOk result (λ fresh. job_frame model.now fuel job.now ≡ Some fresh) }
+    ensures fuel { result ≡ Err Fuel → job_frame model.now fuel job.now ≡ None }
+    ensures valid { IfOk result (λ fresh. IsValid model.now (record_of fresh)) }
+{
+    steps_are_valid_records();
+    step(alloc, model, code, job, fuel)
+}
