@@ -1,0 +1,6 @@
+use Rattle.std.proofs.Common.{◌≡◌, take}
+use Rattle.model_reader.proofs.raw.copies.copy_all.Given as goal
+
+-- so many copies were made as parts were passed, each equal
+abbrev pub invariant-loop-part : goal.invariant-loop-part
+invariant-loop-part g l = l.copies ≡ take l.part-index l.part-items

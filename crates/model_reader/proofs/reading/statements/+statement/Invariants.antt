@@ -1,0 +1,45 @@
+use Rattle.std.proofs.Common.{◌≤◌, length, ◌+◌, ◌*◌}
+use Rattle.aerie_text.proofs.Readers.Going.{Going}
+use Rattle.model_reader.specs.reading.Statements.{begins_stmt, inner_blocks, stmt_turn_at}
+use Rattle.model_reader.proofs.reading.statements.+statement.Given as goal
+
+abbrev pub decreases-inner_stmts : goal.decreases-inner_stmts
+decreases-inner_stmts l = 10 * l.room + 0
+
+abbrev pub decreases-opened_block : goal.decreases-opened_block
+decreases-opened_block l = 10 * l.room + 1
+
+abbrev pub decreases-block : goal.decreases-block
+decreases-block l = 10 * l.room + 2
+
+abbrev pub decreases-else_block : goal.decreases-else_block
+decreases-else_block l = 10 * l.room + 3
+
+abbrev pub decreases-else_ : goal.decreases-else_
+decreases-else_ l = 10 * l.room + 4
+
+abbrev pub decreases-choice : goal.decreases-choice
+decreases-choice l = 10 * l.room + 5
+
+abbrev pub decreases-if_ : goal.decreases-if_
+decreases-if_ l = 10 * l.room + 6
+
+abbrev pub decreases-while_ : goal.decreases-while_
+decreases-while_ l = 10 * l.room + 6
+
+abbrev pub decreases-stmt : goal.decreases-stmt
+decreases-stmt l = 10 * l.room + 7
+
+abbrev pub decreases-stmt_turn : goal.decreases-stmt_turn
+decreases-stmt_turn l = 10 * l.room + 8
+
+abbrev pub decreases-stmts : goal.decreases-stmts
+decreases-stmts l = 10 * l.room + 9
+
+abbrev pub invariant-stmts-loop-alloc : goal.invariant-stmts-loop-alloc
+invariant-stmts-loop-alloc l =
+    Going begins_stmt (stmt_turn_at l.text l.room (inner_blocks l.text l.room)) l.initial.body l.initial.reader.rest.now l.body l.reader.rest.now
+    × (length l.reader.rest.now ≤ length l.initial.reader.rest.now)
+
+abbrev pub decreases-stmts-loop-alloc : goal.decreases-stmts-loop-alloc
+decreases-stmts-loop-alloc l = length l.reader.rest.now

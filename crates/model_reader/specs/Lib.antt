@@ -1,0 +1,3 @@
+pub mod ModelAnswers
+pub mod reading
+pub mod grammar

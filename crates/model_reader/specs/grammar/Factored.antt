@@ -1,0 +1,437 @@
+-- The grammar of models in which the next token decides each choice. It reads what the grammar as it is written reads. A form
+-- with a name of its own is what one part of the reader reads.
+use Rattle.std.specs.Prelude.{ℕ, false, List, [], ◌∷◌}
+use Rattle.aerie_text.specs.declared.marks.Mark.{Mark}
+use Rattle.aerie_text.specs.declared.sorts.Sort.{Sort}
+use Rattle.aerie_text.specs.declared.sorts.Sort.TheVariants as sort
+use Rattle.aerie_text.specs.Sorts.{number_of}
+use Rattle.aerie_text.specs.grammar.Forms.{Form, token, rule, many, option, separated, Grammar}
+use Rattle.aerie_text.specs.grammar.Lookahead.{Lookahead}
+use Rattle.aerie_text.specs.grammar.Classes.{look_by_class}
+use Rattle.aerie_text.specs.grammar.Tables.{Tables, look_by_number}
+use Rattle.model_reader.specs.grammar.Notation.{◌then◌, ◌or◌}
+use Rattle.model_reader.specs.grammar.Rules.{Rule, model_rule, item_rule, param_rule, type_rule, int_rule, literal_rule, read_rule, stmt_rule, block_rule, invoke_rule, expr_rule, and_rule, compare_rule, sum_rule, product_rule, unary_rule, primary_rule}
+
+-- model = "model" NAME "{" { item } "}"
+abbrev pub model_form : Form Rule Sort
+model_form = token sort.Model then token sort.Name then token sort.OpenBrace then many (rule item_rule) then token sort.CloseBrace
+
+-- ---- names, numbers and literals
+
+-- [ "-" ]
+abbrev pub sign_form : Form Rule Sort
+sign_form = option (token sort.Minus)
+
+-- int = [ "-" ] NUMBER
+abbrev pub int_form : Form Rule Sort
+int_form = sign_form then token sort.Number
+
+-- NUMBER | DURATION
+abbrev pub amount_form : Form Rule Sort
+amount_form = token sort.Number or token sort.Time
+
+-- NAME "." NAME
+abbrev pub variant_form : Form Rule Sort
+variant_form = token sort.Name then token sort.Dot then token sort.Name
+
+-- [ "-" ] ( NUMBER | DURATION )
+abbrev pub signed_amount_form : Form Rule Sort
+signed_amount_form = sign_form then amount_form
+
+-- literal = [ "-" ] ( NUMBER | DURATION ) | "true" | "false" | NAME "." NAME
+abbrev pub literal_form : Form Rule Sort
+literal_form = signed_amount_form or token sort.True or token sort.False or variant_form
+
+-- type = "int" | "duration" | "truth" | NAME
+abbrev pub type_form : Form Rule Sort
+type_form = token sort.Int or token sort.Duration or token sort.Truth or token sort.Name
+
+-- "volume" | "rate" | "conflicted"
+abbrev pub part_form : Form Rule Sort
+part_form = token sort.Volume or token sort.Rate or token sort.Conflicted
+
+-- "." ( "volume" | "rate" | "conflicted" )
+abbrev pub dotted_part_form : Form Rule Sort
+dotted_part_form = token sort.Dot then part_form
+
+-- what follows the NAME of a read: [ "." ( "volume" | "rate" | "conflicted" ) ]
+abbrev pub read_part_form : Form Rule Sort
+read_part_form = option dotted_part_form
+
+-- read = NAME [ "." ( "volume" | "rate" | "conflicted" ) ]
+abbrev pub read_form : Form Rule Sort
+read_form = token sort.Name then read_part_form
+
+-- ---- items
+
+-- NAME { "," NAME }
+abbrev pub variant_list_form : Form Rule Sort
+variant_list_form = separated (token sort.Comma) (token sort.Name)
+
+-- "{" NAME { "," NAME } "}"
+abbrev pub variants_form : Form Rule Sort
+variants_form = token sort.OpenBrace then variant_list_form then token sort.CloseBrace
+
+-- "enum" NAME "{" NAME { "," NAME } "}"
+abbrev pub enum_form : Form Rule Sort
+enum_form = token sort.Enum then token sort.Name then variants_form
+
+-- "counter" NAME "=" int ";"
+abbrev pub counter_form : Form Rule Sort
+counter_form = token sort.Counter then token sort.Name then token sort.Assign then rule int_rule then token sort.Semicolon
+
+-- "register" NAME ":" type "=" literal ";"
+abbrev pub register_form : Form Rule Sort
+register_form = token sort.Register then token sort.Name then token sort.Colon then rule type_rule then token sort.Assign then rule literal_rule then token sort.Semicolon
+
+-- "accumulator" NAME "=" int "rate" int ";"
+abbrev pub accumulator_form : Form Rule Sort
+accumulator_form = token sort.Accumulator then token sort.Name then token sort.Assign then rule int_rule then token sort.Rate then rule int_rule then token sort.Semicolon
+
+-- "discrete" NAME "=" read ";"
+abbrev pub discrete_form : Form Rule Sort
+discrete_form = token sort.Discrete then token sort.Name then token sort.Assign then rule read_rule then token sort.Semicolon
+
+-- "linear" NAME "=" expr ";"
+abbrev pub linear_form : Form Rule Sort
+linear_form = token sort.Linear then token sort.Name then token sort.Assign then rule expr_rule then token sort.Semicolon
+
+-- "=" literal
+abbrev pub given_default_form : Form Rule Sort
+given_default_form = token sort.Assign then rule literal_rule
+
+-- [ "=" literal ]
+abbrev pub default_form : Form Rule Sort
+default_form = option given_default_form
+
+-- param = NAME ":" type [ "=" literal ]
+abbrev pub param_form : Form Rule Sort
+param_form = token sort.Name then token sort.Colon then rule type_rule then default_form
+
+-- param { "," param }
+abbrev pub parameter_list_form : Form Rule Sort
+parameter_list_form = separated (token sort.Comma) (rule param_rule)
+
+-- "(" [ param { "," param } ] ")"
+abbrev pub parameters_form : Form Rule Sort
+parameters_form = token sort.OpenParenthesis then option parameter_list_form then token sort.CloseParenthesis
+
+-- "->" type
+abbrev pub given_result_form : Form Rule Sort
+given_result_form = token sort.Arrow then rule type_rule
+
+-- [ "->" type ]
+abbrev pub result_form : Form Rule Sort
+result_form = option given_result_form
+
+-- "require" expr ";"
+abbrev pub require_form : Form Rule Sort
+require_form = token sort.Require then rule expr_rule then token sort.Semicolon
+
+-- "{" { "require" expr ";" } { stmt } "}"
+abbrev pub activity_body_form : Form Rule Sort
+activity_body_form = token sort.OpenBrace then many require_form then many (rule stmt_rule) then token sort.CloseBrace
+
+-- "activity" NAME "(" [ param { "," param } ] ")" [ "->" type ] "{" { "require" expr ";" } { stmt } "}"
+abbrev pub activity_form : Form Rule Sort
+activity_form = token sort.Activity then token sort.Name then parameters_form then result_form then activity_body_form
+
+-- "daemon" "{" { stmt } "}"
+abbrev pub daemon_form : Form Rule Sort
+daemon_form = token sort.Daemon then token sort.OpenBrace then many (rule stmt_rule) then token sort.CloseBrace
+
+-- counter | register | accumulator
+abbrev pub cell_form : Form Rule Sort
+cell_form = counter_form or register_form or accumulator_form
+
+-- discrete | linear
+abbrev pub resource_form : Form Rule Sort
+resource_form = discrete_form or linear_form
+
+-- item is one of these five
+abbrev pub item_form : Form Rule Sort
+item_form = enum_form or cell_form or resource_form or activity_form or daemon_form
+
+-- ---- statements
+
+-- "call" invoke
+abbrev pub let_call_form : Form Rule Sort
+let_call_form = token sort.Call then rule invoke_rule
+
+-- "call" invoke | expr
+abbrev pub let_value_form : Form Rule Sort
+let_value_form = let_call_form or rule expr_rule
+
+-- "let" NAME "=" ( "call" invoke | expr ) ";"
+abbrev pub let_form : Form Rule Sort
+let_form = token sort.Let then token sort.Name then token sort.Assign then let_value_form then token sort.Semicolon
+
+-- "volume" | "rate"
+abbrev pub changed_part_form : Form Rule Sort
+changed_part_form = token sort.Volume or token sort.Rate
+
+-- "." ( "volume" | "rate" ) "+="
+abbrev pub part_change_form : Form Rule Sort
+part_change_form = token sort.Dot then changed_part_form then token sort.PlusAssign
+
+-- what a statement does to the NAME that it begins with: "=" | "+=" | ":=" | "." ( "volume" | "rate" ) "+="
+abbrev pub change_sign_form : Form Rule Sort
+change_sign_form = token sort.Assign or token sort.PlusAssign or token sort.ColonAssign or part_change_form
+
+-- NAME ( "=" | "+=" | ":=" | "." ( "volume" | "rate" ) "+=" ) expr ";"
+abbrev pub change_form : Form Rule Sort
+change_form = token sort.Name then change_sign_form then rule expr_rule then token sort.Semicolon
+
+-- "delay" expr ";"
+abbrev pub delay_form : Form Rule Sort
+delay_form = token sort.Delay then rule expr_rule then token sort.Semicolon
+
+-- "wait" "until" expr ";"
+abbrev pub wait_form : Form Rule Sort
+wait_form = token sort.Wait then token sort.Until then rule expr_rule then token sort.Semicolon
+
+-- "spawn" | "call"
+abbrev pub start_word_form : Form Rule Sort
+start_word_form = token sort.Spawn or token sort.Call
+
+-- ( "spawn" | "call" ) invoke ";"
+abbrev pub start_form : Form Rule Sort
+start_form = start_word_form then rule invoke_rule then token sort.Semicolon
+
+-- "else" block
+abbrev pub given_else_form : Form Rule Sort
+given_else_form = token sort.Else then rule block_rule
+
+-- [ "else" block ]
+abbrev pub else_form : Form Rule Sort
+else_form = option given_else_form
+
+-- "if" expr block [ "else" block ]
+abbrev pub if_form : Form Rule Sort
+if_form = token sort.If then rule expr_rule then rule block_rule then else_form
+
+-- "while" expr block
+abbrev pub while_form : Form Rule Sort
+while_form = token sort.While then rule expr_rule then rule block_rule
+
+-- "return" [ expr ] ";"
+abbrev pub return_form : Form Rule Sort
+return_form = token sort.Return then option (rule expr_rule) then token sort.Semicolon
+
+-- stmt is one of these eight
+abbrev pub stmt_form : Form Rule Sort
+stmt_form = let_form or change_form or delay_form or wait_form or start_form or if_form or while_form or return_form
+
+-- block = "{" { stmt } "}"
+abbrev pub block_form : Form Rule Sort
+block_form = token sort.OpenBrace then many (rule stmt_rule) then token sort.CloseBrace
+
+-- NAME "=" expr
+abbrev pub argument_form : Form Rule Sort
+argument_form = token sort.Name then token sort.Assign then rule expr_rule
+
+-- NAME "=" expr { "," NAME "=" expr }
+abbrev pub argument_list_form : Form Rule Sort
+argument_list_form = separated (token sort.Comma) argument_form
+
+-- "(" [ NAME "=" expr { "," NAME "=" expr } ] ")"
+abbrev pub arguments_form : Form Rule Sort
+arguments_form = token sort.OpenParenthesis then option argument_list_form then token sort.CloseParenthesis
+
+-- invoke = NAME "(" [ NAME "=" expr { "," NAME "=" expr } ] ")"
+abbrev pub invoke_form : Form Rule Sort
+invoke_form = token sort.Name then arguments_form
+
+-- ---- expressions
+
+-- "||" and
+abbrev pub expr_operation_form : Form Rule Sort
+expr_operation_form = token sort.DoubleBar then rule and_rule
+
+-- expr = and { "||" and }
+abbrev pub expr_form : Form Rule Sort
+expr_form = rule and_rule then many expr_operation_form
+
+-- "&&" compare
+abbrev pub and_operation_form : Form Rule Sort
+and_operation_form = token sort.DoubleAmpersand then rule compare_rule
+
+-- and = compare { "&&" compare }
+abbrev pub and_form : Form Rule Sort
+and_form = rule compare_rule then many and_operation_form
+
+-- "==" | "!=" | "<" | "<=" | ">" | ">="
+abbrev pub compare_sign_form : Form Rule Sort
+compare_sign_form = token sort.DoubleEqual or token sort.NotEqual or token sort.Less or token sort.LessEqual or token sort.Greater or token sort.GreaterEqual
+
+-- ( "==" | "!=" | "<" | "<=" | ">" | ">=" ) sum
+abbrev pub compare_operation_form : Form Rule Sort
+compare_operation_form = compare_sign_form then rule sum_rule
+
+-- compare = sum [ ( "==" | "!=" | "<" | "<=" | ">" | ">=" ) sum ]
+abbrev pub compare_form : Form Rule Sort
+compare_form = rule sum_rule then option compare_operation_form
+
+-- "+" | "-"
+abbrev pub sum_sign_form : Form Rule Sort
+sum_sign_form = token sort.Plus or token sort.Minus
+
+-- ( "+" | "-" ) product
+abbrev pub sum_operation_form : Form Rule Sort
+sum_operation_form = sum_sign_form then rule product_rule
+
+-- sum = product { ( "+" | "-" ) product }
+abbrev pub sum_form : Form Rule Sort
+sum_form = rule product_rule then many sum_operation_form
+
+-- "*" | "/" | "%"
+abbrev pub product_sign_form : Form Rule Sort
+product_sign_form = token sort.Star or token sort.Slash or token sort.Percent
+
+-- ( "*" | "/" | "%" ) unary
+abbrev pub product_operation_form : Form Rule Sort
+product_operation_form = product_sign_form then rule unary_rule
+
+-- product = unary { ( "*" | "/" | "%" ) unary }
+abbrev pub product_form : Form Rule Sort
+product_form = rule unary_rule then many product_operation_form
+
+-- "-" | "!"
+abbrev pub unary_sign_form : Form Rule Sort
+unary_sign_form = token sort.Minus or token sort.Exclamation
+
+-- ( "-" | "!" ) unary
+abbrev pub signed_form : Form Rule Sort
+signed_form = unary_sign_form then rule unary_rule
+
+-- unary = ( "-" | "!" ) unary | primary
+abbrev pub unary_form : Form Rule Sort
+unary_form = signed_form or rule primary_rule
+
+-- "." ( NAME | "volume" | "rate" | "conflicted" )
+abbrev pub dotted_member_form : Form Rule Sort
+dotted_member_form = token sort.Dot then (token sort.Name or part_form)
+
+-- what follows the NAME of a primary: [ "." ( NAME | "volume" | "rate" | "conflicted" ) ]
+abbrev pub member_form : Form Rule Sort
+member_form = option dotted_member_form
+
+-- NAME [ "." ( NAME | "volume" | "rate" | "conflicted" ) ]
+abbrev pub named_form : Form Rule Sort
+named_form = token sort.Name then member_form
+
+-- "(" expr ")"
+abbrev pub parenthesis_form : Form Rule Sort
+parenthesis_form = token sort.OpenParenthesis then rule expr_rule then token sort.CloseParenthesis
+
+-- primary = NUMBER | DURATION | "true" | "false" | NAME [ "." ( NAME | "volume" | "rate" | "conflicted" ) ] | "(" expr ")"
+abbrev pub primary_form : Form Rule Sort
+primary_form = amount_form or token sort.True or token sort.False or named_form or parenthesis_form
+
+-- ---- the grammar
+
+abbrev pub form_of : Rule → Form Rule Sort
+form_of model_rule = model_form
+form_of item_rule = item_form
+form_of param_rule = param_form
+form_of type_rule = type_form
+form_of int_rule = int_form
+form_of literal_rule = literal_form
+form_of read_rule = read_form
+form_of stmt_rule = stmt_form
+form_of block_rule = block_form
+form_of invoke_rule = invoke_form
+form_of expr_rule = expr_form
+form_of and_rule = and_form
+form_of compare_rule = compare_form
+form_of sum_rule = sum_form
+form_of product_rule = product_form
+form_of unary_rule = unary_form
+form_of primary_rule = primary_form
+
+-- ---- with which sorts of tokens a rule begins
+
+abbrev pub item_begins : List Sort
+item_begins = sort.Enum ∷ sort.Counter ∷ sort.Register ∷ sort.Accumulator ∷ sort.Discrete ∷ sort.Linear ∷ sort.Activity ∷ sort.Daemon ∷ []
+
+abbrev pub stmt_begins : List Sort
+stmt_begins = sort.Let ∷ sort.Name ∷ sort.Delay ∷ sort.Wait ∷ sort.Spawn ∷ sort.Call ∷ sort.If ∷ sort.While ∷ sort.Return ∷ []
+
+abbrev pub primary_begins : List Sort
+primary_begins = sort.Number ∷ sort.Time ∷ sort.True ∷ sort.False ∷ sort.Name ∷ sort.OpenParenthesis ∷ []
+
+abbrev pub expr_begins : List Sort
+expr_begins = sort.Minus ∷ sort.Exclamation ∷ primary_begins
+
+abbrev pub rule_begins : Rule → List Sort
+rule_begins model_rule = sort.Model ∷ []
+rule_begins item_rule = item_begins
+rule_begins param_rule = sort.Name ∷ []
+rule_begins type_rule = sort.Int ∷ sort.Duration ∷ sort.Truth ∷ sort.Name ∷ []
+rule_begins int_rule = sort.Minus ∷ sort.Number ∷ []
+rule_begins literal_rule = sort.Minus ∷ sort.Number ∷ sort.Time ∷ sort.True ∷ sort.False ∷ sort.Name ∷ []
+rule_begins read_rule = sort.Name ∷ []
+rule_begins stmt_rule = stmt_begins
+rule_begins block_rule = sort.OpenBrace ∷ []
+rule_begins invoke_rule = sort.Name ∷ []
+rule_begins expr_rule = expr_begins
+rule_begins and_rule = expr_begins
+rule_begins compare_rule = expr_begins
+rule_begins sum_rule = expr_begins
+rule_begins product_rule = expr_begins
+rule_begins unary_rule = expr_begins
+rule_begins primary_rule = primary_begins
+
+-- ---- which sorts of tokens may follow a rule inside a model
+
+abbrev pub expr_follows : List Sort
+expr_follows = sort.Semicolon ∷ sort.Comma ∷ sort.CloseParenthesis ∷ sort.OpenBrace ∷ []
+
+abbrev pub and_follows : List Sort
+and_follows = sort.DoubleBar ∷ expr_follows
+
+abbrev pub compare_follows : List Sort
+compare_follows = sort.DoubleAmpersand ∷ and_follows
+
+abbrev pub sum_follows : List Sort
+sum_follows = sort.DoubleEqual ∷ sort.NotEqual ∷ sort.Less ∷ sort.LessEqual ∷ sort.Greater ∷ sort.GreaterEqual ∷ compare_follows
+
+abbrev pub product_follows : List Sort
+product_follows = sort.Plus ∷ sort.Minus ∷ sum_follows
+
+abbrev pub unary_follows : List Sort
+unary_follows = sort.Star ∷ sort.Slash ∷ sort.Percent ∷ product_follows
+
+abbrev pub rule_follows : Rule → List Sort
+rule_follows model_rule = []
+rule_follows item_rule = sort.CloseBrace ∷ item_begins
+rule_follows param_rule = sort.Comma ∷ sort.CloseParenthesis ∷ []
+rule_follows type_rule = sort.Assign ∷ sort.Comma ∷ sort.CloseParenthesis ∷ sort.OpenBrace ∷ []
+rule_follows int_rule = sort.Rate ∷ sort.Semicolon ∷ []
+rule_follows literal_rule = sort.Comma ∷ sort.CloseParenthesis ∷ sort.Semicolon ∷ []
+rule_follows read_rule = sort.Semicolon ∷ []
+rule_follows stmt_rule = sort.CloseBrace ∷ stmt_begins
+rule_follows block_rule = sort.Else ∷ sort.CloseBrace ∷ stmt_begins
+rule_follows invoke_rule = sort.Semicolon ∷ []
+rule_follows expr_rule = expr_follows
+rule_follows and_rule = and_follows
+rule_follows compare_rule = compare_follows
+rule_follows sum_rule = sum_follows
+rule_follows product_rule = product_follows
+rule_follows unary_rule = unary_follows
+rule_follows primary_rule = unary_follows
+
+-- ---- the reader that looks one token ahead
+
+abbrev pub tables : Tables Rule Sort
+tables = record { form = form_of; empty = λ r. false; begins = rule_begins; follows = rule_follows; openings = 7 }
+
+-- the number of a mark's sort
+abbrev pub number_of_mark : Mark → ℕ
+number_of_mark mark = number_of mark.sort
+
+abbrev pub look : Lookahead Rule Sort Mark
+look = look_by_class number_of_mark (look_by_number number_of tables)
+
+abbrev pub factored : Grammar Rule Sort Mark
+factored = look.grammar

@@ -1,0 +1,14 @@
+-- What a reader that looks one mark ahead says of the marks of a model.
+use Rattle.std.specs.Prelude.{List, [], ◌∷◌}
+use Rattle.aerie_text.specs.declared.marks.Mark.{Mark}
+use Rattle.aerie_text.specs.grammar.Forms.{rule}
+use Rattle.aerie_text.specs.grammar.Lookahead.{answer}
+use Rattle.aerie_text.specs.grammar.Verdicts.{Tells}
+use Rattle.model_reader.specs.grammar.Factored.{look}
+use Rattle.model_reader.specs.grammar.Rules.{model_rule}
+use Rattle.model_reader.specs.grammar.Written.{written}
+
+-- Its answer is right by the grammar as it is written: the marks are a model, or it stops before the first mark that is
+-- refused, or at the end where that is refused.
+abbrev pub AnswersAreRight : Type 0
+AnswersAreRight = (marks : List Mark) → Tells written model_rule marks (answer look (rule model_rule ∷ []) marks)

@@ -1,0 +1,175 @@
+ghost use Rattle.std.specs.Prelude.{◌≡◌, IfOk};
+
+use crate::raw::copies::copy_option;
+use crate::raw::expressions::RawExpr;
+use crate::raw::invokes::RawInvoke;
+use crate::raw::names::RawName;
+use aerie_base::{List, OutOfMemory, Place};
+use std::alloc::Global;
+
+/// A statement where it stands.
+#[cycle(statement)]
+#[derive(Debug, Drop)]
+pub struct RawStmt {
+    /// The place of its first token.
+    pub at: Place,
+    /// What it is.
+    pub what: RawStmtKind,
+}
+
+/// What a statement is.
+#[cycle(statement)]
+#[derive(Debug, Drop)]
+pub enum RawStmtKind {
+    /// `let`: the first value of a local.
+    Let {
+        /// The name of the local.
+        name: RawName,
+        /// Its value.
+        value: RawExpr,
+    },
+    /// `let` with `call`: a local that takes the result of a child.
+    LetCall {
+        /// The name of the local.
+        name: RawName,
+        /// The child for whose end the task waits.
+        call: RawInvoke,
+    },
+    /// `=`: another value of a local.
+    Assign {
+        /// The name of the local.
+        name: RawName,
+        /// Its new value.
+        value: RawExpr,
+    },
+    /// `+=`: adds to a counter.
+    Add {
+        /// The name of the counter.
+        name: RawName,
+        /// What is added.
+        value: RawExpr,
+    },
+    /// `:=`: sets a register.
+    Put {
+        /// The name of the register.
+        name: RawName,
+        /// What it is set to.
+        value: RawExpr,
+    },
+    /// `.volume +=`: adds to the volume of an accumulator.
+    AddVolume {
+        /// The name of the accumulator.
+        name: RawName,
+        /// What is added, in millionths of a unit.
+        value: RawExpr,
+    },
+    /// `.rate +=`: adds to the rate of an accumulator.
+    AddRate {
+        /// The name of the accumulator.
+        name: RawName,
+        /// What is added, in units a second.
+        value: RawExpr,
+    },
+    /// `delay`, by so many microseconds.
+    Delay(RawExpr),
+    /// `wait until`
+    WaitUntil(RawExpr),
+    /// `spawn`: a child that the task does not wait for.
+    Spawn(RawInvoke),
+    /// `call`: a child for whose end the task waits.
+    Call(RawInvoke),
+    /// `if`, with an empty second block where there is no `else`.
+    If {
+        /// A truth.
+        test: RawExpr,
+        /// The block where it is true.
+        yes: List<RawStmt>,
+        /// The block where it is false.
+        no: List<RawStmt>,
+    },
+    /// `while`
+    While {
+        /// A truth, tested before each turn.
+        test: RawExpr,
+        /// The block of each turn.
+        body: List<RawStmt>,
+    },
+    /// `return`, with or without a value.
+    Return(Option<RawExpr>),
+}
+
+impl RawStmt {
+    /// An equal statement at the same place.
+    #[cycle(copy)]
+    pub fn copy(&self, alloc: Global) -> Result<RawStmt, OutOfMemory>
+        ensures { IfOk result (λ copy. copy ≡ self.now) }
+    {
+        let what = self.what.copy(alloc)?;
+        Ok(RawStmt { at: self.at, what })
+    }
+}
+
+impl RawStmtKind {
+    /// An equal statement.
+    #[cycle(copy)]
+    pub fn copy(&self, alloc: Global) -> Result<RawStmtKind, OutOfMemory>
+        ensures { IfOk result (λ copy. copy ≡ self.now) }
+    {
+        match self {
+            RawStmtKind::Let { name, value } => Ok(RawStmtKind::Let {
+                name: name.copy(alloc)?,
+                value: value.copy(alloc)?,
+            }),
+            RawStmtKind::LetCall { name, call } => Ok(RawStmtKind::LetCall {
+                name: name.copy(alloc)?,
+                call: call.copy(alloc)?,
+            }),
+            RawStmtKind::Assign { name, value } => Ok(RawStmtKind::Assign {
+                name: name.copy(alloc)?,
+                value: value.copy(alloc)?,
+            }),
+            RawStmtKind::Add { name, value } => Ok(RawStmtKind::Add {
+                name: name.copy(alloc)?,
+                value: value.copy(alloc)?,
+            }),
+            RawStmtKind::Put { name, value } => Ok(RawStmtKind::Put {
+                name: name.copy(alloc)?,
+                value: value.copy(alloc)?,
+            }),
+            RawStmtKind::AddVolume { name, value } => Ok(RawStmtKind::AddVolume {
+                name: name.copy(alloc)?,
+                value: value.copy(alloc)?,
+            }),
+            RawStmtKind::AddRate { name, value } => Ok(RawStmtKind::AddRate {
+                name: name.copy(alloc)?,
+                value: value.copy(alloc)?,
+            }),
+            RawStmtKind::Delay(length) => Ok(RawStmtKind::Delay(length.copy(alloc)?)),
+            RawStmtKind::WaitUntil(cond) => Ok(RawStmtKind::WaitUntil(cond.copy(alloc)?)),
+            RawStmtKind::Spawn(child) => Ok(RawStmtKind::Spawn(child.copy(alloc)?)),
+            RawStmtKind::Call(child) => Ok(RawStmtKind::Call(child.copy(alloc)?)),
+            RawStmtKind::If { test, yes, no } => Ok(RawStmtKind::If {
+                test: test.copy(alloc)?,
+                yes: copy_block(alloc, yes)?,
+                no: copy_block(alloc, no)?,
+            }),
+            RawStmtKind::While { test, body } => Ok(RawStmtKind::While {
+                test: test.copy(alloc)?,
+                body: copy_block(alloc, body)?,
+            }),
+            RawStmtKind::Return(value) => Ok(RawStmtKind::Return(copy_option(alloc, value)?)),
+        }
+    }
+}
+
+/// An equal block.
+#[cycle(copy)]
+pub(crate) fn copy_block(alloc: Global, block: &List<RawStmt>) -> Result<List<RawStmt>, OutOfMemory>
+    ensures { IfOk result (λ copies. copies ≡ block.now) }
+{
+    let mut copies = List::new(alloc);
+    for stmt in block.as_slice() {
+        copies.push(stmt.copy(alloc)?)?;
+    }
+    Ok(copies)
+}

@@ -1,0 +1,20 @@
+//! Reading: what the marks of a model are, part by part.
+
+mod body;
+mod change;
+mod declarations;
+mod expressions;
+mod invokes;
+mod items;
+mod literals;
+mod models;
+mod names;
+mod statements;
+mod tall;
+mod types;
+
+pub use body::Body;
+pub use change::Change;
+pub use declarations::Declarations;
+pub use models::model;
+pub use tall::Tall;

@@ -1,0 +1,19 @@
+use crate::raw::RawItem;
+use aerie_base::List;
+
+/// The items of a model as far as they are read, and how many there are of each sort that is limited.
+#[derive(Debug, Drop)]
+pub struct Declarations {
+    /// The items in the text's order.
+    pub items: List<RawItem>,
+    /// Enumerations.
+    pub enums: usize,
+    /// Counters, registers and accumulators.
+    pub cells: usize,
+    /// Discrete and linear resources.
+    pub resources: usize,
+    /// Activity types.
+    pub types: usize,
+    /// Daemons.
+    pub daemons: usize,
+}

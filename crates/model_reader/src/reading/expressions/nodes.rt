@@ -1,0 +1,76 @@
+//! Expressions of others, with their heights.
+
+ghost use Rattle.std.specs.Prelude.{◌≡◌, ◌<◌, IfOk};
+ghost use Rattle.model_reader.specs.reading.Expressions.{in_parentheses, behind_sign, higher, joined};
+
+use crate::raw::{RawExpr, RawExprKind};
+use crate::reading::tall::Tall;
+use aerie_base::{Boxed, Operator, OutOfMemory, Place};
+use aerie_text::{Mark, Sort};
+use std::alloc::Global;
+
+/// The expression in parentheses, of which the first has this place.
+pub fn in_parentheses(at: Place, inner: Tall) -> Tall
+    requires { inner.height < 64 }
+    ensures { result ≡ in_parentheses at inner }
+{
+    Tall {
+        expr: RawExpr {
+            at,
+            what: inner.expr.what,
+        },
+        height: inner.height + 1,
+    }
+}
+
+/// The expression behind a sign.
+pub fn behind_sign(alloc: Global, sign: Mark, inner: Tall) -> Result<Tall, OutOfMemory>
+    requires { inner.height < 64 }
+    ensures { IfOk result (λ tall. tall ≡ behind_sign sign inner) }
+{
+    let height = inner.height + 1;
+    let operand = Boxed::new(alloc, inner.expr)?;
+    let what = if Sort::Minus.is(sign.sort) {
+        RawExprKind::Negate(operand)
+    } else {
+        RawExprKind::Not(operand)
+    };
+    Ok(Tall {
+        expr: RawExpr { at: sign.at, what },
+        height,
+    })
+}
+
+fn higher(a: usize, b: usize) -> usize
+    ensures { result ≡ higher a b }
+{
+    if a <= b { b } else { a }
+}
+
+/// The operator between two expressions.
+pub fn joined(
+    alloc: Global,
+    operator: Operator,
+    left: Tall,
+    right: Tall,
+) -> Result<Tall, OutOfMemory>
+    requires left { left.height < 64 }
+    requires right { right.height < 64 }
+    ensures { IfOk result (λ tall. tall ≡ joined operator left right) }
+{
+    let at = left.expr.at;
+    let height = higher(left.height, right.height) + 1;
+    let left = Boxed::new(alloc, left.expr)?;
+    let right = Boxed::new(alloc, right.expr)?;
+    Ok(Tall {
+        expr: RawExpr {
+            at,
+            what: RawExprKind::Binary {
+                operator,
+                left,
+                right,
+            },
+        },
+        height,
+    })
+}

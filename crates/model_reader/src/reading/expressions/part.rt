@@ -1,0 +1,16 @@
+/// A part of an expression, from the loosest to the tightest.
+#[derive(Clone, Copy, Debug)]
+pub enum Part {
+    /// A whole expression.
+    Expr,
+    /// An operand of `||`.
+    Conjunction,
+    /// An operand of `&&`.
+    Comparison,
+    /// A side of a comparison.
+    Sum,
+    /// A term of a sum.
+    Product,
+    /// A factor of a product.
+    Unary,
+}
