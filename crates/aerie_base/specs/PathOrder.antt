@@ -12,7 +12,7 @@ use Rattle.std.specs.BTreeSet.{BTreeSet, contains, IsKeyRangeOf}
 use Rattle.std.proofs.lemmas.Bool.{true≢false}
 use Rattle.std.proofs.lemmas.Bool.Decides.{Decides-eqb}
 use Rattle.std.proofs.lemmas.Cmp.{nat_cmp_total}
-use Rattle.aerie_base.specs.Paths.{directive_path, daemon_path, child_path, is_under, path_cmp}
+use Rattle.aerie_base.specs.Paths.{directive_path, daemon_path, child_path, is_prefix, path_cmp}
 
 -- the first comes at the second or before it
 abbrev pub IsUpTo : List ℕ → List ℕ → Type 0
@@ -66,34 +66,34 @@ earlier_child_first (first ∷ path) below others i j before =
 
 -- ---- what is under a path
 
-pub under_itself : (path : List ℕ) → is_under path path ≡ true
+pub under_itself : (path : List ℕ) → is_prefix path path ≡ true
 under_itself [] = refl
-under_itself (first ∷ path) = ap (λ b. b && is_under path path) (same_itself first) ∙ under_itself path
+under_itself (first ∷ path) = ap (λ b. b && is_prefix path path) (same_itself first) ∙ under_itself path
 
 -- a path that goes on from another is under it
-pub what_goes_on_is_under : (path rest : List ℕ) → is_under path (path ++ rest) ≡ true
+pub what_goes_on_is_under : (path rest : List ℕ) → is_prefix path (path ++ rest) ≡ true
 what_goes_on_is_under [] rest = refl
 what_goes_on_is_under (first ∷ path) rest =
-    ap (λ b. b && is_under path (path ++ rest)) (same_itself first) ∙ what_goes_on_is_under path rest
+    ap (λ b. b && is_prefix path (path ++ rest)) (same_itself first) ∙ what_goes_on_is_under path rest
 
-pub child_is_under : (path : List ℕ) (number : ℕ) → is_under path (child_path path number) ≡ true
+pub child_is_under : (path : List ℕ) (number : ℕ) → is_prefix path (child_path path number) ≡ true
 child_is_under path number = what_goes_on_is_under path (number ∷ [])
 
 -- what is under a path stands at it or behind it
-pub under_is_from : (p q : List ℕ) → is_under p q ≡ true → IsUpTo p q
+pub under_is_from : (p q : List ℕ) → is_prefix p q ≡ true → IsUpTo p q
 under_is_from [] [] under = refl
 under_is_from [] (b ∷ q) under = refl
 under_is_from (a ∷ p) [] under = sym under
 under_is_from (a ∷ p) (b ∷ q) under = go (nat_eq a b) refl under (under_is_from p q)
   where
-    go : (e : Bool) → nat_eq a b ≡ e → (e && is_under p q) ≡ true → (is_under p q ≡ true → IsUpTo p q) →
+    go : (e : Bool) → nat_eq a b ≡ e → (e && is_prefix p q) ≡ true → (is_prefix p q ≡ true → IsUpTo p q) →
         is_gt (ordering_then (nat_cmp a b) (path_cmp p q)) ≡ false
     go true e u behind =
         ap (λ o. is_gt (ordering_then o (path_cmp p q))) (sym (nat_cmp_is a b Equal (same a b e))) ∙ behind u
     go false e u behind = absurd (true≢false (sym u))
 
 -- and nothing else stands between the two
-pub between_is_under : (p q r : List ℕ) → IsUpTo p q → IsUpTo q r → is_under p r ≡ true → is_under p q ≡ true
+pub between_is_under : (p q r : List ℕ) → IsUpTo p q → IsUpTo q r → is_prefix p r ≡ true → is_prefix p q ≡ true
 between_is_under [] q r from upto under = refl
 between_is_under (a ∷ p) [] r from upto under = absurd (true≢false from)
 between_is_under (a ∷ p) (b ∷ q) [] from upto under = absurd (true≢false (sym under))
@@ -105,25 +105,25 @@ between_is_under (a ∷ p) (b ∷ q) (c ∷ r) from upto under =
 
     go : (o : Ordering) → nat_cmp a b ≡ o → (e : Bool) → nat_eq a c ≡ e →
         is_gt (ordering_then o (path_cmp p q)) ≡ false → is_gt (ordering_then (nat_cmp b c) (path_cmp q r)) ≡ false →
-        (e && is_under p r) ≡ true → (IsUpTo p q → IsUpTo q r → is_under p r ≡ true → is_under p q ≡ true) →
-        (nat_eq a b && is_under p q) ≡ true
+        (e && is_prefix p r) ≡ true → (IsUpTo p q → IsUpTo q r → is_prefix p r ≡ true → is_prefix p q ≡ true) →
+        (nat_eq a b && is_prefix p q) ≡ true
     go o x false e f u h behind = absurd (true≢false (sym h))
     go Greater x true e f u h behind = absurd (true≢false f)
     go Less x true e f u h behind =
         absurd (true≢false (sym (ap (λ o. is_gt (ordering_then o (path_cmp q r))) (turned Less x e)) ∙ u))
     go Equal x true e f u h behind =
-        ap (λ s. s && is_under p q) (sym (unsigned_tied a b) ∙ ap is_eq x)
+        ap (λ s. s && is_prefix p q) (sym (unsigned_tied a b) ∙ ap is_eq x)
         ∙ behind f (sym (ap (λ o. is_gt (ordering_then o (path_cmp q r))) (turned Equal x e)) ∙ u) h
 
 -- ---- whether one of some paths is under another, by the first of them from it on
 
 -- one of the paths is under this one
 abbrev pub AnyUnder : List ℕ → (List ℕ → Type 0) → Type 0
-AnyUnder p Has = (q : List ℕ) × Has q × IsTrue (is_under p q)
+AnyUnder p Has = (q : List ℕ) × Has q × IsTrue (is_prefix p q)
 
 -- the first of them from p on is under p exactly where one of them is
 pub first_from_tells : (Has : List ℕ → Type 0) (p first : List ℕ) → Has first → IsUpTo p first →
-    ((q : List ℕ) → IsUpTo p q → Has q → IsUpTo first q) → IsTrue (is_under p first) ↔ AnyUnder p Has
+    ((q : List ℕ) → IsUpTo p q → Has q → IsUpTo first q) → IsTrue (is_prefix p first) ↔ AnyUnder p Has
 first_from_tells Has p first has from least = (
   λ under. (first, has, under),
   λ any. between_is_under p first any.0 from (least any.0 (under_is_from p any.0 any.2) any.1) any.2,
@@ -136,7 +136,7 @@ none_from_tells Has p none any = none any.0 (under_is_from p any.0 any.2) any.1
 -- the same of the range of a set from p on
 pub first_in_range_tells : (paths : BTreeSet (List ℕ)) (p first : List ℕ) (rest : List (List ℕ)) →
     IsKeyRangeOf path_cmp (Included p) Unbounded paths (first ∷ rest) →
-    IsTrue (is_under p first) ↔ AnyUnder p (λ q. IsTrue (contains path_cmp paths q))
+    IsTrue (is_prefix p first) ↔ AnyUnder p (λ q. IsTrue (contains path_cmp paths q))
 first_in_range_tells paths p first rest range =
     first_from_tells (λ q. IsTrue (contains path_cmp paths q)) p first range.1.1 range.1.0.0 (λ q from has. range.2 q (from, tt) has)
 

@@ -33,9 +33,9 @@ abbrev pub daemon_root : ℕ → List ℕ
 daemon_root id = daemon_path id []
 
 -- whether it comes from a daemon
-abbrev pub is_daemon : List ℕ → Bool
-is_daemon [] = false
-is_daemon (kind ∷ rest) = nat_eq kind 1
+abbrev pub comes_from_daemon : List ℕ → Bool
+comes_from_daemon [] = false
+comes_from_daemon (kind ∷ rest) = nat_eq kind 1
 
 -- the id of the directive or daemon
 abbrev pub id_of : List ℕ → ℕ
@@ -76,10 +76,10 @@ abbrev pub child_of : List ℕ → ℕ → Option (List ℕ)
 child_of path number = if may_have_children path then Some (child_path path number) else None
 
 -- whether the second path is the first or begins with it, so that its task is that of the first or was made below it
-abbrev pub is_under : List ℕ → List ℕ → Bool
-is_under [] path = true
-is_under (number ∷ above) [] = false
-is_under (number ∷ above) (other ∷ path) = nat_eq number other && is_under above path
+abbrev pub is_prefix : List ℕ → List ℕ → Bool
+is_prefix [] path = true
+is_prefix (number ∷ above) [] = false
+is_prefix (number ∷ above) (other ∷ path) = nat_eq number other && is_prefix above path
 
 -- ---- the order
 
@@ -126,14 +126,14 @@ the_earlier_child_first = refl
 pub the_same_path : path_cmp (directive_path 7 (0 ∷ 2 ∷ [])) (directive_path 7 (0 ∷ 2 ∷ [])) ≡ Equal
 the_same_path = refl
 
-pub under_itself : is_under (directive_path 7 (0 ∷ [])) (directive_path 7 (0 ∷ [])) ≡ true
+pub under_itself : is_prefix (directive_path 7 (0 ∷ [])) (directive_path 7 (0 ∷ [])) ≡ true
 under_itself = refl
 
-pub under_its_directive : is_under (root 7) (directive_path 7 (0 ∷ 2 ∷ [])) ≡ true
+pub under_its_directive : is_prefix (root 7) (directive_path 7 (0 ∷ 2 ∷ [])) ≡ true
 under_its_directive = refl
 
-pub beside_it : is_under (directive_path 7 (0 ∷ [])) (directive_path 7 (1 ∷ [])) ≡ false
+pub beside_it : is_prefix (directive_path 7 (0 ∷ [])) (directive_path 7 (1 ∷ [])) ≡ false
 beside_it = refl
 
-pub no_daemon_is_under_a_directive : is_under (root 0) (daemon_root 0) ≡ false
+pub no_daemon_is_under_a_directive : is_prefix (root 0) (daemon_root 0) ≡ false
 no_daemon_is_under_a_directive = refl

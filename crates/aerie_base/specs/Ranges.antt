@@ -1,4 +1,4 @@
--- The ranges of a model's numbers and of times.
+-- The ranges of a model's numbers, of rates, of times and of counted steps.
 use Rattle.std.specs.Prelude.{ℕ, ◌≤◌, ℤ, pos, negsuc, Bool, nat_le, Option, Some, None, if◌then◌else◌}
 use Rattle.std.specs.Int.RustNames.{unsigned_abs}
 
@@ -10,6 +10,16 @@ number_limit = 1_000_000_000_000_000_000
 abbrev pub time_limit : ℕ
 time_limit = 1_000_000_000_000_000
 
+-- a rate lies from minus this to this, 10^12 millionths a microsecond, which are units a second
+abbrev pub rate_limit : ℕ
+rate_limit = 1_000_000_000_000
+
+-- the most steps that a run or a part of it may take, 10^8
+abbrev pub step_limit : ℕ
+step_limit = 100_000_000
+
+-- ---- numbers
+
 -- whether this is a number of a model
 abbrev pub is_number : ℤ → Bool
 is_number value = nat_le (unsigned_abs value) number_limit
@@ -20,6 +30,17 @@ IsNumber value = unsigned_abs value ≤ number_limit
 -- the number with this value, where there is one
 abbrev pub number_of : ℤ → Option ℤ
 number_of value = if is_number value then Some value else None
+
+-- ---- rates
+
+-- whether this is the rate of an accumulator
+abbrev pub is_rate : ℤ → Bool
+is_rate value = nat_le (unsigned_abs value) rate_limit
+
+abbrev pub IsRate : ℤ → Type 0
+IsRate value = unsigned_abs value ≤ rate_limit
+
+-- ---- times
 
 -- whether so many microseconds are a time
 abbrev pub is_time : ℕ → Bool

@@ -1,3 +1,5 @@
+-- A file of lemmas: what it proves need not be read to trust a clause.
+--
 -- A time is kept as a signed number and seen as a natural one. Nothing is lost by that.
 use Rattle.std.specs.Prelude.{◌≡◌, ℤ, pos, negsuc, nat_abs, ◌≤ℤ◌, refl}
 use Rattle.std.proofs.Common.{arith, ap}

@@ -1,9 +1,13 @@
 pub mod Names
+pub mod NameLaws
 pub mod Limits
 pub mod Values
 pub mod Cells
 pub mod Expressions
 pub mod Conditions
+pub mod Signatures
+pub mod Scopes
+pub mod Depth
 pub mod Bodies
 pub mod BodyForms
 pub mod Activities

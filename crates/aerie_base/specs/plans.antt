@@ -1,2 +1,3 @@
 pub mod OfModel
+pub mod RisingIds
 pub mod Cases

@@ -28,13 +28,13 @@ pub struct RawArgument {
 
 impl RawValue {
     /// An equal value.
-    pub fn copy(&self, _alloc: Global) -> Result<RawValue, OutOfMemory>
+    pub fn copy(&self, alloc: Global) -> Result<RawValue, OutOfMemory>
         ensures { IfOk result (λ copy. copy ≡ self.now) }
     {
         match self {
             RawValue::Int(number) => Ok(RawValue::Int(*number)),
             RawValue::Truth(truth) => Ok(RawValue::Truth(*truth)),
-            RawValue::Word(word) => Ok(RawValue::Word(word.copy()?)),
+            RawValue::Word(word) => Ok(RawValue::Word(word.copy(alloc)?)),
         }
     }
 
@@ -57,7 +57,7 @@ impl RawArgument {
         ensures { IfOk result (λ copy. copy ≡ self.now) }
     {
         Ok(RawArgument {
-            name: self.name.copy()?,
+            name: self.name.copy(alloc)?,
             value: self.value.copy(alloc)?,
         })
     }

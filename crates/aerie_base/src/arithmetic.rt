@@ -9,60 +9,28 @@ ghost use Rattle.aerie_base.specs.expressions.Arithmetic.{combined, compares, de
 use crate::expressions::{Comparison, Operator};
 use crate::faults::Fault;
 use crate::numbers::Number;
-use crate::values::Value;
+use crate::ranges::NUMBER_LIMIT;
+use crate::values::{Value, number_in, same_value, truth_in};
 
-/// The greatest number, and the least without its sign.
-const GREATEST: i128 = 1_000_000_000_000_000_000;
-
-/// The whole number that a value is, from -10^18 to 10^18.
-fn number_in(value: &Value) -> i128
+/// The whole number that a value is, in a type in which operators do not overflow.
+fn wide(value: &Value) -> i128
     ensures value { result ≡ number_in value.now }
     ensures range { IsNumber result }
 {
-    match value {
-        Value::Int(number) => i128::from(number.get()),
-        Value::Truth(_) | Value::Variant { .. } => 0,
-    }
-}
-
-/// The truth that a value is.
-fn truth_in(value: &Value) -> bool
-    ensures { result ≡ truth_in value.now }
-{
-    match value {
-        Value::Truth(truth) => *truth,
-        Value::Int(_) | Value::Variant { .. } => false,
-    }
+    i128::from(number_in(value))
 }
 
 /// A whole number as a value.
 fn ranged(number: i128) -> Result<Value, Fault>
     ensures { result ≡ ranged number }
 {
-    if number < -GREATEST || GREATEST < number {
+    let limit = i128::from(NUMBER_LIMIT);
+    if number < -limit || limit < number {
         return Err(Fault::Range);
     }
     match Number::new(number as i64) {
         Some(number) => Ok(Value::Int(number)),
         None => Err(Fault::Range),
-    }
-}
-
-/// Whether two values are equal.
-fn same_value(left: &Value, right: &Value) -> bool
-    ensures { result ≡ same_value left.now right.now }
-{
-    match (left, right) {
-        (Value::Int(left), Value::Int(right)) => left.get() == right.get(),
-        (Value::Truth(left), Value::Truth(right)) => *left == *right,
-        (
-            Value::Variant { kind, number },
-            Value::Variant {
-                kind: other_kind,
-                number: other_number,
-            },
-        ) => *kind == *other_kind && *number == *other_number,
-        _ => false,
     }
 }
 
@@ -73,10 +41,9 @@ fn compares(how: Comparison, left: &Value, right: &Value) -> bool
     match how {
         Comparison::Equal => same_value(left, right),
         Comparison::Unequal => !same_value(left, right),
-        Comparison::Less => number_in(left) < number_in(right),
-        Comparison::AtMost => number_in(left) <= number_in(right),
-        Comparison::More => number_in(left) > number_in(right),
-        Comparison::AtLeast => number_in(left) >= number_in(right),
+        Comparison::Less | Comparison::AtMost | Comparison::More | Comparison::AtLeast => {
+            how.holds(wide(left), wide(right))
+        }
     }
 }
 
@@ -112,11 +79,11 @@ pub(crate) fn combined(operator: Operator, left: &Value, right: &Value) -> Resul
         Operator::Or => Ok(Value::Truth(truth_in(left) || truth_in(right))),
         Operator::And => Ok(Value::Truth(truth_in(left) && truth_in(right))),
         Operator::Compare(how) => Ok(Value::Truth(compares(how, left, right))),
-        Operator::Plus => ranged(number_in(left) + number_in(right)),
-        Operator::Minus => ranged(number_in(left) - number_in(right)),
-        Operator::Times => ranged(number_in(left) * number_in(right)),
-        Operator::Divide => quotient(number_in(left), number_in(right)),
-        Operator::Remainder => remainder(number_in(left), number_in(right)),
+        Operator::Plus => ranged(wide(left) + wide(right)),
+        Operator::Minus => ranged(wide(left) - wide(right)),
+        Operator::Times => ranged(wide(left) * wide(right)),
+        Operator::Divide => quotient(wide(left), wide(right)),
+        Operator::Remainder => remainder(wide(left), wide(right)),
     }
 }
 
@@ -135,7 +102,7 @@ pub(crate) fn decided(operator: Operator, left: &Value) -> Option<Value>
 pub(crate) fn negated(value: &Value) -> Result<Value, Fault>
     ensures { result ≡ negated value.now }
 {
-    ranged(-number_in(value))
+    ranged(-wide(value))
 }
 
 /// The other truth.

@@ -9,10 +9,11 @@ ghost use Rattle.aerie_base.specs.Durations.{digit_count, duration_of, duration_
 
 use crate::memory::OutOfMemory;
 use crate::numbers::Time;
+use crate::ranges::TIME_LIMIT;
 use std::alloc::Global;
 
 /// The longest duration, in microseconds.
-const LONGEST: u64 = 1_000_000_000_000_000;
+const LONGEST: u64 = TIME_LIMIT as u64;
 
 /// Reads a duration: one or more digits and at once a unit, `us`, `ms`, `s`, `min`, `h` or `d`, with nothing before or
 /// behind. `None` for any other text, and above 10^15 microseconds. It takes no memory, and time linear in the text.

@@ -17,11 +17,11 @@ use crate::values::Value;
 /// The expression is well typed for the locals and for the reads that `cells` has. It takes no memory.
 pub fn eval<K: Look>(expr: &Expr, locals: &[Value], cells: &mut K) -> Result<Value, Fault>
     requires well_typed { IsSome (kind_of expr.now (slot_kinds locals.now) (K.kinds cells.old)) }
-    ensures outcome { result ≡ (evaluated expr.now locals.now (K.values cells.old) (K.noted cells.old)).0 }
-    ensures noted { K.noted cells.new ≡ (evaluated expr.now locals.now (K.values cells.old) (K.noted cells.old)).1 }
+    ensures outcome { result ≡ (evaluated expr.now locals.now (K.values cells.old) (K.read_flags cells.old)).0 }
+    ensures read_flags { K.read_flags cells.new ≡ (evaluated expr.now locals.now (K.values cells.old) (K.read_flags cells.old)).1 }
     ensures same_kinds { K.kinds cells.new ≡ K.kinds cells.old }
     ensures same_values { K.values cells.new ≡ K.values cells.old }
-    ensures still { K.still cells.new ≡ K.still cells.old }
+    ensures unchanged { K.unchanged cells.new ≡ K.unchanged cells.old }
     ensures typed { IfOk result (λ value. kind_of expr.now (slot_kinds locals.now) (K.kinds cells.old) ≡ Some (value_kind value)) }
     ensures faults { MayFault result }
 {
@@ -31,11 +31,11 @@ pub fn eval<K: Look>(expr: &Expr, locals: &[Value], cells: &mut K) -> Result<Val
 /// The same over the fold, which is the form for a proof of the recursion.
 fn eval_by_fold<K: Look>(expr: &Expr, locals: &[Value], cells: &mut K) -> Result<Value, Fault>
     requires { IsSome (kind_by_fold expr.now (slot_kinds locals.now) (K.kinds cells.old)) }
-    ensures outcome { result ≡ (evaluated_by_fold expr.now locals.now (K.values cells.old) (K.noted cells.old)).0 }
-    ensures noted { K.noted cells.new ≡ (evaluated_by_fold expr.now locals.now (K.values cells.old) (K.noted cells.old)).1 }
+    ensures outcome { result ≡ (evaluated_by_fold expr.now locals.now (K.values cells.old) (K.read_flags cells.old)).0 }
+    ensures read_flags { K.read_flags cells.new ≡ (evaluated_by_fold expr.now locals.now (K.values cells.old) (K.read_flags cells.old)).1 }
     ensures same_kinds { K.kinds cells.new ≡ K.kinds cells.old }
     ensures same_values { K.values cells.new ≡ K.values cells.old }
-    ensures still { K.still cells.new ≡ K.still cells.old }
+    ensures unchanged { K.unchanged cells.new ≡ K.unchanged cells.old }
 {
     match expr {
         Expr::Literal(value) => Ok(*value),
@@ -56,12 +56,12 @@ fn eval_by_fold<K: Look>(expr: &Expr, locals: &[Value], cells: &mut K) -> Result
 /// The value of a local, or of what is read of a cell.
 #[tactic(auto, using(crate::proofs::Slots::slot_there))]
 fn operand_value<K: Look>(operand: Operand, locals: &[Value], cells: &mut K) -> Result<Value, Fault>
-    requires { IsSome (operand_kind operand (slot_kinds locals.now) (K.kinds cells.old)) }
-    ensures outcome { result ≡ (of_operand operand locals.now (K.values cells.old) (K.noted cells.old)).0 }
-    ensures noted { K.noted cells.new ≡ (of_operand operand locals.now (K.values cells.old) (K.noted cells.old)).1 }
+    requires { IsSome (operand_kind (slot_kinds locals.now) (K.kinds cells.old) operand) }
+    ensures outcome { result ≡ (of_operand operand locals.now (K.values cells.old) (K.read_flags cells.old)).0 }
+    ensures read_flags { K.read_flags cells.new ≡ (of_operand operand locals.now (K.values cells.old) (K.read_flags cells.old)).1 }
     ensures same_kinds { K.kinds cells.new ≡ K.kinds cells.old }
     ensures same_values { K.values cells.new ≡ K.values cells.old }
-    ensures still { K.still cells.new ≡ K.still cells.old }
+    ensures unchanged { K.unchanged cells.new ≡ K.unchanged cells.old }
 {
     match operand {
         Operand::Local(slot) => Ok(locals[usize::from(slot)]),

@@ -1,4 +1,5 @@
 ghost use Rattle.std.specs.Prelude.{◌≡◌, ◌↔◌, IsTrue, IfOk};
+ghost use Rattle.aerie_base.specs.expressions.Arithmetic.{compared};
 
 use crate::containers::Boxed;
 use crate::memory::OutOfMemory;
@@ -21,6 +22,22 @@ pub enum Comparison {
     More,
     /// `>=`
     AtLeast,
+}
+
+impl Comparison {
+    /// Whether two whole numbers compare so.
+    pub fn holds(self, left: i128, right: i128) -> bool
+        ensures { result ≡ compared self left right }
+    {
+        match self {
+            Comparison::Equal => left == right,
+            Comparison::Unequal => left != right,
+            Comparison::Less => left < right,
+            Comparison::AtMost => left <= right,
+            Comparison::More => left > right,
+            Comparison::AtLeast => left >= right,
+        }
+    }
 }
 
 /// An operator between two expressions.

@@ -18,36 +18,21 @@ pub trait Look {
     /// The value of each read that there is.
     ghost values: { Self → CellRead → Value };
     /// For each cell, whether it was read so far.
-    ghost noted: { Self → List Bool };
+    ghost read_flags: { Self → List Bool };
     /// What no look changes.
-    ghost Still: { Type 0 };
+    ghost Unchanged: { Type 0 };
 
-    ghost still: { Self → Still };
+    ghost unchanged: { Self → Unchanged };
 
     /// What is read: the value, or `Fault::Range` exactly where it is a number out of its range. It takes no memory.
     fn look(&mut self, read: CellRead) -> Result<Value, Fault>
         requires { IsSome (kinds self.old read) }
         ensures value { result ≡ reading read (values self.old read) }
-        ensures noted { noted self.new ≡ also (cell_of read) (noted self.old) }
+        ensures read_flags { read_flags self.new ≡ also (cell_of read) (read_flags self.old) }
         ensures same_kinds { kinds self.new ≡ kinds self.old }
         ensures same_values { values self.new ≡ values self.old }
-        ensures still { still self.new ≡ still self.old };
+        ensures unchanged { unchanged self.new ≡ unchanged self.old };
 
     /// Each value is of its type, and each type one that such a read may have.
     ghost readings: { (self : Self) → AreReadings (kinds self) (values self) };
-}
-
-impl CellRead {
-    /// The cell that is read, counted from 0 in the order of the model.
-    pub fn cell(&self) -> u16
-        ensures { result ≡ cell_of self.now }
-    {
-        match self {
-            CellRead::Counter(cell)
-            | CellRead::Register(cell)
-            | CellRead::Conflicted(cell)
-            | CellRead::Volume(cell)
-            | CellRead::Rate(cell) => *cell,
-        }
-    }
 }

@@ -99,7 +99,7 @@ impl EnumType {
         ensures { IfOk result (λ copy. copy ≡ self.now) }
     {
         Ok(EnumType {
-            name: self.name.copy()?,
+            name: self.name.copy(alloc)?,
             variants: copy_list(alloc, &self.variants)?,
         })
     }
@@ -138,11 +138,11 @@ impl Resource {
 
 impl Parameter {
     /// An equal parameter.
-    pub fn copy(&self, _alloc: Global) -> Result<Parameter, OutOfMemory>
+    pub fn copy(&self, alloc: Global) -> Result<Parameter, OutOfMemory>
         ensures { IfOk result (λ copy. copy ≡ self.now) }
     {
         Ok(Parameter {
-            name: self.name.copy()?,
+            name: self.name.copy(alloc)?,
             kind: self.kind,
             default: self.default,
         })
@@ -162,7 +162,7 @@ impl Activity {
         ensures { IfOk result (λ copy. copy ≡ self.now) }
     {
         Ok(Activity {
-            name: self.name.copy()?,
+            name: self.name.copy(alloc)?,
             parameters: copy_list(alloc, &self.parameters)?,
             result: self.result,
             requires_: copy_list(alloc, &self.requires_)?,

@@ -62,10 +62,10 @@ impl Name {
     }
 
     /// An equal name.
-    pub fn copy(&self) -> Result<Name, OutOfMemory>
+    pub fn copy(&self, alloc: Global) -> Result<Name, OutOfMemory>
         ensures { IfOk result (λ name. name ≡ self.now) }
     {
-        let text = self.text.clone()?;
+        let text = String::from_str(alloc, self.text.as_str())?;
         Ok(Name { text })
     }
 
@@ -204,7 +204,7 @@ mod tests {
         let later = Name::new(rt.alloc(), "storage")
             .expect(&rt, "memory")
             .expect(&rt, "a name");
-        let copy = name.copy().expect(&rt, "memory");
+        let copy = name.copy(rt.alloc()).expect(&rt, "memory");
         assert_eq!(&rt; copy.as_str(), "power");
         assert!(&rt; name.is_same(&copy));
         assert!(&rt; !name.is_same(&later));

@@ -1,3 +1,6 @@
+ghost use Rattle.std.specs.Prelude.{◌≡◌};
+ghost use Rattle.aerie_base.specs.expressions.Readings.{cell_of};
+
 /// What is read of a cell; cells are counted from 0 in the order of the model.
 #[derive(Clone, Copy, Debug, PartialEq, Eq)]
 pub enum CellRead {
@@ -11,6 +14,21 @@ pub enum CellRead {
     Volume(u16),
     /// The rate of an accumulator, in units a second, which are millionths of a unit a microsecond.
     Rate(u16),
+}
+
+impl CellRead {
+    /// The cell that is read, counted from 0 in the order of the model.
+    pub fn cell(&self) -> u16
+        ensures { result ≡ cell_of self.now }
+    {
+        match self {
+            CellRead::Counter(cell)
+            | CellRead::Register(cell)
+            | CellRead::Conflicted(cell)
+            | CellRead::Volume(cell)
+            | CellRead::Rate(cell) => *cell,
+        }
+    }
 }
 
 /// What an expression or a condition names.

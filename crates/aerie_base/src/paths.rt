@@ -7,7 +7,7 @@ ghost use Rattle.std.specs.Cmp.Rules.{hashing};
 ghost use Rattle.std.proofs.Common.{rules};
 ghost use Rattle.std.specs.Hash as fed;
 ghost use Rattle.std.specs.Cmp.Lexicographic.{pointwise, slice_cmp, nat_list_eq_equiv, nat_list_cmp_total, texts_po, texts_ties};
-ghost use Rattle.aerie_base.specs.Paths.{root, daemon_root, is_daemon, id_of, children_of, path_of, is_path, may_have_children, child_of, is_under, path_cmp};
+ghost use Rattle.aerie_base.specs.Paths.{root, daemon_root, comes_from_daemon, id_of, children_of, path_of, is_path, may_have_children, child_of, is_prefix, path_cmp};
 ghost use Rattle.aerie_base.specs.PathOrder.{AnyUnder};
 ghost use Rattle.std.specs.BTreeSet.{contains};
 
@@ -89,7 +89,7 @@ impl Path {
 
     /// Whether the task comes from a daemon.
     pub fn daemon(&self) -> bool
-        ensures { result ≡ is_daemon self.now }
+        ensures { result ≡ comes_from_daemon self.now }
     {
         self.daemon
     }
@@ -104,7 +104,7 @@ impl Path {
     /// The number of each child on the way down. With the other two accessors it says the whole path.
     pub fn children(&self) -> &[u32]
         ensures children { result.now ≡ children_of self.now }
-        ensures whole { self.now ≡ path_of (is_daemon self.now) (id_of self.now) (children_of self.now) }
+        ensures whole { self.now ≡ path_of (comes_from_daemon self.now) (id_of self.now) (children_of self.now) }
         ensures path { IsTrue (is_path self.now) }
     {
         self.children.as_slice()
@@ -113,11 +113,10 @@ impl Path {
     /// Whether this path is the other or begins with it.
     #[tactic(auto, using(crate::proofs::Prefixes::starts_is_under))]
     pub fn is_under(&self, other: &Path) -> bool
-        ensures { result ≡ is_under other.now self.now }
+        ensures { result ≡ is_prefix other.now self.now }
     {
-        self.daemon == other.daemon
-            && self.id == other.id
-            && self.children().starts_with(other.children())
+        let same_root = self.daemon == other.daemon && self.id == other.id;
+        same_root && self.children().starts_with(other.children())
     }
 
     /// Whether one of the paths is this one or begins with it. Such paths stand together in the order, so it looks at
@@ -187,16 +186,15 @@ impl Ord for Path {
     ghost matches_eq = { texts_ties };
 
     fn cmp(&self, other: &Path) -> Ordering {
-        let behind = self
-            .id
-            .cmp(&other.id)
-            .then(self.children().cmp(other.children()));
-        self.daemon.cmp(&other.daemon).then(behind)
+        match self.daemon.cmp(&other.daemon).then(self.id.cmp(&other.id)) {
+            Ordering::Equal => self.children().cmp(other.children()),
+            unequal => unequal,
+        }
     }
 }
 
 impl Hash for Path {
-    ghost hash_input = { λ path. fed.bool (is_daemon path) ++ (fed.u32 (id_of path) ++ fed.slice fed.u32 (children_of path)) };
+    ghost hash_input = { λ path. fed.bool (comes_from_daemon path) ++ (fed.u32 (id_of path) ++ fed.slice fed.u32 (children_of path)) };
 
     ghost respects_eq = { Prim.search (hashing, rules) };
 

@@ -30,7 +30,7 @@ pub fn copy_list<T: PlainData + Drop>(
 ) -> Result<List<T>, OutOfMemory>
     ensures { IfOk result (λ copies. copies ≡ items.now) }
 {
-    let mut copies = List::new(alloc);
+    let mut copies = List::with_capacity(alloc, items.len())?;
     for item in items.as_slice() {
         copies.push(item.copied(alloc)?)?;
     }
@@ -52,11 +52,14 @@ pub fn same_list<T: PlainData>(items: &[T], others: &[T]) -> bool
     true
 }
 
-/// Whether the two lists of values are the same.
-pub fn same_values(values: &[Value], others: &[Value]) -> bool
-    ensures { IsTrue result ↔ (values.now ≡ others.now) }
-{
-    same_list(values, others)
+impl PlainData for u16 {
+    fn copied(&self, _alloc: Global) -> Result<u16, OutOfMemory> {
+        Ok(*self)
+    }
+
+    fn equals(&self, other: &u16) -> bool {
+        self == other
+    }
 }
 
 impl PlainData for Value {
@@ -80,8 +83,8 @@ impl PlainData for Term {
 }
 
 impl PlainData for Name {
-    fn copied(&self, _alloc: Global) -> Result<Name, OutOfMemory> {
-        self.copy()
+    fn copied(&self, alloc: Global) -> Result<Name, OutOfMemory> {
+        self.copy(alloc)
     }
 
     fn equals(&self, other: &Name) -> bool {

@@ -1,4 +1,6 @@
-ghost use Rattle.std.specs.Prelude.{◌≡◌, ◌↔◌, IsTrue, IfOk};
+ghost use Rattle.std.specs.Prelude.{◌≡◌, ◌↔◌, ◌<◌, IsTrue, IfOk, IfSome, option_and_then, slice_get, length};
+ghost use Rattle.aerie_base.specs.plans.OfModel.{with_id};
+ghost use Rattle.aerie_base.specs.plans.RisingIds.{Rise, IsIdAt};
 
 use crate::containers::List;
 use crate::memory::OutOfMemory;
@@ -7,7 +9,7 @@ use crate::plain_data::{copy_list, same_list};
 use crate::values::Value;
 use std::alloc::Global;
 
-/// The end of a directive's span to which another one is anchored.
+/// Which edge of a directive's span another one is anchored to.
 #[derive(Clone, Copy, Debug, PartialEq, Eq)]
 pub enum Edge {
     /// Where it begins.
@@ -21,7 +23,7 @@ pub enum Edge {
 pub struct Anchor {
     /// The id of the other directive.
     pub to: u32,
-    /// Which end of its span.
+    /// Which edge of its span.
     pub edge: Edge,
 }
 
@@ -86,6 +88,37 @@ impl Directive {
             && self.kind == other.kind
             && same_list(self.arguments.as_slice(), other.arguments.as_slice())
     }
+}
+
+/// The id of the directive at a place.
+fn id_at(directives: &[Directive], at: usize) -> u32
+    requires { at < length directives.now }
+    ensures { IsIdAt directives.now at result }
+{
+    directives[at].id
+}
+
+/// The place of the directive with an id among some whose ids rise, by a search that halves what is left.
+pub fn position_of_id(directives: &[Directive], id: u32) -> Option<usize>
+    requires rising { Rise directives.now }
+    ensures found { option_and_then (slice_get directives.now) result ≡ with_id directives.now id }
+    ensures within { IfSome result (λ at. at < length directives.now) }
+{
+    let mut from = 0;
+    let mut to = directives.len();
+    while from < to {
+        let middle = from + (to - from) / 2;
+        let here = id_at(directives, middle);
+        if here == id {
+            return Some(middle);
+        }
+        if here < id {
+            from = middle + 1;
+        } else {
+            to = middle;
+        }
+    }
+    None
 }
 
 impl Plan {

@@ -1,4 +1,5 @@
 ghost use Rattle.std.specs.Prelude.{◌≡◌, ◌↔◌, IsTrue, IfOk};
+ghost use Rattle.aerie_base.specs.declared.statements.Stmt.{Let, Assign, Emit, Delay, WaitUntil, Spawn, Call, Return};
 
 use crate::conditions::Cond;
 use crate::containers::List;
@@ -140,11 +141,7 @@ impl Stmt {
                 kind,
                 arguments,
                 into,
-            } => Ok(Stmt::Call {
-                kind: *kind,
-                arguments: copy_list(alloc, arguments)?,
-                into: *into,
-            }),
+            } => copy_call(alloc, *kind, arguments, *into),
             Stmt::If { test, yes, no } => Ok(Stmt::If {
                 test: test.copy(alloc)?,
                 yes: copy_block(alloc, yes)?,
@@ -164,77 +161,149 @@ impl Stmt {
     pub fn is_same(&self, other: &Stmt) -> bool
         ensures { IsTrue result ↔ (self.now ≡ other.now) }
     {
-        match (self, other) {
-            (
-                Stmt::Let { slot, value },
-                Stmt::Let {
-                    slot: other_slot,
-                    value: other_value,
-                },
-            ) => slot == other_slot && value.is_same(other_value),
-            (
-                Stmt::Assign { slot, value },
-                Stmt::Assign {
-                    slot: other_slot,
-                    value: other_value,
-                },
-            ) => slot == other_slot && value.is_same(other_value),
-            (
-                Stmt::Emit { cell, what },
-                Stmt::Emit {
-                    cell: other_cell,
-                    what: other_what,
-                },
-            ) => cell == other_cell && what.is_same(other_what),
-            (Stmt::Delay(length), Stmt::Delay(other_length)) => length.is_same(other_length),
-            (Stmt::WaitUntil(cond), Stmt::WaitUntil(other_cond)) => cond.is_same(other_cond),
-            (
-                Stmt::Spawn { kind, arguments },
-                Stmt::Spawn {
-                    kind: other_kind,
-                    arguments: other_arguments,
-                },
-            ) => kind == other_kind && same_list(arguments.as_slice(), other_arguments.as_slice()),
-            (
-                Stmt::Call {
-                    kind,
-                    arguments,
-                    into,
-                },
-                Stmt::Call {
-                    kind: other_kind,
-                    arguments: other_arguments,
-                    into: other_into,
-                },
-            ) => {
-                kind == other_kind
-                    && into == other_into
-                    && same_list(arguments.as_slice(), other_arguments.as_slice())
-            }
-            (
-                Stmt::If { test, yes, no },
+        match self {
+            Stmt::Let { slot, value } => other.is_let(*slot, value),
+            Stmt::Assign { slot, value } => other.is_assign(*slot, value),
+            Stmt::Emit { cell, what } => other.is_emit(*cell, what),
+            Stmt::Delay(length) => other.is_delay(length),
+            Stmt::WaitUntil(cond) => other.is_wait(cond),
+            Stmt::Spawn { kind, arguments } => other.is_spawn(*kind, arguments),
+            Stmt::Call {
+                kind,
+                arguments,
+                into,
+            } => other.is_call(*kind, arguments, *into),
+            Stmt::If { test, yes, no } => match other {
                 Stmt::If {
                     test: other_test,
                     yes: other_yes,
                     no: other_no,
-                },
-            ) => test.is_same(other_test)
-                && same_block(yes.as_slice(), other_yes.as_slice())
-                && same_block(no.as_slice(), other_no.as_slice()),
-            (
-                Stmt::While { test, body },
+                } => {
+                    test.is_same(other_test)
+                        && same_block(yes.as_slice(), other_yes.as_slice())
+                        && same_block(no.as_slice(), other_no.as_slice())
+                }
+                _ => false,
+            },
+            Stmt::While { test, body } => match other {
                 Stmt::While {
                     test: other_test,
                     body: other_body,
-                },
-            ) => test.is_same(other_test) && same_block(body.as_slice(), other_body.as_slice()),
-            (Stmt::Return(None), Stmt::Return(None)) => true,
-            (Stmt::Return(Some(value)), Stmt::Return(Some(other_value))) => {
-                value.is_same(other_value)
+                } => test.is_same(other_test) && same_block(body.as_slice(), other_body.as_slice()),
+                _ => false,
+            },
+            Stmt::Return(value) => other.is_return(value),
+        }
+    }
+
+    fn is_let(&self, slot: u16, value: &Expr) -> bool
+        ensures { IsTrue result ↔ (Let slot value.now ≡ self.now) }
+    {
+        match self {
+            Stmt::Let {
+                slot: own_slot,
+                value: own_value,
+            } => slot == *own_slot && value.is_same(own_value),
+            _ => false,
+        }
+    }
+
+    fn is_assign(&self, slot: u16, value: &Expr) -> bool
+        ensures { IsTrue result ↔ (Assign slot value.now ≡ self.now) }
+    {
+        match self {
+            Stmt::Assign {
+                slot: own_slot,
+                value: own_value,
+            } => slot == *own_slot && value.is_same(own_value),
+            _ => false,
+        }
+    }
+
+    fn is_emit(&self, cell: u16, what: &Emission) -> bool
+        ensures { IsTrue result ↔ (Emit cell what.now ≡ self.now) }
+    {
+        match self {
+            Stmt::Emit {
+                cell: own_cell,
+                what: own_what,
+            } => cell == *own_cell && what.is_same(own_what),
+            _ => false,
+        }
+    }
+
+    fn is_delay(&self, length: &Expr) -> bool
+        ensures { IsTrue result ↔ (Delay length.now ≡ self.now) }
+    {
+        match self {
+            Stmt::Delay(own_length) => length.is_same(own_length),
+            _ => false,
+        }
+    }
+
+    fn is_wait(&self, cond: &Cond) -> bool
+        ensures { IsTrue result ↔ (WaitUntil cond.now ≡ self.now) }
+    {
+        match self {
+            Stmt::WaitUntil(own_cond) => cond.is_same(own_cond),
+            _ => false,
+        }
+    }
+
+    fn is_spawn(&self, kind: u16, arguments: &List<Expr>) -> bool
+        ensures { IsTrue result ↔ (Spawn kind arguments.now ≡ self.now) }
+    {
+        match self {
+            Stmt::Spawn {
+                kind: own_kind,
+                arguments: own_arguments,
+            } => kind == *own_kind && same_list(arguments.as_slice(), own_arguments.as_slice()),
+            _ => false,
+        }
+    }
+
+    fn is_call(&self, kind: u16, arguments: &List<Expr>, into: Option<u16>) -> bool
+        ensures { IsTrue result ↔ (Call kind arguments.now into ≡ self.now) }
+    {
+        match self {
+            Stmt::Call {
+                kind: own_kind,
+                arguments: own_arguments,
+                into: own_into,
+            } => {
+                kind == *own_kind
+                    && into == *own_into
+                    && same_list(arguments.as_slice(), own_arguments.as_slice())
             }
             _ => false,
         }
     }
+
+    fn is_return(&self, value: &Option<Expr>) -> bool
+        ensures { IsTrue result ↔ (Return value.now ≡ self.now) }
+    {
+        match (value, self) {
+            (None, Stmt::Return(None)) => true,
+            (Some(value), Stmt::Return(Some(own_value))) => value.is_same(own_value),
+            _ => false,
+        }
+    }
+}
+
+/// An equal `call`.
+fn copy_call(
+    alloc: Global,
+    kind: u16,
+    arguments: &List<Expr>,
+    into: Option<u16>,
+) -> Result<Stmt, OutOfMemory>
+    ensures { IfOk result (λ copy. copy ≡ Call kind arguments.now into) }
+{
+    Ok(Stmt::Call {
+        kind,
+        arguments: copy_list(alloc, arguments)?,
+        into,
+    })
 }
 
 /// An equal block.

@@ -38,11 +38,10 @@ impl Text {
     }
 
     /// An equal text.
-    pub fn copy(&self) -> Result<Text, OutOfMemory>
+    pub fn copy(&self, alloc: Global) -> Result<Text, OutOfMemory>
         ensures { IfOk result (λ text. text ≡ self.now) }
     {
-        let text = self.text.clone()?;
-        Ok(Text { text })
+        Text::new(alloc, self.as_str())
     }
 
     /// Whether the two are the same text.

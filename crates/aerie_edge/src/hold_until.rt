@@ -17,9 +17,9 @@ pub struct HoldUntil {
 }
 
 impl Model for HoldUntil {
-    ghost use Rattle.aerie_edge.specs.Holding.{Holding};
+    ghost use Rattle.aerie_edge.specs.Holding.{Held};
 
-    ghost Value = { Holding };
+    ghost Value = { Held };
 
     ghost view = { λ g. record { held = g.held; until = g.until; turns = g.turns } };
 }

@@ -1,5 +1,5 @@
 -- What the tokens of a text say of it.
-use Rattle.std.proofs.Common.{◌≡◌, ℕ, zero, suc, ◌+◌, ◌-◌, ◌<◌, ◌≤◌, inl, inr, Bool, true, false, List, [], ◌∷◌, length, drop, get_or, Option, Some, None, Result, Ok, Err, IsUtf8, refl, subst, arith, add-zero}
+use Rattle.std.proofs.Common.{◌≡◌, ℕ, zero, suc, ◌+◌, ◌-◌, ◌<◌, ◌≤◌, inl, inr, Bool, true, false, ◌∙◌, List, [], ◌∷◌, length, drop, get_or, Option, Some, None, Result, Ok, Err, IsUtf8, refl, ap, sym, subst, arith, add-zero, append-nil}
 use Rattle.std.specs.Prelude.{All}
 use Rattle.std.specs.List.{prefix_len}
 use Rattle.std.specs.Str.{IsCharBoundary}
@@ -11,6 +11,7 @@ use Rattle.std.proofs.lemmas.List.Sums.{prefix_len-le-length, prefix_len_passes,
 use Rattle.std.proofs.lemmas.Str.{IsCharBoundary-before_ascii, IsCharBoundary-after_ascii, IsCharBoundary-start, IsCharBoundary-end}
 use Rattle.aerie_text.specs.Bytes.{is_white}
 use Rattle.aerie_text.specs.Gaps.{begins_comment, gap_len, is_in_line}
+use Rattle.aerie_text.specs.Marks.{AreTokensWithin}
 use Rattle.aerie_text.specs.TokenAt.{token_at}
 use Rattle.aerie_text.specs.Tokens.{token, tokens_from, tokens_of, with_tokens}
 use Rattle.aerie_text.specs.Cut.{AreTokens, no_more, one_more, IsBad, IsBlank, nothing, gap, IsFirstBad, IsTokenOf, IsAtEdges}
@@ -157,3 +158,9 @@ last_edge text at to tokens utf8 edge (one_more here there token later blank is 
 
 pub bad_edge : (text : List ℕ) (at : ℕ) → IsUtf8 text → IsFirstBad text at → IsCharBoundary text at
 bad_edge text at utf8 bad = last_edge text 0 at bad.before utf8 (IsCharBoundary-start text utf8) bad.read
+
+-- ---- tokens in a row
+
+-- the tokens of a text are in a row among them
+pub all_within : (text : List ℕ) (tokens : List Token) → tokens_of text ≡ Ok tokens → AreTokensWithin text tokens
+all_within text tokens are = record { before = []; behind = []; are = are ∙ ap Ok (sym (append-nil tokens)) }

@@ -6,7 +6,6 @@ pub mod Extents
 pub mod Figures
 pub mod Marking
 pub mod Matching
-pub mod Readers
+pub mod ReservedWords
 pub mod Scanning
 pub mod Units
-pub mod Grammars

@@ -1,30 +1,27 @@
--- What the tokens of a text say of their marks.
-use Rattle.std.proofs.Common.{◌≡◌, ℕ, ◌+◌, ◌<◌, ◌≤◌, ◌&&◌, nat_le, ◌∙◌, Bool, true, false, not, List, [], ◌∷◌, ◌++◌, length, take, drop, ap, get_or, IsUtf8, refl, sym, subst, arith, append_assoc, append-nil, Ok}
-use Rattle.std.specs.Prelude.{All}
+-- What the tokens of a text say of their texts and places.
+use Rattle.std.proofs.Common.{◌≡◌, ℕ, ◌+◌, ◌<◌, ◌≤◌, ◌&&◌, nat_le, ◌∙◌, Bool, true, false, not, List, [], ◌∷◌, ◌++◌, length, drop, get_or, refl, sym, subst, arith, append_assoc}
 use Rattle.std.specs.Char.{is_ascii_digit}
 use Rattle.std.specs.List.{list_all}
 use Rattle.std.specs.Str.{bytes_eq}
 use Rattle.std.specs.Str.Parse.{AllDigits}
 use Rattle.std.proofs.lemmas.Bool.{false≢true}
 use Rattle.std.proofs.lemmas.Bool.Decides.{nat_tests}
-use Rattle.std.proofs.lemmas.List.{drop_more, take-append-drop}
+use Rattle.std.proofs.lemmas.List.{drop_more}
 use Rattle.std.proofs.lemmas.Str.{chars-nil}
-use Rattle.std.proofs.lemmas.List.Elements.{All-cons, All-nil}
 use Rattle.aerie_base.specs.Names.{begins_as_name, is_name, is_name_byte}
 use Rattle.aerie_text.specs.Bytes.{begins_with, is_letter, is_word_byte}
 use Rattle.aerie_text.specs.Cut.{AreTokens, one_more, IsBlank, nothing, gap, IsTokenOf}
 use Rattle.aerie_text.specs.Gaps.{gap_len}
-use Rattle.aerie_text.specs.Marks.{AreTokensWithin, IsMarkOf, mark_of, marks_of, slice_of}
+use Rattle.aerie_text.specs.Marks.{AreTokensWithin}
 use Rattle.aerie_text.specs.Places.{place_of}
 use Rattle.aerie_text.specs.Sorts.{same_sort, sort_in, sort_of_kind, symbol_sort, symbols}
-use Rattle.aerie_text.specs.Tokens.{tokens_of}
 use Rattle.aerie_text.specs.TokenTexts.{IsTextOf, word}
 use Rattle.aerie_text.specs.declared.sorts.Sort.{Sort}
 use Rattle.aerie_text.specs.declared.sorts.Sort.TheVariants as sort
 use Rattle.aerie_text.specs.declared.token.Token.{Token}
 use Rattle.aerie_text.specs.declared.token.TokenKind.{TokenKind}
 use Rattle.aerie_text.specs.declared.token.TokenKind.TheVariants as kind
-use Rattle.aerie_text.proofs.Cuts.{are_tokens, token_edges}
+use Rattle.aerie_text.proofs.Cuts.{are_tokens}
 use Rattle.aerie_text.proofs.Figures.{digit_below}
 
 both_true : (a b : Bool) → (a && b) ≡ true → (a ≡ true) × (b ≡ true)
@@ -83,7 +80,7 @@ word_is_name : (text : List ℕ) → begins_with is_letter text ≡ true → lis
 word_is_name text begins bytes short = rw (begins_name text begins, short_name (length text) short, name_bytes text bytes) refl
 
 -- the text of a token of the sort of names is a name
-name_text : (k : TokenKind) (text : List ℕ) → IsTextOf k text → same_sort sort.Name (sort_of_kind k text) ≡ true → is_name text ≡ true
+pub name_text : (k : TokenKind) (text : List ℕ) → IsTextOf k text → same_sort sort.Name (sort_of_kind k text) ≡ true → is_name text ≡ true
 name_text kind.Word text (word all begins bytes short) e = word_is_name text begins bytes short
 name_text kind.Number text is e = absurd (false≢true e)
 name_text kind.Duration text is e = absurd (false≢true e)
@@ -133,38 +130,6 @@ goes_next text at token later goes = next_of text at goes.0 token later goes.1 g
 pub goes_at : (text : List ℕ) (at i : ℕ) (tokens : List Token) (d : Token) → i < length tokens → Goes text at (drop i tokens) → Next text at (get_or tokens i d) (drop (i + 1) tokens)
 goes_at text at i tokens d lt goes = goes_next text at (get_or tokens i d) (drop (i + 1) tokens) (subst (Goes text at) (drop_more tokens i d lt) goes)
 
--- ---- marks
-
 -- the first place of a text
 pub first_place : (text : List ℕ) → record { line = 1; column = 1 } ≡ place_of text 0
 first_place text = rw chars-nil refl
-
-is_mark : (text : List ℕ) (token : Token) → IsUtf8 text → IsTokenOf text token → IsMarkOf text (mark_of text token)
-is_mark text token utf8 is =
-    let edges = token_edges text token utf8 is in
-    record {
-      rises = is.rises;
-      within = is.within;
-      begins = edges.0;
-      ends = edges.1;
-      place = refl;
-      name = name_text token.kind (slice_of text token.from token.to) is.longest.matches.is_token;
-    }
-
-all_marks : (text : List ℕ) (at : ℕ) (tokens : List Token) → IsUtf8 text → Goes text at tokens → All (IsMarkOf text) (marks_of text tokens)
-all_marks text at [] utf8 goes = All-nil (IsMarkOf text)
-all_marks text at (token ∷ later) utf8 goes =
-    let next = goes_next text at token later goes in
-    All-cons (IsMarkOf text) (mark_of text token) (marks_of text later) (is_mark text token utf8 next.is) (all_marks text token.from later utf8 next.goes)
-
--- the marks of tokens of a text are marks of the text
-pub are_marks : (text : List ℕ) (tokens : List Token) → IsUtf8 text → AreTokensWithin text tokens → All (IsMarkOf text) (marks_of text tokens)
-are_marks text tokens utf8 within = all_marks text 0 tokens utf8 (goes_first text tokens within)
-
--- the tokens of a text behind the first ones
-pub rest_within : (text : List ℕ) (tokens : List Token) (first : ℕ) → tokens_of text ≡ Ok tokens → AreTokensWithin text (drop first tokens)
-rest_within text tokens first are = record {
-  before = take first tokens;
-  behind = [];
-  are = are ∙ ap Ok (sym (append-nil (take first tokens ++ drop first tokens) ∙ take-append-drop first tokens));
-}

@@ -1,13 +1,15 @@
 -- What is read from a place on, in the steps of the scanner.
 use Rattle.std.proofs.Common.{◌≡◌, ℕ, zero, suc, ◌+◌, ◌-◌, ◌<◌, ◌≤◌, ◌∙◌, List, [], ◌∷◌, ◌++◌, length, drop, Option, Some, None, Result, Ok, Err, refl, ap, sym, arith, append_assoc, append-nil}
-use Rattle.std.specs.Prelude.{IfOk, IsErr, IsErrAnd, MatchResult}
+use Rattle.std.specs.Prelude.{IfErr, IfOk, IsErr, IsErrAnd, MatchResult}
 use Rattle.std.proofs.lemmas.List.{drop-drop, drop_all, length-drop}
+use Rattle.std.specs.Str.{IsCharBoundary}
+use Rattle.aerie_text.specs.Cut.{IsBadAtEdge}
 use Rattle.aerie_text.specs.Gaps.{gap_len}
 use Rattle.aerie_text.specs.TokenAt.{token_at}
 use Rattle.aerie_text.specs.Tokens.{found_at, tokens_of, token, tokens_from, with_tokens}
 use Rattle.aerie_text.specs.declared.token.Token.{Token}
 use Rattle.aerie_text.specs.declared.text_error.TextError.{TextError}
-use Rattle.aerie_text.specs.declared.text_error.TextError.TheVariants.{BadToken}
+use Rattle.aerie_text.specs.declared.text_error.TextError.TheVariants.{BadToken, OutOfMemory}
 use Rattle.aerie_text.specs.declared.token.TokenKind.{TokenKind}
 use Rattle.aerie_text.proofs.Beginnings.{token_facts}
 
@@ -133,3 +135,10 @@ ok_case (Err e) P S Q cases leads = tt
 pub bad_case : {T : Type 0} (r : Result T TextError) (P : T → Type 0) (S : ℕ → Type 0) → MatchResult r P (λ e. (at : ℕ) → e ≡ BadToken at → S at) → (at : ℕ) → r ≡ Err (BadToken at) → S at
 bad_case (Ok x) P S cases at e = absurd (cc)
 bad_case (Err bad) P S cases at e = cases at (cc)
+
+-- the same of the error, by its cases
+pub bad_case_of : {T : Type 0} (text : List ℕ) (r : Result T TextError) (P : T → Type 0) (S : ℕ → Type 0) → MatchResult r P (λ e. (at : ℕ) → e ≡ BadToken at → S at)
+    → ((at : ℕ) → S at → IsCharBoundary text at) → IfErr r (IsBadAtEdge text)
+bad_case_of text (Ok x) P S cases leads = tt
+bad_case_of text (Err (BadToken at)) P S cases leads = leads at (cases at refl)
+bad_case_of text (Err OutOfMemory) P S cases leads = tt

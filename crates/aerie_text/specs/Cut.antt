@@ -4,6 +4,8 @@ use Rattle.std.specs.Str.{IsCharBoundary}
 use Rattle.aerie_text.specs.Gaps.{gap_len}
 use Rattle.aerie_text.specs.TokenAt.{token_at}
 use Rattle.aerie_text.specs.TokenTexts.{BeginsNone, IsLongest}
+use Rattle.aerie_text.specs.declared.text_error.TextError.{TextError}
+use Rattle.aerie_text.specs.declared.text_error.TextError.TheVariants.{BadToken, OutOfMemory}
 use Rattle.aerie_text.specs.declared.token.Token.{Token}
 
 -- from one place to another there is nothing but white space and comments
@@ -41,3 +43,8 @@ pub record IsFirstBad (text : List ℕ) (at : ℕ) : Type 0 where
 -- the token begins and ends at the edges of characters
 abbrev pub IsAtEdges : List ℕ → Token → Type 0
 IsAtEdges text token = IsCharBoundary text token.from × IsCharBoundary text token.to
+
+-- where no token begins, a character begins, or the text ends
+abbrev pub IsBadAtEdge : List ℕ → TextError → Type 0
+IsBadAtEdge text (BadToken at) = IsCharBoundary text at
+IsBadAtEdge text OutOfMemory = Unit {0}

@@ -11,5 +11,3 @@ pub mod Symbols
 pub mod TokenAt
 pub mod TokenTexts
 pub mod Tokens
-pub mod grammar
-pub mod reading

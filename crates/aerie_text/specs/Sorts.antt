@@ -1,6 +1,7 @@
 -- The sorts of tokens: reserved words, names, numbers, texts and symbols.
-use Rattle.std.specs.Prelude.{◌≡◌, ℕ, Bool, false, List, [], ◌∷◌, nat_eq, codes, if◌then◌else◌, refl}
+use Rattle.std.specs.Prelude.{◌≡◌, ℕ, ◌==◌, filter, Bool, false, List, [], ◌∷◌, nat_eq, codes, if◌then◌else◌, refl}
 use Rattle.std.specs.Str.{bytes_eq}
+use Rattle.aerie_text.specs.Bytes.{begins_with}
 use Rattle.aerie_text.specs.declared.token.TokenKind.{TokenKind}
 use Rattle.aerie_text.specs.declared.token.TokenKind.TheVariants as kind
 use Rattle.aerie_text.specs.declared.sorts.Sort.{Sort}
@@ -139,6 +140,10 @@ reserved_words =
     (codes "spawn", sort.Spawn) ∷ (codes "start", sort.Start) ∷ (codes "to", sort.To) ∷ (codes "true", sort.True) ∷
     (codes "truth", sort.Truth) ∷ (codes "until", sort.Until) ∷ (codes "volume", sort.Volume) ∷
     (codes "wait", sort.Wait) ∷ (codes "while", sort.While) ∷ (codes "window", sort.Window) ∷ []
+
+-- the reserved words that begin with this letter, each with its sort
+abbrev pub reserved_from : ℕ → List (List ℕ × Sort)
+reserved_from letter = filter (λ entry. begins_with (λ first. first == letter) entry.0) reserved_words
 
 -- the symbols, each with its sort
 abbrev pub symbols : List (List ℕ × Sort)

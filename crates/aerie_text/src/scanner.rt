@@ -1,8 +1,8 @@
 //! A text cut into tokens.
 
-ghost use Rattle.std.specs.Prelude.{◌≡◌, ◌≤◌, ◌<◌, ℕ, Ok, Err, MatchResult, IfOk, All, length, drop};
-ghost use Rattle.std.specs.Str.{IsCharBoundary};
-ghost use Rattle.aerie_text.specs.Cut.{AreTokens, IsAtEdges, IsFirstBad};
+ghost use Rattle.std.specs.Prelude.{◌≡◌, ◌≤◌, ◌<◌, ℕ, Ok, Err, MatchResult, IfErr, IfOk, All, length, drop};
+ghost use Rattle.aerie_text.specs.Cut.{AreTokens, IsAtEdges, IsBadAtEdge, IsFirstBad};
+ghost use Rattle.aerie_text.specs.Marks.{AreTokensWithin};
 ghost use Rattle.aerie_text.specs.Tokens.{found_at, tokens_of};
 ghost use Rattle.aerie_text.specs.TokenAt.{token_at};
 ghost use Rattle.aerie_text.specs.declared.text_error.TextError.TheVariants.{BadToken};
@@ -21,9 +21,10 @@ pub fn tokens(alloc: Global, text: &str) -> Result<Vec<Token>, TextError>
     ensures exact { IfOk result (λ tokens. tokens_of text.now ≡ Ok tokens.items) }
     ensures cut { IfOk result (λ tokens. AreTokens text.now 0 tokens.items (length text.now)) }
     ensures edges { IfOk result (λ tokens. All (IsAtEdges text.now) tokens.items) }
+    ensures within { IfOk result (λ tokens. AreTokensWithin text.now tokens.items) }
     ensures refused { (at : ℕ) → result ≡ Err (BadToken at) → tokens_of text.now ≡ Err at }
     ensures first { (at : ℕ) → result ≡ Err (BadToken at) → IsFirstBad text.now at }
-    ensures edge { (at : ℕ) → result ≡ Err (BadToken at) → IsCharBoundary text.now at }
+    ensures edge { IfErr result (IsBadAtEdge text.now) }
 {
     match token_list(alloc, text) {
         Ok(tokens) => Ok(tokens.into_vec()),
@@ -36,9 +37,10 @@ fn token_list(alloc: Global, text: &str) -> Result<List<Token>, TextError>
     ensures exact { IfOk result (λ tokens. tokens_of text.now ≡ Ok tokens) }
     ensures cut { IfOk result (λ tokens. AreTokens text.now 0 tokens (length text.now)) }
     ensures edges { IfOk result (λ tokens. All (IsAtEdges text.now) tokens) }
+    ensures within { IfOk result (λ tokens. AreTokensWithin text.now tokens) }
     ensures refused { (at : ℕ) → result ≡ Err (BadToken at) → tokens_of text.now ≡ Err at }
     ensures first { (at : ℕ) → result ≡ Err (BadToken at) → IsFirstBad text.now at }
-    ensures edge { (at : ℕ) → result ≡ Err (BadToken at) → IsCharBoundary text.now at }
+    ensures edge { IfErr result (IsBadAtEdge text.now) }
 {
     scan(alloc, text)
 }

@@ -1,7 +1,7 @@
 //! The sorts of tokens that grammars tell apart.
 
 ghost use Rattle.std.specs.Prelude.{◌≡◌, map};
-ghost use Rattle.aerie_text.specs.Sorts.{number_of, same_sort, sort_in, sort_of_kind, symbol_sort, word_sort};
+ghost use Rattle.aerie_text.specs.Sorts.{number_of, reserved_from, same_sort, sort_in, sort_of_kind, symbol_sort, word_sort};
 
 use crate::token::TokenKind;
 
@@ -158,120 +158,23 @@ impl Sort {
     fn number(self) -> u8
         ensures { result ≡ number_of self }
     {
-        match self {
-            Sort::Accumulator => 0,
-            Sort::Activity => 1,
-            Sort::Add => 2,
-            Sort::And => 3,
-            Sort::At => 4,
-            Sort::Call => 5,
-            Sort::Cardinality => 6,
-            Sort::Client => 7,
-            Sort::Coexistence => 8,
-            Sort::Conflicted => 9,
-            Sort::Constraints => 10,
-            Sort::Count => 11,
-            Sort::Counter => 12,
-            Sort::Daemon => 13,
-            Sort::Delay => 14,
-            Sort::Discrete => 15,
-            Sort::Drop => 16,
-            Sort::Duration => 17,
-            Sort::During => 18,
-            Sort::Else => 19,
-            Sort::End => 20,
-            Sort::Enum => 21,
-            Sort::Every => 22,
-            Sort::Expand => 23,
-            Sort::False => 24,
-            Sort::For => 25,
-            Sort::Forbid => 26,
-            Sort::Fork => 27,
-            Sort::From => 28,
-            Sort::Goals => 29,
-            Sort::If => 30,
-            Sort::In => 31,
-            Sort::Int => 32,
-            Sort::Keeping => 33,
-            Sort::Let => 34,
-            Sort::Linear => 35,
-            Sort::Load => 36,
-            Sort::Longer => 37,
-            Sort::Merge => 38,
-            Sort::Model => 39,
-            Sort::Move => 40,
-            Sort::New => 41,
-            Sort::Not => 42,
-            Sort::Of => 43,
-            Sort::Or => 44,
-            Sort::Plan => 45,
-            Sort::Rate => 46,
-            Sort::Recurrence => 47,
-            Sort::Register => 48,
-            Sort::Remove => 49,
-            Sort::Require => 50,
-            Sort::Return => 51,
-            Sort::Rollback => 52,
-            Sort::Schedule => 53,
-            Sort::Sequence => 54,
-            Sort::Set => 55,
-            Sort::Shift => 56,
-            Sort::Show => 57,
-            Sort::Simulate => 58,
-            Sort::Spawn => 59,
-            Sort::Start => 60,
-            Sort::To => 61,
-            Sort::True => 62,
-            Sort::Truth => 63,
-            Sort::Until => 64,
-            Sort::Volume => 65,
-            Sort::Wait => 66,
-            Sort::While => 67,
-            Sort::Window => 68,
-            Sort::Name => 69,
-            Sort::Number => 70,
-            Sort::Time => 71,
-            Sort::Quoted => 72,
-            Sort::Raw => 73,
-            Sort::OpenBrace => 74,
-            Sort::CloseBrace => 75,
-            Sort::OpenParenthesis => 76,
-            Sort::CloseParenthesis => 77,
-            Sort::OpenBracket => 78,
-            Sort::CloseBracket => 79,
-            Sort::Comma => 80,
-            Sort::Semicolon => 81,
-            Sort::Colon => 82,
-            Sort::Dot => 83,
-            Sort::Assign => 84,
-            Sort::Plus => 85,
-            Sort::Minus => 86,
-            Sort::Star => 87,
-            Sort::Slash => 88,
-            Sort::Percent => 89,
-            Sort::Exclamation => 90,
-            Sort::Less => 91,
-            Sort::Greater => 92,
-            Sort::ColonAssign => 93,
-            Sort::PlusAssign => 94,
-            Sort::DoubleEqual => 95,
-            Sort::NotEqual => 96,
-            Sort::LessEqual => 97,
-            Sort::GreaterEqual => 98,
-            Sort::DoubleAmpersand => 99,
-            Sort::DoubleBar => 100,
-            Sort::Arrow => 101,
-        }
+        self as u8
     }
 }
 
-/// The reserved words, each with its sort.
-const RESERVED_WORDS: [(&str, Sort); 69] = [
+// The reserved words that begin with each letter, each with its sort.
+
+const NO_WORDS: [(&str, Sort); 0] = [];
+
+const A_WORDS: [(&str, Sort); 5] = [
     ("accumulator", Sort::Accumulator),
     ("activity", Sort::Activity),
     ("add", Sort::Add),
     ("and", Sort::And),
     ("at", Sort::At),
+];
+
+const C_WORDS: [(&str, Sort); 8] = [
     ("call", Sort::Call),
     ("cardinality", Sort::Cardinality),
     ("client", Sort::Client),
@@ -280,39 +183,59 @@ const RESERVED_WORDS: [(&str, Sort); 69] = [
     ("constraints", Sort::Constraints),
     ("count", Sort::Count),
     ("counter", Sort::Counter),
+];
+
+const D_WORDS: [(&str, Sort); 6] = [
     ("daemon", Sort::Daemon),
     ("delay", Sort::Delay),
     ("discrete", Sort::Discrete),
     ("drop", Sort::Drop),
     ("duration", Sort::Duration),
     ("during", Sort::During),
+];
+
+const E_WORDS: [(&str, Sort); 5] = [
     ("else", Sort::Else),
     ("end", Sort::End),
     ("enum", Sort::Enum),
     ("every", Sort::Every),
     ("expand", Sort::Expand),
+];
+
+const F_WORDS: [(&str, Sort); 5] = [
     ("false", Sort::False),
     ("for", Sort::For),
     ("forbid", Sort::Forbid),
     ("fork", Sort::Fork),
     ("from", Sort::From),
-    ("goals", Sort::Goals),
-    ("if", Sort::If),
-    ("in", Sort::In),
-    ("int", Sort::Int),
-    ("keeping", Sort::Keeping),
+];
+
+const G_WORDS: [(&str, Sort); 1] = [("goals", Sort::Goals)];
+
+const I_WORDS: [(&str, Sort); 3] = [("if", Sort::If), ("in", Sort::In), ("int", Sort::Int)];
+
+const K_WORDS: [(&str, Sort); 1] = [("keeping", Sort::Keeping)];
+
+const L_WORDS: [(&str, Sort); 4] = [
     ("let", Sort::Let),
     ("linear", Sort::Linear),
     ("load", Sort::Load),
     ("longer", Sort::Longer),
+];
+
+const M_WORDS: [(&str, Sort); 3] = [
     ("merge", Sort::Merge),
     ("model", Sort::Model),
     ("move", Sort::Move),
-    ("new", Sort::New),
-    ("not", Sort::Not),
-    ("of", Sort::Of),
-    ("or", Sort::Or),
-    ("plan", Sort::Plan),
+];
+
+const N_WORDS: [(&str, Sort); 2] = [("new", Sort::New), ("not", Sort::Not)];
+
+const O_WORDS: [(&str, Sort); 2] = [("of", Sort::Of), ("or", Sort::Or)];
+
+const P_WORDS: [(&str, Sort); 1] = [("plan", Sort::Plan)];
+
+const R_WORDS: [(&str, Sort); 7] = [
     ("rate", Sort::Rate),
     ("recurrence", Sort::Recurrence),
     ("register", Sort::Register),
@@ -320,6 +243,9 @@ const RESERVED_WORDS: [(&str, Sort); 69] = [
     ("require", Sort::Require),
     ("return", Sort::Return),
     ("rollback", Sort::Rollback),
+];
+
+const S_WORDS: [(&str, Sort); 8] = [
     ("schedule", Sort::Schedule),
     ("sequence", Sort::Sequence),
     ("set", Sort::Set),
@@ -328,11 +254,19 @@ const RESERVED_WORDS: [(&str, Sort); 69] = [
     ("simulate", Sort::Simulate),
     ("spawn", Sort::Spawn),
     ("start", Sort::Start),
+];
+
+const T_WORDS: [(&str, Sort); 3] = [
     ("to", Sort::To),
     ("true", Sort::True),
     ("truth", Sort::Truth),
-    ("until", Sort::Until),
-    ("volume", Sort::Volume),
+];
+
+const U_WORDS: [(&str, Sort); 1] = [("until", Sort::Until)];
+
+const V_WORDS: [(&str, Sort); 1] = [("volume", Sort::Volume)];
+
+const W_WORDS: [(&str, Sort); 3] = [
     ("wait", Sort::Wait),
     ("while", Sort::While),
     ("window", Sort::Window),
@@ -384,12 +318,45 @@ pub fn sort_of_kind(kind: TokenKind, text: &str) -> Sort
     }
 }
 
-/// The sort of a word: a word that is not reserved is a name.
-#[tactic(auto, unfolding(crate::specs::Sorts::word_sort))]
+/// The sort of a word: a word that is not reserved is a name. It is looked up among the reserved words that begin with its
+/// first letter.
+#[tactic(auto, using(crate::proofs::ReservedWords::word_by_letter), unfolding(crate::specs::Sorts::word_sort))]
 fn word_sort(text: &str) -> Sort
     ensures { result ≡ word_sort text.now }
 {
-    sort_in(&RESERVED_WORDS, Sort::Name, text)
+    match text.as_bytes().first() {
+        Some(letter) => sort_in(reserved_from(*letter), Sort::Name, text),
+        None => Sort::Name,
+    }
+}
+
+/// The reserved words that begin with this letter, each with its sort.
+#[tactic(none)]
+fn reserved_from(letter: u8) -> &'static [(&'static str, Sort)]
+    ensures { map (λ entry. (entry.0.now, entry.1)) result.now ≡ reserved_from letter }
+{
+    match letter {
+        b'a' => &A_WORDS,
+        b'c' => &C_WORDS,
+        b'd' => &D_WORDS,
+        b'e' => &E_WORDS,
+        b'f' => &F_WORDS,
+        b'g' => &G_WORDS,
+        b'i' => &I_WORDS,
+        b'k' => &K_WORDS,
+        b'l' => &L_WORDS,
+        b'm' => &M_WORDS,
+        b'n' => &N_WORDS,
+        b'o' => &O_WORDS,
+        b'p' => &P_WORDS,
+        b'r' => &R_WORDS,
+        b's' => &S_WORDS,
+        b't' => &T_WORDS,
+        b'u' => &U_WORDS,
+        b'v' => &V_WORDS,
+        b'w' => &W_WORDS,
+        _ => &NO_WORDS,
+    }
 }
 
 /// The sort of a symbol.

@@ -1,6 +1,4 @@
-use crate::{
-    Mark, Sort, TextError, TokenKind, line, marks_of, object, place_of, text_value, tokens,
-};
+use crate::{Sort, TextError, TokenKind, line, object, place_of, sort_of_kind, text_value, tokens};
 use aerie_base::Place;
 use serde_json::json;
 use std::alloc::Global;
@@ -98,6 +96,35 @@ fn reads_the_longest_session_of_spaces(rt: HostRuntime) {
     assert_eq!(&rt; tokens.len(), 0);
 }
 
+/// The place where no token of a short text begins, if there is one.
+fn bad_place(alloc: Global, text: &str) -> Option<Place> {
+    if text.len() >= 4_294_967_295 {
+        return None;
+    }
+    match tokens(alloc, text) {
+        Err(TextError::BadToken { at }) => Some(place_of(text, at)),
+        _ => None,
+    }
+}
+
+#[test]
+fn places_what_is_no_token(rt: HostRuntime) {
+    let cases = [
+        ("é", 1, 1),
+        ("\"é\" é", 1, 5),
+        ("a // é\n  & b", 2, 3),
+        ("`é\n`\t5x", 2, 3),
+    ];
+    for (text, line, column) in cases {
+        assert_eq!(&rt;
+            bad_place(rt.alloc(), text),
+            Some(Place { line, column }),
+            "of {text}"
+        );
+    }
+    assert_eq!(&rt; bad_place(rt.alloc(), "a // é"), None);
+}
+
 /// The place of a byte, where that is the edge of a character of a short text.
 fn checked_place(text: &str, at: usize) -> Option<Place> {
     if text.len() < 4_294_967_295 && text.is_char_boundary(at) {
@@ -127,30 +154,18 @@ fn counts_lines_and_characters(rt: HostRuntime) {
     }
 }
 
-/// The marks of a short text behind its first tokens, where it has so many tokens.
-fn marks_behind(alloc: Global, text: &str, first: usize) -> Option<Vec<Mark>> {
-    if text.len() >= 4_294_967_295 {
-        return None;
-    }
-    match tokens(alloc, text) {
-        Ok(tokens) => {
-            if first > tokens.len() {
-                return None;
-            }
-            let (_, later) = tokens.as_slice().split_at(first);
-            marks_of(alloc, text, later).ok()
-        }
-        Err(_) => None,
-    }
+/// The sort of the first token of a text.
+fn first_sort(alloc: Global, text: &str) -> Option<Sort> {
+    let tokens = tokens(alloc, text).ok()?;
+    let token = tokens.as_slice().first()?;
+    let word = text.get(token.from..token.to)?;
+    Some(sort_of_kind(token.kind, word))
 }
 
 /// Whether the first token of a text is of this sort.
 fn begins_with(alloc: Global, text: &str, sort: Sort) -> bool {
-    match marks_behind(alloc, text, 0) {
-        Some(marks) => match marks.as_slice().first() {
-            Some(mark) => mark.sort.is(sort),
-            None => false,
-        },
+    match first_sort(alloc, text) {
+        Some(first) => first.is(sort),
         None => false,
     }
 }
@@ -165,77 +180,34 @@ fn odd_one(alloc: Global, cases: &[(&'static str, Sort)]) -> Option<&'static str
     None
 }
 
+/// The reserved words, as the language's guide lists them.
+const RESERVED: &str = "\
+accumulator activity add and at call cardinality client coexistence \
+conflicted constraints count counter daemon delay discrete drop duration \
+during else end enum every expand false for forbid fork from goals if in int \
+keeping let linear load longer merge model move new not of or plan rate \
+recurrence register remove require return rollback schedule sequence set \
+shift show simulate spawn start to true truth until volume wait while window";
+
+/// The first of the words whose sort is not named as the word is written.
+fn odd_word(alloc: Global, words: &'static str) -> Option<&'static str> {
+    for word in words.split(' ') {
+        let name = sort_name(alloc, word);
+        if !name.is_some_and(|name| name.as_str().eq_ignore_ascii_case(word)) {
+            return Some(word);
+        }
+    }
+    None
+}
+
+/// The name of the sort of the first token of a text.
+fn sort_name(alloc: Global, text: &str) -> Option<String> {
+    let sort = first_sort(alloc, text)?;
+    format!(in alloc; "{sort:?}").ok()
+}
+
 /// Texts of one token, each with its sort.
-const SORTS: [(&str, Sort); 105] = [
-    ("accumulator", Sort::Accumulator),
-    ("activity", Sort::Activity),
-    ("add", Sort::Add),
-    ("and", Sort::And),
-    ("at", Sort::At),
-    ("call", Sort::Call),
-    ("cardinality", Sort::Cardinality),
-    ("client", Sort::Client),
-    ("coexistence", Sort::Coexistence),
-    ("conflicted", Sort::Conflicted),
-    ("constraints", Sort::Constraints),
-    ("count", Sort::Count),
-    ("counter", Sort::Counter),
-    ("daemon", Sort::Daemon),
-    ("delay", Sort::Delay),
-    ("discrete", Sort::Discrete),
-    ("drop", Sort::Drop),
-    ("duration", Sort::Duration),
-    ("during", Sort::During),
-    ("else", Sort::Else),
-    ("end", Sort::End),
-    ("enum", Sort::Enum),
-    ("every", Sort::Every),
-    ("expand", Sort::Expand),
-    ("false", Sort::False),
-    ("for", Sort::For),
-    ("forbid", Sort::Forbid),
-    ("fork", Sort::Fork),
-    ("from", Sort::From),
-    ("goals", Sort::Goals),
-    ("if", Sort::If),
-    ("in", Sort::In),
-    ("int", Sort::Int),
-    ("keeping", Sort::Keeping),
-    ("let", Sort::Let),
-    ("linear", Sort::Linear),
-    ("load", Sort::Load),
-    ("longer", Sort::Longer),
-    ("merge", Sort::Merge),
-    ("model", Sort::Model),
-    ("move", Sort::Move),
-    ("new", Sort::New),
-    ("not", Sort::Not),
-    ("of", Sort::Of),
-    ("or", Sort::Or),
-    ("plan", Sort::Plan),
-    ("rate", Sort::Rate),
-    ("recurrence", Sort::Recurrence),
-    ("register", Sort::Register),
-    ("remove", Sort::Remove),
-    ("require", Sort::Require),
-    ("return", Sort::Return),
-    ("rollback", Sort::Rollback),
-    ("schedule", Sort::Schedule),
-    ("sequence", Sort::Sequence),
-    ("set", Sort::Set),
-    ("shift", Sort::Shift),
-    ("show", Sort::Show),
-    ("simulate", Sort::Simulate),
-    ("spawn", Sort::Spawn),
-    ("start", Sort::Start),
-    ("to", Sort::To),
-    ("true", Sort::True),
-    ("truth", Sort::Truth),
-    ("until", Sort::Until),
-    ("volume", Sort::Volume),
-    ("wait", Sort::Wait),
-    ("while", Sort::While),
-    ("window", Sort::Window),
+const SORTS: [(&str, Sort); 36] = [
     ("whiles", Sort::Name),
     ("While", Sort::Name),
     ("_if", Sort::Name),
@@ -279,86 +251,11 @@ const SORTS: [(&str, Sort); 105] = [
 
 #[test]
 fn knows_reserved_words_and_symbols(rt: HostRuntime) {
-    let odd = odd_one(rt.alloc(), &SORTS);
-    assert_eq!(&rt; odd, None);
+    assert_eq!(&rt; odd_word(rt.alloc(), RESERVED), None);
+    assert_eq!(&rt; odd_one(rt.alloc(), &SORTS), None);
     assert!(&rt; !begins_with(rt.alloc(), "duration", Sort::Time));
     assert!(&rt; !begins_with(rt.alloc(), "in", Sort::Name));
     assert!(&rt; !begins_with(rt.alloc(), "->", Sort::Minus));
-}
-
-#[test]
-fn marks_tokens_with_place_and_number(rt: HostRuntime) {
-    // the text, how many tokens are left out in front, and of the last mark the sort, the number, the place, the text
-    let cases = [
-        ("5minx", 0, Sort::Name, 0, 1, 5, "x"),
-        ("x 5min", 1, Sort::Time, 300_000_000, 1, 3, "5min"),
-        (
-            "model m {\n  counter n = 0012",
-            2,
-            Sort::Number,
-            12,
-            2,
-            15,
-            "0012",
-        ),
-        (
-            "1000000000000000000",
-            0,
-            Sort::Number,
-            1_000_000_000_000_000_000,
-            1,
-            1,
-            "1000000000000000000",
-        ),
-        (
-            "1000000000000000us",
-            0,
-            Sort::Time,
-            1_000_000_000_000_000,
-            1,
-            1,
-            "1000000000000000us",
-        ),
-        ("a // é\n\"é\" b", 1, Sort::Name, 0, 2, 5, "b"),
-        ("\"é\n", 0, Sort::Quoted, 0, 1, 1, "none"),
-        ("`é\n\n` while", 0, Sort::While, 0, 3, 3, "while"),
-        ("a\r\n\tb", 0, Sort::Name, 0, 2, 2, "b"),
-        (
-            " a234567890123456789012345678901234567890123456789012345678901234;",
-            1,
-            Sort::Semicolon,
-            0,
-            1,
-            66,
-            ";",
-        ),
-    ];
-    for (text, first, sort, number, line, column, part) in cases {
-        let marks = marks_behind(rt.alloc(), text, first);
-        assert_eq!(&rt; marks.is_some(), part != "none", "of {text}");
-        for marks in marks {
-            for mark in marks.as_slice().last() {
-                assert!(&rt; mark.sort.is(sort), "of {text}");
-                assert_eq!(&rt; mark.number.get(), number, "of {text}");
-                assert_eq!(&rt; mark.at, Place { line, column }, "of {text}");
-                assert_eq!(&rt; text.get(mark.from..mark.to), Some(part), "of {text}");
-            }
-        }
-    }
-}
-
-#[test]
-fn marks_as_many_as_tokens(rt: HostRuntime) {
-    let cases = [
-        ("", 0, 0),
-        ("a b c", 0, 3),
-        ("a b c", 2, 1),
-        ("a b c", 3, 0),
-    ];
-    for (text, first, count) in cases {
-        let marks = marks_behind(rt.alloc(), text, first).expect(&rt, "marks");
-        assert_eq!(&rt; marks.len(), count, "of {text}");
-    }
 }
 
 #[test]

@@ -4,12 +4,12 @@ use Rattle.aerie_base.specs.declared.statements.Stmt.{Stmt}
 use Rattle.aerie_base.specs.statements.Places.{placed, block_lefts, all_lefts, left, block_size}
 use Rattle.aerie_base.specs.statements.Induction.{each}
 use Rattle.body_code.specs.FlatCode.{block_code, body_code}
-use Rattle.body_code.specs.Standing.{Stands, Turns, IsCodeOf}
+use Rattle.body_code.specs.Denoting.{Denotes, JumpsEnd, IsCodeOf}
 use Rattle.body_code.specs.declared.instructions.Instruction.{Instruction}
 use Rattle.body_code.specs.declared.instructions.Instruction.TheVariants.{End}
 use Rattle.body_code.proofs.Lengths.{block_length, lefts_block_length}
-use Rattle.body_code.proofs.StandingCode.{Has, Fine, Shows, has_front, has_back, has_all, fine_both, fine_at, block_shows, stmt_shows}
-use Rattle.body_code.proofs.TurningCode.{HasCode, AllTurn, Turning, code_front, code_all, turn_both, turn_at, block_turn, stmt_turn}
+use Rattle.body_code.proofs.DenotingCode.{Has, Fine, Shows, has_front, has_back, has_all, fine_both, fine_at, block_shows, stmt_shows}
+use Rattle.body_code.proofs.JumpingCode.{HasCode, AllTurn, Turning, code_front, code_all, turn_both, turn_at, block_turn, stmt_turn}
 
 -- ---- a body's code
 
@@ -35,8 +35,8 @@ is_code body code e =
     record {
       begins = part.1 ∙ append-nil (placed 0 body);
       places = long;
-      stands = λ at instruction k. (let z : 0 + at ≡ at = omega arith in subst (λ outer. Stands left_at places outer instruction) z (fine_at left_at places 0 at code instruction fine' k));
-      turns = λ at instruction k. (let z : 0 + at ≡ at = omega arith in subst (λ outer. Turns code outer instruction) z (turn_at code 0 at code instruction turn' k));
+      denotes = λ at instruction k. (let z : 0 + at ≡ at = omega arith in subst (λ outer. Denotes left_at places outer instruction) z (fine_at left_at places 0 at code instruction fine' k));
+      jumps_end = λ at instruction k. (let z : 0 + at ≡ at = omega arith in subst (λ outer. JumpsEnd code outer instruction) z (turn_at code 0 at code instruction turn' k));
     }
 
 -- ---- what is written for a body

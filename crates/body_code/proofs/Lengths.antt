@@ -1,9 +1,8 @@
--- A statement has as many instructions, and as many lists of what is left, as places, and at most two places for each
--- statement in it.
-use Rattle.std.proofs.Common.{◌≡◌, ℕ, ◌+◌, ◌*◌, ◌≤◌, List, [], ◌∷◌, ◌++◌, refl, sym, ap, ◌∙◌, arith, length, length-append}
+-- A statement has as many instructions, and as many lists of what is left, as places.
+use Rattle.std.proofs.Common.{◌≡◌, ℕ, ◌+◌, List, [], ◌∷◌, ◌++◌, refl, sym, ap, ◌∙◌, arith, length, length-append}
 use Rattle.aerie_base.specs.declared.statements.Stmt.{Stmt, While}
-use Rattle.aerie_base.specs.statements.Places.{Placed, placed, lefts, block_lefts, size, block_size, count, block_count}
-use Rattle.aerie_base.specs.statements.PlaceForms.{plain_of, size_If, size_While, count_If, count_While, lefts_If, lefts_While}
+use Rattle.aerie_base.specs.statements.Places.{Placed, placed, lefts, block_lefts, size, block_size}
+use Rattle.aerie_base.specs.statements.PlaceForms.{plain_of, size_If, size_While, lefts_If, lefts_While}
 use Rattle.aerie_base.specs.statements.Induction.{AllOf, each, stmt_ind}
 use Rattle.body_code.specs.FlatCode.{code_of, block_code}
 use Rattle.body_code.specs.declared.instructions.Instruction.TheVariants.{Jump}
@@ -38,18 +37,3 @@ lefts_length = stmt_ind (λ stmt. (at : ℕ) (behind : List Placed) → length (
 
 pub lefts_block_length : (stmts : List Stmt) (at : ℕ) (behind : List Placed) → length (block_lefts stmts at behind) ≡ block_size stmts
 lefts_block_length stmts = block_lefts_length stmts (each _ lefts_length stmts)
-
--- ---- at most two places a statement
-
-block_few : (stmts : List Stmt) → AllOf (λ stmt. size stmt ≤ 2 * count stmt) stmts → block_size stmts ≤ 2 * block_count stmts
-block_few [] h = omega arith
-block_few (stmt ∷ stmts) h = omega (arith, h.0, block_few stmts h.1)
-
-few_places : (stmt : Stmt) → size stmt ≤ 2 * count stmt
-few_places = stmt_ind (λ stmt. size stmt ≤ 2 * count stmt)
-    (λ stmt h. let p = plain_of stmt h in omega (arith, p.size_is, p.count_is))
-    (λ test block other in_block in_other. omega (arith, size_If test block other, count_If test block other, block_few block in_block, block_few other in_other))
-    (λ test block in_block. omega (arith, size_While test block, count_While test block, block_few block in_block))
-
-pub few : (stmts : List Stmt) → block_size stmts ≤ 2 * block_count stmts
-few stmts = block_few stmts (each _ few_places stmts)

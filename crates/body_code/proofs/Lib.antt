@@ -1,7 +1,7 @@
 pub mod FlatForms
 pub mod Lengths
-pub mod StandingCode
-pub mod TurningCode
+pub mod DenotingCode
+pub mod JumpingCode
 pub mod CodeOfBody
 pub mod Rooms
 pub mod Patches

@@ -9,8 +9,10 @@ use Rattle.aerie_base.specs.models.Cells.{NamedCells}
 use Rattle.aerie_base.specs.declared.models.model.Parts.{Parts}
 use Rattle.aerie_base.specs.declared.statements.Stmt.{Stmt}
 use Rattle.aerie_base.specs.declared.values.Kind.{Kind}
-use Rattle.aerie_base.specs.models.Activities.{is_activity, is_daemon, activity_setting, are_parameters, are_requires, is_result, parameter_kinds}
-use Rattle.aerie_base.specs.models.Bodies.{Setting, block_checked, body_depth, has_slots, is_body}
+use Rattle.aerie_base.specs.models.Activities.{is_activity, is_daemon, activity_setting, daemon_setting, are_parameters, are_requires, is_result}
+use Rattle.aerie_base.specs.models.Signatures.{Signature, parameter_kinds, signatures_of}
+use Rattle.aerie_base.specs.models.Bodies.{Setting, block_checked, has_slots, is_body}
+use Rattle.aerie_base.specs.models.Depth.{body_depth}
 use Rattle.aerie_base.specs.models.Limits.{statement_limit, type_limit, daemon_limit, depth_limit}
 use Rattle.aerie_base.specs.models.ValidModel.{valid_model, has_good_activities, has_good_daemons, enum_names, cell_names}
 use Rattle.aerie_base.specs.models.ValidParts.{are_good}
@@ -46,30 +48,30 @@ few_in_body setting parameters slots body h =
     let few : IsTrue (nat_le (block_count body) statement_limit) = middle_of (has_slots slots (block_checked setting body (map Some parameters))) (nat_le (block_count body) statement_limit) (nat_le (body_depth body) depth_limit) h in
     grind arith
 
-few_in_activity : (enums : List EnumType) (cells : NamedCells) (activities : List Activity) (taken : List (List ℕ)) (activity : Activity) → IsTrue (is_activity enums cells activities taken activity) → block_count activity.body ≤ statement_limit
+few_in_activity : (enums : List EnumType) (cells : NamedCells) (signatures : List Signature) (taken : List (List ℕ)) (activity : Activity) → IsTrue (is_activity enums cells signatures taken activity) → block_count activity.body ≤ statement_limit
 unfolding is_activity
-few_in_activity enums cells activities taken activity h =
-    few_in_body (activity_setting enums cells activities activity) (parameter_kinds activity) activity.slots activity.body (fourth_of (are_parameters enums taken activity) (are_requires enums activity) (is_result enums activity.result activity.body) _ h)
+few_in_activity enums cells signatures taken activity h =
+    few_in_body (activity_setting enums cells signatures activity) (parameter_kinds activity) activity.slots activity.body (fourth_of (are_parameters enums taken activity) (are_requires enums activity) (is_result enums activity.result activity.body) _ h)
 
-few_in_daemon : (enums : List EnumType) (cells : NamedCells) (activities : List Activity) (daemon : Daemon) → IsTrue (is_daemon enums cells activities daemon) → block_count daemon.body ≤ statement_limit
+few_in_daemon : (enums : List EnumType) (cells : NamedCells) (signatures : List Signature) (daemon : Daemon) → IsTrue (is_daemon enums cells signatures daemon) → block_count daemon.body ≤ statement_limit
 unfolding is_daemon
-few_in_daemon enums cells activities daemon h =
-    few_in_body (record { enums = enums; cells = cells; activities = activities; parameters = 0; result = None }) [] daemon.slots daemon.body h
+few_in_daemon enums cells signatures daemon h =
+    few_in_body (daemon_setting enums cells signatures) [] daemon.slots daemon.body h
 
 pub few_in_activities : (model : Parts) → IsTrue (valid_model model) → All (λ activity. block_count activity.body ≤ statement_limit) model.activities
 unfolding has_good_activities
 few_in_activities model valid =
-    let test : Activity → Bool = is_activity model.enums model.cells model.activities (enum_names model ++ cell_names model) in
+    let test : Activity → Bool = is_activity model.enums model.cells (signatures_of model.activities) (enum_names model ++ cell_names model) in
     each_passes test (λ activity. block_count activity.body ≤ statement_limit)
-    (λ activity h. few_in_activity model.enums model.cells model.activities (enum_names model ++ cell_names model) activity h)
+    (λ activity h. few_in_activity model.enums model.cells (signatures_of model.activities) (enum_names model ++ cell_names model) activity h)
     model.activities (second_of (nat_le (length model.activities) type_limit) (list_all test model.activities) (are_good model valid).activities)
 
 pub few_in_daemons : (model : Parts) → IsTrue (valid_model model) → All (λ daemon. block_count daemon.body ≤ statement_limit) model.daemons
 unfolding has_good_daemons
 few_in_daemons model valid =
-    let test : Daemon → Bool = is_daemon model.enums model.cells model.activities in
+    let test : Daemon → Bool = is_daemon model.enums model.cells (signatures_of model.activities) in
     each_passes test (λ daemon. block_count daemon.body ≤ statement_limit)
-    (λ daemon h. few_in_daemon model.enums model.cells model.activities daemon h)
+    (λ daemon h. few_in_daemon model.enums model.cells (signatures_of model.activities) daemon h)
     model.daemons (second_of (nat_le (length model.daemons) daemon_limit) (list_all test model.daemons) (are_good model valid).daemons)
 
 -- ---- the place of a body's code

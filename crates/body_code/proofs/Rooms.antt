@@ -10,7 +10,8 @@ use Rattle.aerie_base.specs.statements.PlaceForms.{size_If, size_While}
 use Rattle.body_code.specs.FlatCode.{code_of, block_code}
 use Rattle.body_code.specs.declared.instructions.Instruction.{Instruction}
 use Rattle.body_code.specs.declared.instructions.Instruction.TheVariants.{End}
-use Rattle.body_code.proofs.Lengths.{few, block_length, code_length}
+use Rattle.aerie_base.specs.statements.Sizes.{block_few}
+use Rattle.body_code.proofs.Lengths.{block_length, code_length}
 
 -- the length after a block
 pub after_block : (code code_after : List Instruction) (block : List Stmt) → code_after ≡ code ++ block_code block (length code) → length code_after ≡ length code + block_size block
@@ -53,7 +54,7 @@ body_less stmt test block also_given n e k code_after = omega (arith, ap size-St
 
 -- a body of at most so many statements has room
 pub room_all : (body : List Stmt) (code : List Instruction) → code ≡ [] → block_count body ≤ statement_limit → length code + block_size body < 4294967296
-room_all body code e h = omega (arith, ap length e, few body)
+room_all body code e h = omega (arith, ap length e, block_few body)
 
 -- the room after a turn of the loop over a block
 pub turn_room : (stmts : List Stmt) (index : ℕ) (stmt : Stmt) (code code_after : List Instruction) (m : ℕ) → index < length stmts → stmt ≡ get_or stmts index stmt → code_after ≡ code ++ code_of stmt (length code) → length code + block_size (drop index stmts) ≡ m → length code_after + block_size (drop (index + 1) stmts) ≡ m

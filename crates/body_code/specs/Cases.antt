@@ -7,7 +7,7 @@ use Rattle.aerie_base.specs.declared.statements.Stmt.{Stmt, Delay, If, While, Re
 use Rattle.aerie_base.specs.declared.statements.Stmt.TheBlock.{hidden-the_row-Stmt-0, shape-the_row-Stmt-0}
 use Rattle.aerie_base.specs.statements.Places.{placed, size, lefts, left}
 use Rattle.body_code.specs.FlatCode.{code_of, body_code}
-use Rattle.body_code.specs.Standing.{Tests, chooses, repeats}
+use Rattle.body_code.specs.Denoting.{Tests, chooses, repeats}
 use Rattle.body_code.specs.declared.instructions.Instruction.TheVariants.{Do, Test, Jump, End}
 
 abbrev on : Expr

@@ -1,5 +1,5 @@
 pub mod FlatCode
-pub mod Standing
+pub mod Denoting
 pub mod ModelCodes
 pub mod Cases
 pub mod SmallModels

@@ -4,7 +4,7 @@ use Rattle.aerie_base.specs.declared.models.Activity.{Activity}
 use Rattle.aerie_base.specs.declared.models.Daemon.{Daemon}
 use Rattle.aerie_base.specs.declared.models.model.Parts.{Parts}
 use Rattle.body_code.specs.FlatCode.{body_code}
-use Rattle.body_code.specs.Standing.{IsCodeOf}
+use Rattle.body_code.specs.Denoting.{IsCodeOf}
 use Rattle.body_code.specs.declared.instructions.Instruction.{Instruction}
 
 abbrev pub activity_codes : List Activity → List (List Instruction)

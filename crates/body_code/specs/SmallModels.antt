@@ -4,7 +4,8 @@ use Rattle.aerie_base.specs.declared.statements.Stmt.{Return}
 use Rattle.aerie_base.specs.declared.models.model.Parts.{Parts}
 use Rattle.aerie_base.specs.models.ValidModel.{valid_model, has_good_names, has_good_enums, has_good_cells, has_good_resources, has_good_activities, has_good_daemons}
 use Rattle.aerie_base.specs.models.Activities.{is_activity, is_daemon, is_return}
-use Rattle.aerie_base.specs.models.Bodies.{checked, stmt_depth, is_body}
+use Rattle.aerie_base.specs.models.Bodies.{checked, is_body}
+use Rattle.aerie_base.specs.models.Depth.{stmt_depth}
 use Rattle.aerie_base.specs.statements.Places.{count}
 
 abbrev pub small_parts : List ℕ → List ℕ → Parts

@@ -1,7 +1,7 @@
 ghost use Rattle.std.specs.Prelude.{◌≡◌, ◌<◌, ℕ, List as Items, length, slice_get, Some};
 ghost use Rattle.aerie_base.specs.statements.Places.{left};
 ghost use Rattle.aerie_base.specs.declared.statements.Stmt.{Stmt};
-ghost use Rattle.body_code.specs.Standing.{Stands, Turns, IsCodeOf};
+ghost use Rattle.body_code.specs.Denoting.{Denotes, JumpsEnd, IsCodeOf};
 
 use crate::instructions::Instruction;
 use aerie_base::List;
@@ -43,8 +43,8 @@ impl Code {
     pub fn next(&self, at: u32) -> &Instruction
         requires place { at < length self.now }
         ensures value { slice_get self.now at ≡ Some result.now }
-        ensures stands { (body : Items Stmt) → IsCodeOf body self.now → Stands (left body) (length self.now) at result.now }
-        ensures turns { (body : Items Stmt) → IsCodeOf body self.now → Turns self.now at result.now }
+        ensures denotes { (body : Items Stmt) → IsCodeOf body self.now → Denotes (left body) (length self.now) at result.now }
+        ensures jumps_end { (body : Items Stmt) → IsCodeOf body self.now → JumpsEnd self.now at result.now }
     {
         &self.instructions.as_slice()[at as usize]
     }

@@ -2,7 +2,7 @@ ghost use Rattle.std.specs.Prelude.{◌≡◌, ◌≤◌, IfOk};
 ghost use Rattle.aerie_base.specs.models.Limits.{statement_limit};
 ghost use Rattle.aerie_base.specs.statements.Places.{block_count};
 ghost use Rattle.body_code.specs.FlatCode.{body_code};
-ghost use Rattle.body_code.specs.Standing.{IsCodeOf};
+ghost use Rattle.body_code.specs.Denoting.{IsCodeOf};
 
 use crate::codes::Code;
 use crate::emitting::{emit_block, put};
@@ -14,7 +14,7 @@ use std::alloc::Global;
 /// the statements left there. It takes time and memory linear in the body.
 pub fn compile(alloc: Global, body: &[Stmt]) -> Result<Code, OutOfMemory>
     requires few { block_count body.now ≤ statement_limit }
-    ensures stands { IfOk result (λ code. IsCodeOf body.now code) }
+    ensures denotes { IfOk result (λ code. IsCodeOf body.now code) }
     ensures flat { IfOk result (λ code. code ≡ body_code body.now) }
 {
     let mut code = Vec::new(alloc);

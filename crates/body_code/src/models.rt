@@ -40,7 +40,7 @@ fn add_daemons(alloc: Global, codes: &mut List<Code>, daemons: &[Daemon]) -> Res
 /// takes time and memory linear in the bodies.
 pub fn compile_all(alloc: Global, model: &Model) -> Result<List<Code>, OutOfMemory>
     ensures flat { IfOk result (λ codes. codes ≡ model_codes model.now) }
-    ensures stands { IfOk result (λ codes. AreCodesOf model.now codes) }
+    ensures denotes { IfOk result (λ codes. AreCodesOf model.now codes) }
 {
     let mut codes = List::new(alloc);
     add_activities(alloc, &mut codes, model.activities())?;

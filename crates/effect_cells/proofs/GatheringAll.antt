@@ -6,7 +6,7 @@ use Rattle.std.proofs.lemmas.List.{length-set}
 use Rattle.effect_cells.specs.Worth.{in_front, beside, magnitude}
 use Rattle.effect_cells.specs.States.{is_of_kind}
 use Rattle.effect_cells.specs.Cells.{accepts}
-use Rattle.effect_cells.specs.Gathering.{added, Gathers, GatherAll, AreReady, HaveRoom, pending_at, state_at}
+use Rattle.effect_cells.specs.Gathering.{gathered_with, Gathers, GatherAll, AreReady, HaveRoom, pending_at, state_at}
 use Rattle.effect_cells.specs.declared.effects.Effect.{Effect}
 use Rattle.effect_cells.specs.declared.effects.CellState.{CellState}
 use Rattle.effect_cells.specs.declared.pending.Pending.{Pending}
@@ -19,14 +19,14 @@ entered_all states now pending ready = record {
   each = λ cell within. entered (state_at states cell) now (pending_at pending cell) (ready.suit cell within) (ready.past cell within);
 }
 
-pub child_all : (states : List CellState) (begun now next size more : ℕ) (worth child : ℕ → Option Effect) (before middle after : List Pending) →
-    GatherAll states begun now worth size before middle → GatherAll states now next child more middle after →
-    GatherAll states begun next (λ cell. beside (child cell) (worth cell)) (more + size) before after
-child_all states begun now next size more worth child before middle after g h = record {
+pub child_all : (states : List CellState) (entered_at now next size more : ℕ) (worth child : ℕ → Option Effect) (before middle after : List Pending) →
+    GatherAll states entered_at now worth size before middle → GatherAll states now next child more middle after →
+    GatherAll states entered_at next (λ cell. beside (child cell) (worth cell)) (more + size) before after
+child_all states entered_at now next size more worth child before middle after g h = record {
   order = omega (arith, g.order, h.order);
   same = h.same ∙ g.same;
   each = λ cell within.
-      with_child (state_at states cell) begun now next size more (worth cell) (child cell) _ _ _ g.order (g.each cell within)
+      with_child (state_at states cell) entered_at now next size more (worth cell) (child cell) _ _ _ g.order (g.each cell within)
       (h.each cell (rw g.same within));
 }
 
@@ -42,11 +42,11 @@ default_of [] i d within = absurd (omega arith)
 default_of (x ∷ xs) zero d within = refl
 default_of (x ∷ xs) (suc i) d within = default_of xs i d (omega arith)
 
-pub effect_all : (states : List CellState) (begun now size : ℕ) (worth : ℕ → Option Effect) (on : ℕ) (e : Effect) (before middle : List Pending) →
-    accepts states on e ≡ true → length middle ≡ length states → GatherAll states begun now worth size before middle →
-    GatherAll states begun (now + 1) (λ cell. if nat_eq on cell then in_front e (worth cell) else worth cell) (magnitude e + size) before
-    (set middle on (added (pending_at middle on) e begun now))
-effect_all states begun now size worth on e before middle ok long g = record {
+pub effect_all : (states : List CellState) (entered_at now size : ℕ) (worth : ℕ → Option Effect) (on : ℕ) (e : Effect) (before middle : List Pending) →
+    accepts states on e ≡ true → length middle ≡ length states → GatherAll states entered_at now worth size before middle →
+    GatherAll states entered_at (now + 1) (λ cell. if nat_eq on cell then in_front e (worth cell) else worth cell) (magnitude e + size) before
+    (set middle on (gathered_with (pending_at middle on) e entered_at now))
+effect_all states entered_at now size worth on e before middle ok long g = record {
   order = omega (arith, g.order);
   same = length-set middle on _ ∙ g.same;
   each = λ cell within. go cell within (nat_eq on cell) refl;
@@ -62,36 +62,36 @@ effect_all states begun now size worth on e before middle ok long g = record {
     other_cell cell t = grind (arith, nat_tests)
 
     go : (cell : ℕ) → cell < length before → (v : Bool) → nat_eq on cell ≡ v →
-        Gathers (state_at states cell) begun (now + 1) (if nat_eq on cell then in_front e (worth cell) else worth cell) (magnitude e + size)
-        (pending_at before cell) (pending_at (set middle on (added (pending_at middle on) e begun now)) cell)
+        Gathers (state_at states cell) entered_at (now + 1) (if nat_eq on cell then in_front e (worth cell) else worth cell) (magnitude e + size)
+        (pending_at before cell) (pending_at (set middle on (gathered_with (pending_at middle on) e entered_at now)) cell)
     go cell within true t =
         let here : cell ≡ on = same_cell cell t in
         let inside : on < length middle = omega (arith, there.0) in
         rw (t, here, get_or-set_same)
-        (with_effect (state_at states on) begun now size (worth on) e (pending_at before on) (pending_at middle on) g.order there.1 (g.each on (rw here at within)))
+        (with_effect (state_at states on) entered_at now size (worth on) e (pending_at before on) (pending_at middle on) g.order there.1 (g.each on (rw here at within)))
     go cell within false t =
         let elsewhere : cell ≢ on = other_cell cell t in
         rw (t, get_or-set_other)
-        (on_another (state_at states cell) begun now size (magnitude e) (worth cell) (pending_at before cell) (pending_at middle cell) (g.each cell within))
+        (on_another (state_at states cell) entered_at now size (magnitude e) (worth cell) (pending_at before cell) (pending_at middle cell) (g.each cell within))
 
-pub same_worth : (states : List CellState) (begun now size other_size : ℕ) (worth other : ℕ → Option Effect) (before after : List Pending) →
+pub same_worth : (states : List CellState) (entered_at now size other_size : ℕ) (worth other : ℕ → Option Effect) (before after : List Pending) →
     ((cell : ℕ) → worth cell ≡ other cell) → size ≡ other_size →
-    GatherAll states begun now worth size before after → GatherAll states begun now other other_size before after
-same_worth states begun now size other_size worth other before after w s g = record {
+    GatherAll states entered_at now worth size before after → GatherAll states entered_at now other other_size before after
+same_worth states entered_at now size other_size worth other before after w s g = record {
   order = g.order;
   same = g.same;
   each = λ cell within. let here : worth cell ≡ other cell = w cell in rw (← here, ← s) (g.each cell within);
 }
 
-pub ready_after : (states : List CellState) (begun now size : ℕ) (worth : ℕ → Option Effect) (before after : List Pending) →
-    GatherAll states begun now worth size before after → AreReady states now after
-ready_after states begun now size worth before after g = record {
+pub ready_after : (states : List CellState) (entered_at now size : ℕ) (worth : ℕ → Option Effect) (before after : List Pending) →
+    GatherAll states entered_at now worth size before after → AreReady states now after
+ready_after states entered_at now size worth before after g = record {
   suit = λ cell within. (g.each cell (rw g.same at within)).suits_after;
   past = λ cell within some. (g.each cell (rw g.same at within)).past some;
 }
 
-pub room_after : (states : List CellState) (begun now size more whole limit : ℕ) (worth : ℕ → Option Effect) (before after : List Pending) →
-    more + size ≤ whole → HaveRoom whole limit before → GatherAll states begun now worth size before after → HaveRoom more limit after
-room_after states begun now size more whole limit worth before after fits room g cell within =
+pub room_after : (states : List CellState) (entered_at now size more whole limit : ℕ) (worth : ℕ → Option Effect) (before after : List Pending) →
+    more + size ≤ whole → HaveRoom whole limit before → GatherAll states entered_at now worth size before after → HaveRoom more limit after
+room_after states entered_at now size more whole limit worth before after fits room g cell within =
     let old : cell < length before = rw g.same at within in
     omega (arith, room cell old, (g.each cell old).small)

@@ -7,7 +7,7 @@ use Rattle.effect_cells.specs.Changes.{change_in_turn, change_beside}
 use Rattle.effect_cells.specs.ChangeLaws.{sides_associate}
 use Rattle.effect_cells.specs.Worth.{effect_in_turn, effect_beside, in_front, beside, magnitude, magnitude_if_any}
 use Rattle.effect_cells.specs.States.{is_of_kind}
-use Rattle.effect_cells.specs.Gathering.{is_nothing, is_blank, suits, added, Gathers}
+use Rattle.effect_cells.specs.Gathering.{is_nothing, is_blank, suits, gathered_with, Gathers}
 use Rattle.effect_cells.specs.declared.registers.Change.{Change}
 use Rattle.effect_cells.specs.declared.registers.Change.TheVariants.{Nothing, Set, Mark, SetMark}
 use Rattle.effect_cells.specs.declared.effects.Effect.{Effect}
@@ -150,7 +150,7 @@ suits_sides s e (Some z) p = kind_beside s e z p
 -- ---- one cell
 
 -- as the walk enters a tree, the tree has nothing yet
-pub entered : (s : CellState) (now : ℕ) (one : Pending) → suits s one.effect ≡ true → (is_blank one.effect ≡ false → one.since < now) →
+pub entered : (s : CellState) (now : ℕ) (one : Pending) → suits s one.effect ≡ true → (is_blank one.effect ≡ false → one.gathered_at < now) →
     Gathers s now now None 0 one one
 entered s now one suit past = record {
   effect = refl;
@@ -164,9 +164,9 @@ entered s now one suit past = record {
 }
 
 -- an effect on another cell
-pub on_another : (s : CellState) (begun now size more : ℕ) (worth : Option Effect) (before after : Pending) → Gathers s begun now worth size before after →
-    Gathers s begun (now + 1) worth (more + size) before after
-on_another s begun now size more worth before after g = record {
+pub on_another : (s : CellState) (entered_at now size more : ℕ) (worth : Option Effect) (before after : Pending) → Gathers s entered_at now worth size before after →
+    Gathers s entered_at (now + 1) worth (more + size) before after
+on_another s entered_at now size more worth before after g = record {
   effect = g.effect;
   small = omega (arith, g.small);
   suits_before = g.suits_before;
@@ -178,10 +178,10 @@ on_another s begun now size more worth before after g = record {
 }
 
 -- a tree within the tree
-pub with_child : (s : CellState) (begun now next size more : ℕ) (worth child : Option Effect) (before middle after : Pending) → begun ≤ now →
-    Gathers s begun now worth size before middle → Gathers s now next child more middle after →
-    Gathers s begun next (beside child worth) (more + size) before after
-with_child s begun now next size more worth child before middle after order g h =
+pub with_child : (s : CellState) (entered_at now next size more : ℕ) (worth child : Option Effect) (before middle after : Pending) → entered_at ≤ now →
+    Gathers s entered_at now worth size before middle → Gathers s now next child more middle after →
+    Gathers s entered_at next (beside child worth) (more + size) before after
+with_child s entered_at now next size more worth child before middle after order g h =
     let inner : suits s (beside worth before.effect) ≡ true = rw (← g.effect) g.suits_after in
     let outer : suits s (beside child (beside worth before.effect)) ≡ true = rw (← g.effect, ← h.effect) h.suits_after in
     let middle_some : is_blank before.effect ≡ false → is_blank middle.effect ≡ false = λ some. rw g.effect (still_something s worth before.effect inner g.suits_before some) in
@@ -196,7 +196,7 @@ with_child s begun now next size more worth child before middle after order g h 
       past = h.past;
     }
   where
-    fresh_within : (v : Bool) → is_blank middle.effect ≡ v → is_blank before.effect ≡ true → is_blank after.effect ≡ false → begun ≤ after.since
+    fresh_within : (v : Bool) → is_blank middle.effect ≡ v → is_blank before.effect ≡ true → is_blank after.effect ≡ false → entered_at ≤ after.gathered_at
     fresh_within true e none some = omega (arith, h.fresh e some)
     fresh_within false e none some = rw (h.kept e) (g.fresh none e)
 
@@ -207,10 +207,10 @@ above : (a b : ℕ) → nat_le a b ≡ false → b < a
 above a b e = grind (arith, nat_tests)
 
 -- an effect on the cell
-pub with_effect : (s : CellState) (begun now size : ℕ) (worth : Option Effect) (e : Effect) (before middle : Pending) → begun ≤ now → is_of_kind s e ≡ true →
-    Gathers s begun now worth size before middle →
-    Gathers s begun (now + 1) (in_front e worth) (magnitude e + size) before (added middle e begun now)
-with_effect s begun now size worth e before middle order kind g = first (is_blank middle.effect) refl
+pub with_effect : (s : CellState) (entered_at now size : ℕ) (worth : Option Effect) (e : Effect) (before middle : Pending) → entered_at ≤ now → is_of_kind s e ≡ true →
+    Gathers s entered_at now worth size before middle →
+    Gathers s entered_at (now + 1) (in_front e worth) (magnitude e + size) before (gathered_with middle e entered_at now)
+with_effect s entered_at now size worth e before middle order kind g = first (is_blank middle.effect) refl
   where
     inner : suits s (beside worth before.effect) ≡ true
     inner = rw (← g.effect) g.suits_after
@@ -222,7 +222,7 @@ with_effect s begun now size worth e before middle order kind g = first (is_blan
     nothing_before none true b = b
     nothing_before none false b = absurd (false≢true (sym (middle_some b) ∙ none))
 
-    here : is_blank middle.effect ≡ true → Gathers s begun (now + 1) (in_front e worth) (magnitude e + size) before (record { effect = Some e; since = now })
+    here : is_blank middle.effect ≡ true → Gathers s entered_at (now + 1) (in_front e worth) (magnitude e + size) before (record { effect = Some e; gathered_at = now })
     here none =
         let before_none : is_blank before.effect ≡ true = nothing_before none (is_blank before.effect) refl in
         record {
@@ -236,12 +236,12 @@ with_effect s begun now size worth e before middle order kind g = first (is_blan
           past = λ some. omega arith;
         }
 
-    none_before : begun ≤ middle.since → is_blank middle.effect ≡ false → (v : Bool) → is_blank before.effect ≡ v → is_blank before.effect ≡ true
+    none_before : entered_at ≤ middle.gathered_at → is_blank middle.effect ≡ false → (v : Bool) → is_blank before.effect ≡ v → is_blank before.effect ≡ true
     none_before le some true b = b
     none_before le some false b = absurd (omega (arith, g.earlier b, g.kept b))
 
-    behind : is_blank middle.effect ≡ false → begun ≤ middle.since →
-        Gathers s begun (now + 1) (in_front e worth) (magnitude e + size) before (record { effect = in_front e middle.effect; since = middle.since })
+    behind : is_blank middle.effect ≡ false → entered_at ≤ middle.gathered_at →
+        Gathers s entered_at (now + 1) (in_front e worth) (magnitude e + size) before (record { effect = in_front e middle.effect; gathered_at = middle.gathered_at })
     behind some le =
         let before_none : is_blank before.effect ≡ true = none_before le some (is_blank before.effect) refl in
         record {
@@ -255,12 +255,12 @@ with_effect s begun now size worth e before middle order kind g = first (is_blan
           past = λ m. omega (arith, g.past some);
         }
 
-    some_before : middle.since < begun → is_blank middle.effect ≡ false → (v : Bool) → is_blank before.effect ≡ v → is_blank before.effect ≡ false
+    some_before : middle.gathered_at < entered_at → is_blank middle.effect ≡ false → (v : Bool) → is_blank before.effect ≡ v → is_blank before.effect ≡ false
     some_before lt some false b = b
     some_before lt some true b = absurd (omega (arith, g.fresh b some))
 
-    apart : is_blank middle.effect ≡ false → middle.since < begun →
-        Gathers s begun (now + 1) (in_front e worth) (magnitude e + size) before (record { effect = beside (Some e) middle.effect; since = middle.since })
+    apart : is_blank middle.effect ≡ false → middle.gathered_at < entered_at →
+        Gathers s entered_at (now + 1) (in_front e worth) (magnitude e + size) before (record { effect = beside (Some e) middle.effect; gathered_at = middle.gathered_at })
     apart some lt =
         let before_some : is_blank before.effect ≡ false = some_before lt some (is_blank before.effect) refl in
         record {
@@ -274,10 +274,10 @@ with_effect s begun now size worth e before middle order kind g = first (is_blan
           past = λ m. omega (arith, g.past some);
         }
 
-    second : is_blank middle.effect ≡ false → (v : Bool) → nat_le begun middle.since ≡ v → Gathers s begun (now + 1) (in_front e worth) (magnitude e + size) before (added middle e begun now)
-    second some true t = rw (some, t) (behind some (at_most begun middle.since t))
-    second some false t = rw (some, t) (apart some (above begun middle.since t))
+    second : is_blank middle.effect ≡ false → (v : Bool) → nat_le entered_at middle.gathered_at ≡ v → Gathers s entered_at (now + 1) (in_front e worth) (magnitude e + size) before (gathered_with middle e entered_at now)
+    second some true t = rw (some, t) (behind some (at_most entered_at middle.gathered_at t))
+    second some false t = rw (some, t) (apart some (above entered_at middle.gathered_at t))
 
-    first : (v : Bool) → is_blank middle.effect ≡ v → Gathers s begun (now + 1) (in_front e worth) (magnitude e + size) before (added middle e begun now)
+    first : (v : Bool) → is_blank middle.effect ≡ v → Gathers s entered_at (now + 1) (in_front e worth) (magnitude e + size) before (gathered_with middle e entered_at now)
     first true none = rw none (here none)
-    first false some = second some (nat_le begun middle.since) refl
+    first false some = second some (nat_le entered_at middle.gathered_at) refl

@@ -8,6 +8,7 @@ use Rattle.aerie_base.specs.declared.models.EnumType.{EnumType}
 use Rattle.aerie_base.specs.declared.models.CellStart.{CellStart}
 use Rattle.aerie_base.specs.declared.models.CellStart.TheVariants.{Counter, Register, Accumulator}
 use Rattle.aerie_base.specs.declared.models.model.Parts.{Parts}
+use Rattle.aerie_base.specs.Ranges.{is_number, is_rate}
 use Rattle.aerie_base.specs.models.Cells.{is_cell}
 use Rattle.aerie_base.specs.models.ValidModel.{valid_model, has_good_cells}
 use Rattle.aerie_base.specs.models.ValidParts.{are_good}
@@ -20,7 +21,7 @@ both a b h = (grind arith, grind arith)
 begins : (enums : List EnumType) (cell : CellStart) → is_cell enums cell ≡ true → begins_in_range cell ≡ true
 begins enums (Counter number) good = refl
 begins enums (Register kind value) good = refl
-begins enums (Accumulator volume rate) good = good
+begins enums (Accumulator volume rate) good = (both (is_number volume) (is_rate rate) good).1
 
 all_begin : (enums : List EnumType) (cells : List (Name × CellStart)) → list_all (λ cell. is_cell enums cell.1) cells ≡ true → list_all (λ cell. begins_in_range cell.1) cells ≡ true
 all_begin enums [] good = refl

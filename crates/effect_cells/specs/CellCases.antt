@@ -1,7 +1,7 @@
 -- Worked cases: what trees of effects do to cells, and the first cell that leaves its range.
 use Rattle.std.specs.Prelude.{◌≡◌, pos, negsuc, true, false, List, [], ◌∷◌, None, Ok, Err, refl}
 use Rattle.aerie_base.specs.declared.values.Value.TheVariants.{Int}
-use Rattle.effect_cells.specs.Cells.{committed, passed, emitted, verdict, fits_cells}
+use Rattle.effect_cells.specs.Cells.{committed_cells, passed, emitted, verdict, fits_cells}
 use Rattle.effect_cells.specs.Worth.{worth_of, magnitude_of}
 use Rattle.effect_cells.specs.declared.registers.Change.TheVariants as change
 use Rattle.effect_cells.specs.declared.effects.Effect.TheVariants.{Add, Register, Flow}
@@ -27,7 +27,7 @@ abbrev pub two_equal_sets : Tree
 two_equal_sets =
     tree (child (Emit 0 (Register (change.Set (Int (pos 7)))) ∷ []) ∷ child (Emit 0 (Register (change.Set (Int (pos 7)))) ∷ []) ∷ [])
 
-pub equal_sets_conflict : committed register_and_counter two_equal_sets ≡ state.Register (Int (pos 0)) true ∷ state.Counter (pos 0) ∷ []
+pub equal_sets_conflict : committed_cells register_and_counter two_equal_sets ≡ state.Register (Int (pos 0)) true ∷ state.Counter (pos 0) ∷ []
 unfolding hidden-the_row-Part-0 shape-the_row-Part-0 hidden
 equal_sets_conflict = refl
 
@@ -43,7 +43,7 @@ child_between =
     ∷ Emit 0 (Register (change.Set (Int (pos 3)))) ∷ []) ∷ [])
 
 -- the child's effect is concurrent with what comes behind it, and both come after what is in front
-pub conflict_behind_a_child : committed register_and_counter child_between ≡ state.Register (Int (pos 1)) true ∷ state.Counter (pos 1) ∷ []
+pub conflict_behind_a_child : committed_cells register_and_counter child_between ≡ state.Register (Int (pos 1)) true ∷ state.Counter (pos 1) ∷ []
 unfolding hidden-the_row-Part-0 shape-the_row-Part-0 hidden
 conflict_behind_a_child = refl
 
@@ -53,7 +53,7 @@ child_at_the_end =
     tree (child (Emit 0 (Register (change.Set (Int (pos 1))))
     ∷ child (Emit 1 (Add (pos 1)) ∷ Emit 0 (Register (change.Set (Int (pos 2)))) ∷ []) ∷ []) ∷ [])
 
-pub no_conflict_with_what_is_in_front : committed register_and_counter child_at_the_end ≡ state.Register (Int (pos 2)) false ∷ state.Counter (pos 1) ∷ []
+pub no_conflict_with_what_is_in_front : committed_cells register_and_counter child_at_the_end ≡ state.Register (Int (pos 2)) false ∷ state.Counter (pos 1) ∷ []
 unfolding hidden-the_row-Part-0 shape-the_row-Part-0 hidden
 no_conflict_with_what_is_in_front = refl
 
@@ -85,7 +85,7 @@ pub the_first_of_two : verdict (passed two_accumulators 1_000_001) ≡ Err (reco
 the_first_of_two = refl
 
 -- a rate leaves its range where another cell is within its own
-pub rate_out_of_range : verdict (committed two_accumulators (tree (Emit 1 (Flow (pos 0) (pos 1)) ∷ []))) ≡ Err (record { cell = 1 })
+pub rate_out_of_range : verdict (committed_cells two_accumulators (tree (Emit 1 (Flow (pos 0) (pos 1)) ∷ []))) ≡ Err (record { cell = 1 })
 rate_out_of_range = refl
 
 -- one effect may leave the range

@@ -3,7 +3,7 @@ use Rattle.std.specs.Prelude.{◌≡◌, ℕ, ◌+◌, Bool, true, false, List, 
 use Rattle.aerie_base.specs.declared.models.CellStart.{CellStart}
 use Rattle.aerie_base.specs.declared.models.CellStart.TheVariants as start
 use Rattle.aerie_base.specs.declared.models.model.Parts.{Parts}
-use Rattle.aerie_base.specs.expressions.Readings.{is_rate}
+use Rattle.aerie_base.specs.Ranges.{is_rate}
 use Rattle.effect_cells.specs.Worth.{worth_of, fits}
 use Rattle.effect_cells.specs.States.{applied, applied_if_any, later, is_of_kind, is_in_range, IsSmallState}
 use Rattle.effect_cells.specs.declared.trees.Tree.{Tree}
@@ -46,8 +46,8 @@ with_effects from on [] = []
 with_effects from on (state ∷ rest) = applied_if_any state (on from) ∷ with_effects (from + 1) on rest
 
 -- the cells after a batch with this tree: each becomes its state with the worth of the tree on it applied
-abbrev pub committed : List CellState → Tree → List CellState
-committed cells tree = with_effects 0 (worth_of tree) cells
+abbrev pub committed_cells : List CellState → Tree → List CellState
+committed_cells cells tree = with_effects 0 (worth_of tree) cells
 
 -- the cells so many microseconds later, where there is no effect
 abbrev pub passed : List CellState → ℕ → List CellState

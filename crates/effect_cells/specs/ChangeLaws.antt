@@ -1,3 +1,5 @@
+-- A file of lemmas: what it proves need not be read to trust a clause.
+--
 -- The laws of changes.
 use Rattle.std.specs.Prelude.{◌≡◌, Bool, refl}
 use Rattle.std.proofs.Common.{arith}

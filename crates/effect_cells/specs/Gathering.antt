@@ -28,42 +28,42 @@ abbrev pub suits : CellState → Option Effect → Bool
 suits state None = true
 suits state (Some effect) = is_of_kind state effect
 
--- an effect in a tree that was entered at `begun`, met at `now`, in front of what is pending on its cell
-abbrev pub added : Pending → Effect → ℕ → ℕ → Pending
-added one effect begun now =
-    if is_blank one.effect then record { effect = Some effect; since = now }
-    else if nat_le begun one.since then record { effect = in_front effect one.effect; since = one.since }
-    else record { effect = beside (Some effect) one.effect; since = one.since }
+-- an effect in a tree that was entered at `entered_at`, met at `now`, in front of what is pending on its cell
+abbrev pub gathered_with : Pending → Effect → ℕ → ℕ → Pending
+gathered_with one effect entered_at now =
+    if is_blank one.effect then record { effect = Some effect; gathered_at = now }
+    else if nat_le entered_at one.gathered_at then record { effect = in_front effect one.effect; gathered_at = one.gathered_at }
+    else record { effect = beside (Some effect) one.effect; gathered_at = one.gathered_at }
 
--- What one cell gathers from the items behind a place of a tree that was entered at `begun`, up to `now`: what these
+-- What one cell gathers from the items behind a place of a tree that was entered at `entered_at`, up to `now`: what these
 -- items are worth on it, beside what was pending before the tree.
-pub record Gathers (state : CellState) (begun now : ℕ) (worth : Option Effect) (size : ℕ) (before after : Pending) : Type 0 where
+pub record Gathers (state : CellState) (entered_at now : ℕ) (worth : Option Effect) (size : ℕ) (before after : Pending) : Type 0 where
   pub effect : after.effect ≡ beside worth before.effect
   pub small : magnitude_if_any after.effect ≤ size + magnitude_if_any before.effect
   pub suits_before : suits state before.effect ≡ true
   pub suits_after : suits state after.effect ≡ true
-  pub earlier : is_blank before.effect ≡ false → before.since < begun
-  pub kept : is_blank before.effect ≡ false → after.since ≡ before.since
-  pub fresh : is_blank before.effect ≡ true → is_blank after.effect ≡ false → begun ≤ after.since
-  pub past : is_blank after.effect ≡ false → after.since < now
+  pub earlier : is_blank before.effect ≡ false → before.gathered_at < entered_at
+  pub kept : is_blank before.effect ≡ false → after.gathered_at ≡ before.gathered_at
+  pub fresh : is_blank before.effect ≡ true → is_blank after.effect ≡ false → entered_at ≤ after.gathered_at
+  pub past : is_blank after.effect ≡ false → after.gathered_at < now
 
 abbrev pub pending_at : List Pending → ℕ → Pending
-pending_at pending cell = get_or pending cell (record { effect = None; since = 0 })
+pending_at pending cell = get_or pending cell (record { effect = None; gathered_at = 0 })
 
 abbrev pub state_at : List CellState → ℕ → CellState
 state_at states cell = get_or states cell (Counter (pos 0))
 
 -- the same of all cells
-pub record GatherAll (states : List CellState) (begun now : ℕ) (worth : ℕ → Option Effect) (size : ℕ) (before after : List Pending) : Type 0 where
-  pub order : begun ≤ now
+pub record GatherAll (states : List CellState) (entered_at now : ℕ) (worth : ℕ → Option Effect) (size : ℕ) (before after : List Pending) : Type 0 where
+  pub order : entered_at ≤ now
   pub same : length after ≡ length before
   pub each : (cell : ℕ) → cell < length before →
-      Gathers (state_at states cell) begun now (worth cell) size (pending_at before cell) (pending_at after cell)
+      Gathers (state_at states cell) entered_at now (worth cell) size (pending_at before cell) (pending_at after cell)
 
 -- what is pending on all cells suits them, and was gathered before `now`
 pub record AreReady (states : List CellState) (now : ℕ) (pending : List Pending) : Type 0 where
   pub suit : (cell : ℕ) → cell < length pending → suits (state_at states cell) (pending_at pending cell).effect ≡ true
-  pub past : (cell : ℕ) → cell < length pending → is_blank (pending_at pending cell).effect ≡ false → (pending_at pending cell).since < now
+  pub past : (cell : ℕ) → cell < length pending → is_blank (pending_at pending cell).effect ≡ false → (pending_at pending cell).gathered_at < now
 
 -- numbers of this size more on each cell stay small
 abbrev pub HaveRoom : ℕ → ℕ → List Pending → Type 0

@@ -5,12 +5,17 @@ pub mod ChangeLaws
 pub mod Changes
 pub mod Folded
 pub mod Gathering
+pub mod KeptWakes
 pub mod Pending
+pub mod ReadCells
 pub mod Reads
+pub mod Searching
 pub mod Solvable
 pub mod States
 pub mod SumLaws
 pub mod Sums
+pub mod Touched
+pub mod TouchedCells
 pub mod TreeRecursion
 pub mod WakeTimes
 pub mod Worth

@@ -14,7 +14,8 @@ use Rattle.aerie_base.specs.declared.operands.Operand.{Operand}
 use Rattle.aerie_base.specs.declared.operands.Operand.TheVariants.{Read, Local}
 use Rattle.aerie_base.specs.declared.values.Kind.{Kind}
 use Rattle.aerie_base.specs.declared.values.Kind.TheVariants.{Truth}
-use Rattle.aerie_base.specs.models.Conditions.{Locals, Reads, operand_kind, is_term, may_equal}
+use Rattle.aerie_base.specs.models.Conditions.{Locals, Reads, is_term, may_equal}
+use Rattle.aerie_base.specs.expressions.Typing.{operand_kind}
 use Rattle.aerie_base.specs.models.Expressions.{is_kind_of}
 use Rattle.aerie_base.specs.models.Limits.{term_limit}
 use Rattle.effect_cells.specs.Reads.{kind_on}
@@ -37,19 +38,19 @@ is_form_for kinds form =
     && nat_lt (unsigned_abs form.constant) constant_limit)
 
 -- the type of a side of an equality: a literal or a register
-abbrev pub side_kind : Reads → Simple → Option Kind
-side_kind kinds (simple.Literal value) = Some (value_kind value)
-side_kind kinds (simple.Operand (Read (read.Register cell))) = kinds (read.Register cell)
-side_kind kinds (simple.Operand (Read (read.Counter cell))) = None
-side_kind kinds (simple.Operand (Read (read.Conflicted cell))) = None
-side_kind kinds (simple.Operand (Read (read.Volume cell))) = None
-side_kind kinds (simple.Operand (Read (read.Rate cell))) = None
-side_kind kinds (simple.Operand (Local slot)) = None
+abbrev pub filled_side_kind : Reads → Simple → Option Kind
+filled_side_kind kinds (simple.Literal value) = Some (value_kind value)
+filled_side_kind kinds (simple.Operand (Read (read.Register cell))) = kinds (read.Register cell)
+filled_side_kind kinds (simple.Operand (Read (read.Counter cell))) = None
+filled_side_kind kinds (simple.Operand (Read (read.Conflicted cell))) = None
+filled_side_kind kinds (simple.Operand (Read (read.Volume cell))) = None
+filled_side_kind kinds (simple.Operand (Read (read.Rate cell))) = None
+filled_side_kind kinds (simple.Operand (Local slot)) = None
 
 abbrev pub solvable_step : Reads → Cond-F Bool → Bool
 solvable_step kinds (Cond-F.Literal truth) = true
 solvable_step kinds (Cond-F.Flag operand) = is_kind_of (operand_kind no_locals kinds operand) Truth
-solvable_step kinds (Cond-F.Same left right equal) = may_equal (side_kind kinds left) (side_kind kinds right)
+solvable_step kinds (Cond-F.Same left right equal) = may_equal (filled_side_kind kinds left) (filled_side_kind kinds right)
 solvable_step kinds (Cond-F.Compare left how right) = is_form_for kinds left && is_form_for kinds right
 solvable_step kinds (Cond-F.Not part) = part
 solvable_step kinds (Cond-F.And left right) = left && right

@@ -1,7 +1,6 @@
 -- The state of a cell: what an effect and time do to it, and its range.
 use Rattle.std.specs.Prelude.{◌≡◌, ℕ, ℤ, pos, negsuc, ◌+ℤ◌, Bool, true, false, ◌&&◌, Option, Some, None, refl}
-use Rattle.aerie_base.specs.Ranges.{is_number}
-use Rattle.aerie_base.specs.expressions.Readings.{is_rate}
+use Rattle.aerie_base.specs.Ranges.{is_number, is_rate}
 use Rattle.aerie_base.specs.declared.values.Value.{Value}
 use Rattle.aerie_base.specs.declared.values.Value.TheVariants.{Int}
 use Rattle.effect_cells.specs.Sums.{IsSmall, AreSmall, IsWide, AreWide, CanFlow, both_sums, flowed}

@@ -1,3 +1,5 @@
+-- A file of lemmas: what it proves need not be read to trust a clause.
+--
 -- The laws of sums, one number at a time and for a volume and its rate together.
 use Rattle.std.specs.Prelude.{◌≡◌, ℕ, ℤ, pos, ◌+◌, refl}
 use Rattle.std.proofs.Common.{arith}

@@ -1,5 +1,6 @@
 -- What a tree of effects comes to on one cell.
-use Rattle.std.specs.Prelude.{ℕ, ◌+ℤ◌, ◌+◌, List, [], ◌∷◌, Bool, true, false, ◌&&◌, ◌||◌, Option, Some, None, if◌then◌else◌, nat_eq}
+use Rattle.std.specs.List.{list_all, list_any, sum}
+use Rattle.std.specs.Prelude.{ℕ, ◌+ℤ◌, ◌+◌, List, [], ◌∷◌, Bool, Option, Some, None, if◌then◌else◌, nat_eq}
 use Rattle.std.specs.Int.RustNames.{unsigned_abs}
 use Rattle.effect_cells.specs.Changes.{change_in_turn, change_beside}
 use Rattle.effect_cells.specs.declared.effects.Effect.{Effect}
@@ -56,16 +57,12 @@ worth_of = tree_gives Before (ℕ → Option Effect) part_worth tree_worth
 
 -- ---- whether a tree has an effect on a cell
 
-abbrev pub any_true : List Bool → Bool
-any_true [] = false
-any_true (first ∷ rest) = first || any_true rest
-
 abbrev pub part_is_on : ℕ → Part-F Bool Bool → Bool
 part_is_on cell (Part-F.Emit on effect) = nat_eq on cell
 part_is_on cell (Part-F.Child child) = child
 
 abbrev pub tree_is_on : Tree-F Bool Bool → Bool
-tree_is_on tree = any_true tree.items
+tree_is_on tree = list_any (λ flag. flag) tree.items
 
 -- whether some effect in a tree is on the cell
 abbrev pub has_effect_on : Tree → ℕ → Bool
@@ -82,32 +79,24 @@ abbrev pub magnitude_if_any : Option Effect → ℕ
 magnitude_if_any None = 0
 magnitude_if_any (Some effect) = magnitude effect
 
-abbrev pub total : List ℕ → ℕ
-total [] = 0
-total (n ∷ ns) = n + total ns
-
 abbrev pub part_magnitude : Part-F ℕ ℕ → ℕ
 part_magnitude (Part-F.Emit on effect) = magnitude effect
 part_magnitude (Part-F.Child child) = child
 
 abbrev pub tree_magnitude : Tree-F ℕ ℕ → ℕ
-tree_magnitude tree = total tree.items
+tree_magnitude tree = sum tree.items
 
 abbrev pub magnitude_of : Tree → ℕ
 magnitude_of = tree_gives ℕ ℕ part_magnitude tree_magnitude
 
 -- ---- trees over cells
 
-abbrev pub all_true : List Bool → Bool
-all_true [] = true
-all_true (first ∷ rest) = first && all_true rest
-
 abbrev pub part_fits : (ℕ → Effect → Bool) → Part-F Bool Bool → Bool
 part_fits accepts (Part-F.Emit on effect) = accepts on effect
 part_fits accepts (Part-F.Child child) = child
 
 abbrev pub tree_fits : Tree-F Bool Bool → Bool
-tree_fits tree = all_true tree.items
+tree_fits tree = list_all (λ flag. flag) tree.items
 
 -- whether each effect in a tree is accepted on its cell
 abbrev pub fits : (ℕ → Effect → Bool) → Tree → Bool

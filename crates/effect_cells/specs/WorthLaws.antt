@@ -1,6 +1,9 @@
+-- A file of lemmas: what it proves need not be read to trust a clause.
+--
 -- A tree has no worth on a cell exactly where no effect in it is on that cell.
+use Rattle.std.specs.List.{list_any}
 use Rattle.std.proofs.Common.{◌≡◌, ℕ, Bool, true, false, ◌||◌, List, [], ◌∷◌, map, Option, Some, None, is_some, if◌then◌else◌, nat_eq, refl, ap, ◌∙◌}
-use Rattle.effect_cells.specs.Worth.{Before, in_front, beside, part_worth, tree_worth, items_worth, worth_of, any_true, part_is_on, tree_is_on, has_effect_on}
+use Rattle.effect_cells.specs.Worth.{Before, in_front, beside, part_worth, tree_worth, items_worth, worth_of, part_is_on, tree_is_on, has_effect_on}
 use Rattle.effect_cells.specs.TreeRecursion.{part_gives, row_gives}
 use Rattle.effect_cells.specs.declared.effects.Effect.{Effect}
 use Rattle.effect_cells.specs.declared.trees.Part.{Part, Emit, Child', Row_of-Part, end_of-Part, more_of-Part}
@@ -28,14 +31,14 @@ mutual
       ∙ ap (λ (some : Bool). some || is_some rest) (row_is_some items cell)
 
   row_is_some : {m : _} → (row : Row_of-Part m) (cell : ℕ) →
-      is_some (items_worth (row_gives Before (ℕ → Option Effect) part_worth tree_worth row) cell) ≡ any_true (row_gives Bool Bool (part_is_on cell) tree_is_on row)
+      is_some (items_worth (row_gives Before (ℕ → Option Effect) part_worth tree_worth row) cell) ≡ list_any (λ flag. flag) (row_gives Bool Bool (part_is_on cell) tree_is_on row)
   row_is_some end_of-Part cell = refl
   row_is_some (more_of-Part part rest) cell =
       part_is_some part cell (items_worth (row_gives Before (ℕ → Option Effect) part_worth tree_worth rest) cell)
       ∙ ap (λ (some : Bool). part_gives Bool Bool (part_is_on cell) tree_is_on part || some) (row_is_some rest cell)
 
 items_are_some : (items : List Part) (cell : ℕ) →
-    is_some (items_worth (map (part_gives Before (ℕ → Option Effect) part_worth tree_worth) items) cell) ≡ any_true (map (part_gives Bool Bool (part_is_on cell) tree_is_on) items)
+    is_some (items_worth (map (part_gives Before (ℕ → Option Effect) part_worth tree_worth) items) cell) ≡ list_any (λ flag. flag) (map (part_gives Bool Bool (part_is_on cell) tree_is_on) items)
 items_are_some [] cell = refl
 items_are_some (part ∷ rest) cell =
     part_is_some part cell (items_worth (map (part_gives Before (ℕ → Option Effect) part_worth tree_worth) rest) cell)

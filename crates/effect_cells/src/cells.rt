@@ -1,12 +1,12 @@
 ghost use Rattle.std.specs.Prelude.{◌≡◌, ◌<◌, ◌^◌, length, slice_get, IsTrue, Some, OnOk, OnErr, IfOk};
 ghost use Rattle.effect_cells.specs.Sums.{sum_limit};
 ghost use Rattle.effect_cells.specs.Worth.{magnitude_of};
-ghost use Rattle.effect_cells.specs.Cells.{initial, fits_cells, committed, passed, emitted, IsSmallOn, verdict, AreInRange};
+ghost use Rattle.effect_cells.specs.Cells.{initial, fits_cells, committed_cells, passed, emitted, IsSmallOn, verdict, AreInRange};
 
-use crate::committing::{check_pending, commit_each};
+use crate::committing::commit_tree;
 use crate::effects::{CellState, Effect};
 use crate::passing::{check_later, pass_each};
-use crate::pending::{Pending, gather, nothing_pending};
+use crate::pending::{Pending, nothing_pending};
 use crate::starts::first_states;
 use crate::states::applied;
 use crate::trees::Tree;
@@ -26,18 +26,22 @@ pub struct OutOfRange {
 #[derive(Debug, Drop)]
 pub struct Cells {
     states: Vec<CellState>,
+    /// Room for what a commit is going to do, where nothing is pending; a copy has none.
     pending: Vec<Pending>,
+    /// Room for the cells that a commit touches.
+    touched: Vec<u16>,
 }
 
 impl std::marker::Model for Cells {
     ghost use Rattle.std.specs.Prelude.{List, length, ◌≡◌, ◌<◌, ◌^◌};
     ghost use Rattle.effect_cells.specs.declared.effects.CellState.{CellState};
+    ghost use Rattle.effect_cells.specs.Gathering.{AreBlank};
 
     ghost Value = { List CellState };
 
     ghost view = { λ cells. cells.states.items };
 
-    ghost invariant = { λ cells. (length cells.states.items < 2 ^ 16) × (length cells.pending.items ≡ length cells.states.items) };
+    ghost invariant = { λ cells. (length cells.states.items < 2 ^ 16) × AreBlank cells.pending.items };
 }
 
 impl Cells {
@@ -50,7 +54,12 @@ impl Cells {
         let starts = model.cells();
         let states = first_states(alloc, starts)?;
         let pending = nothing_pending(alloc, states.as_slice())?;
-        Ok(Cells { states, pending })
+        let touched = Vec::with_capacity(alloc, states.len())?;
+        Ok(Cells {
+            states,
+            pending,
+            touched,
+        })
     }
 
     /// The state of the cell. It takes no memory.
@@ -62,20 +71,23 @@ impl Cells {
     }
 
     /// Puts the effects of a batch on the cells: each becomes its state with the worth of the tree on it applied. Where
-    /// a cell would leave its range, the cells stay as they are and the first such cell is named. It takes no memory.
+    /// a cell would leave its range, the cells stay as they are and the first such cell is named. It takes no memory, and a
+    /// time in the order of the tree's size, whatever the number of cells.
     pub fn commit(&mut self, tree: &Tree) -> Result<(), OutOfRange>
         requires range { AreInRange self.old }
         requires kinds { IsTrue (fits_cells self.old tree.now) }
         requires small { magnitude_of tree.now < sum_limit }
-        ensures answer { result ≡ verdict (committed self.old tree.now) }
+        ensures answer { result ≡ verdict (committed_cells self.old tree.now) }
         ensures range { OnOk result (AreInRange self.new) }
-        ensures committed { OnOk result (self.new ≡ committed self.old tree.now) }
+        ensures committed { OnOk result (self.new ≡ committed_cells self.old tree.now) }
         ensures unchanged { OnErr result (self.new ≡ self.old) }
     {
-        gather(tree, self.states.as_slice(), self.pending.as_mut_slice());
-        check_pending(self.states.as_slice(), self.pending.as_slice())?;
-        commit_each(self.states.as_mut_slice(), self.pending.as_slice());
-        Ok(())
+        commit_tree(
+            tree,
+            self.states.as_mut_slice(),
+            self.pending.as_mut_slice(),
+            &mut self.touched,
+        )
     }
 
     /// Applies one effect to one cell, also past the cell's range. It takes no memory.
@@ -102,12 +114,15 @@ impl Cells {
         Ok(())
     }
 
-    /// An equal value.
-    pub fn copy(&self) -> Result<Cells, OutOfMemory>
+    /// An equal value. It has no room for commits, so that one of it walks over the tree for each cell.
+    pub fn copy(&self, alloc: Global) -> Result<Cells, OutOfMemory>
         ensures { IfOk result (λ copy. copy ≡ self.now) }
     {
-        let states = self.states.clone()?;
-        let pending = self.pending.clone()?;
-        Ok(Cells { states, pending })
+        let states = Vec::from_slice(alloc, self.states.as_slice())?;
+        Ok(Cells {
+            states,
+            pending: Vec::new(alloc),
+            touched: Vec::new(alloc),
+        })
     }
 }

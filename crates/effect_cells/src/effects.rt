@@ -5,10 +5,11 @@ ghost use Rattle.effect_cells.specs.Worth.{effect_in_turn, effect_beside, magnit
 use crate::effect_trait::EffectTrait;
 use crate::registers::Change;
 use crate::sums::sum_within;
-use aerie_base::Value;
+use aerie_base::{OutOfMemory, PlainData, Value};
+use std::alloc::Global;
 
 /// An effect on a cell of one of the three kinds.
-#[derive(Clone, Copy, Debug, PartialEq, Eq)]
+#[derive(Clone, Copy, Debug, PartialEq, Eq, Hash)]
 pub enum Effect {
     /// On a counter: what is added.
     Add(i128),
@@ -24,7 +25,7 @@ pub enum Effect {
 }
 
 /// The state of a cell of one of the three kinds.
-#[derive(Clone, Copy, Debug, PartialEq, Eq)]
+#[derive(Clone, Copy, Debug, PartialEq, Eq, Hash)]
 pub enum CellState {
     /// The number of a counter.
     Counter(i128),
@@ -42,6 +43,16 @@ pub enum CellState {
         /// Its rate, in units a second, by which the volume rises each microsecond.
         rate: i128,
     },
+}
+
+impl PlainData for CellState {
+    fn copied(&self, _alloc: Global) -> Result<CellState, OutOfMemory> {
+        Ok(*self)
+    }
+
+    fn equals(&self, other: &CellState) -> bool {
+        self == other
+    }
 }
 
 /// Two effects on one cell, one after the other.

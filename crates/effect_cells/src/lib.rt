@@ -9,14 +9,18 @@ mod counters;
 mod effect_trait;
 mod effects;
 mod kinds;
+mod laws;
 mod passing;
 mod pending;
+mod read_cells;
+mod reading;
 mod registers;
 mod starts;
 mod states;
 mod sums;
 #[cfg(test)]
 mod tests;
+mod touching;
 mod trees;
 mod worths;
 
@@ -26,6 +30,9 @@ pub use counters::Counter;
 pub use effect_trait::EffectTrait;
 pub use effects::{CellState, Effect};
 pub use kinds::CellKind;
+pub use laws::{kept_wake_times_stay, time_passes_in_parts, waiting_depends_on_cells_read};
+pub use read_cells::flag_read;
 pub use registers::{Change, Register};
+pub use touching::flag_touched;
 pub use trees::{Part, Tree};
 pub use worths::worth;

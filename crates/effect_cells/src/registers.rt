@@ -6,7 +6,7 @@ use aerie_base::{Time, Value};
 pub struct Register;
 
 /// An effect on a register.
-#[derive(Clone, Copy, Debug, PartialEq, Eq)]
+#[derive(Clone, Copy, Debug, PartialEq, Eq, Hash)]
 pub enum Change {
     /// Leaves the register as it is.
     Nothing,

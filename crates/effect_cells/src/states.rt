@@ -1,6 +1,6 @@
 ghost use Rattle.std.specs.Prelude.{◌≡◌, pos, ◌≤ℤ◌, nat_le, nat_abs};
 ghost use Rattle.std.specs.Int.RustNames.{unsigned_abs};
-ghost use Rattle.effect_cells.specs.States.{applied as after_effect, later as after_time, is_in_range as has_range, IsWideState, CanPass};
+ghost use Rattle.effect_cells.specs.States.{applied as after_effect, later as after_time, is_in_range as has_range, IsSmallState, IsWideState, CanPass};
 
 use crate::accumulators::Accumulator;
 use crate::counters::Counter;
@@ -8,13 +8,24 @@ use crate::effects::{CellState, Effect};
 use crate::kinds::CellKind;
 use crate::registers::Register;
 use crate::sums::{sum, sum_both};
-use aerie_base::Time;
+use aerie_base::{NUMBER_LIMIT, RATE_LIMIT, Time};
 
 /// The greatest number of a counter and the greatest volume.
-const MOST: i128 = 1_000_000_000_000_000_000;
+pub(crate) const MOST: i128 = NUMBER_LIMIT as i128;
 
 /// The greatest rate.
-const FASTEST: i128 = 1_000_000_000_000;
+pub(crate) const FASTEST: i128 = RATE_LIMIT as i128;
+
+impl CellState {
+    /// The state after the effect, which may be out of its range. The effect is of the kind of the state; one of another
+    /// kind leaves it as it is.
+    pub fn after(&self, effect: &Effect) -> CellState
+        requires { IsSmallState (after_effect self.now effect.now) }
+        ensures { result ≡ after_effect self.now effect.now }
+    {
+        applied(self, effect)
+    }
+}
 
 /// The state after the effect, which is of its kind.
 pub(crate) fn applied(state: &CellState, effect: &Effect) -> CellState

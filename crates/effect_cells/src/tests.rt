@@ -63,6 +63,7 @@ fn begins_as_declared(rt: HostRuntime) -> Result<(), Fail> {
     let name = Name::new(rt.alloc(), "tanks")?.ok_or("no name")?;
     let tank = Name::new(rt.alloc(), "tank")?.ok_or("no name")?;
     let volume = Number::new(5).ok_or("no number")?;
+    let _in_range = volume.get();
     let cells = vec![in rt.alloc(); (tank, CellStart::Accumulator { volume, rate: 3 })]?;
     let model = Model::new(
         name,
@@ -73,7 +74,7 @@ fn begins_as_declared(rt: HostRuntime) -> Result<(), Fail> {
         Vec::new(rt.alloc()),
     );
     let cells = Cells::initial(rt.alloc(), &model)?;
-    let copy = cells.copy()?;
+    let copy = cells.copy(rt.alloc())?;
     assert_eq!(&rt; copy.state(0), CellState::Volume { volume: 5, rate: 3 });
     Ok(())
 }

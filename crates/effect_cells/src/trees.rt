@@ -1,5 +1,8 @@
+ghost use Rattle.std.specs.Prelude.{◌≡◌, IfOk};
+
 use crate::effects::Effect;
-use aerie_base::List;
+use aerie_base::{List, OutOfMemory};
+use std::alloc::Global;
 
 /// The effects of a step and of its children, at most 66 levels deep.
 #[cycle(tree)]
@@ -22,4 +25,34 @@ pub enum Part {
     },
     /// A child.
     Child(Tree),
+}
+
+impl Tree {
+    /// An equal tree, at a cost linear in its size.
+    #[cycle(copy)]
+    pub fn copy(&self, alloc: Global) -> Result<Tree, OutOfMemory>
+        ensures { IfOk result (λ copy. copy ≡ self.now) }
+    {
+        let mut items = List::new(alloc);
+        for part in self.items.as_slice() {
+            items.push(part.copy(alloc)?)?;
+        }
+        Ok(Tree { items })
+    }
+}
+
+impl Part {
+    /// An equal item.
+    #[cycle(copy)]
+    pub fn copy(&self, alloc: Global) -> Result<Part, OutOfMemory>
+        ensures { IfOk result (λ copy. copy ≡ self.now) }
+    {
+        match self {
+            Part::Emit { cell, effect } => Ok(Part::Emit {
+                cell: *cell,
+                effect: *effect,
+            }),
+            Part::Child(child) => Ok(Part::Child(child.copy(alloc)?)),
+        }
+    }
 }

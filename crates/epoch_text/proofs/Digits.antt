@@ -8,7 +8,7 @@ use Rattle.std.proofs.lemmas.List.Folds.{list_all_at, list_all-append}
 use Rattle.std.proofs.lemmas.Int.Digits.{digits_value_more, digits_value-lt}
 use Rattle.std.proofs.lemmas.Str.Parse.{digits_value-take-le}
 use Rattle.epoch_text.specs.Clocks.{are_fraction_digits, fraction_of, micros_of, seconds_of, without_zone}
-use Rattle.epoch_text.specs.Forms.{fits, has_form, sign_of}
+use Rattle.epoch_text.specs.Forms.{has_signs, has_form, sign_of}
 
 -- the value of one digit
 digit_value_is : (byte : ℕ) → is_ascii_digit byte ≡ true → digit_value byte ≡ byte - 48
@@ -62,31 +62,31 @@ value_small digits i all few =
 sign_is : (byte sign : ℕ) → nat_eq (sign_of byte) sign ≡ true → is_ascii_digit byte ≡ nat_eq sign 48
 sign_is byte sign e = grind (arith, nat_tests)
 
-fits_take : (n : ℕ) (text form : List ℕ) → length text ≡ length form → fits text form ≡ true →
+signs_take : (n : ℕ) (text form : List ℕ) → length text ≡ length form → has_signs text form ≡ true →
     list_all is_ascii_digit (take n text) ≡ list_all (λ sign. nat_eq sign 48) (take n form)
-fits_take zero text form same e = refl
-fits_take (suc n) [] [] same e = refl
-fits_take (suc n) [] (sign ∷ form) same e = absurd (omega arith)
-fits_take (suc n) (byte ∷ text) [] same e = absurd (omega arith)
-fits_take (suc n) (byte ∷ text) (sign ∷ form) same e =
+signs_take zero text form same e = refl
+signs_take (suc n) [] [] same e = refl
+signs_take (suc n) [] (sign ∷ form) same e = absurd (omega arith)
+signs_take (suc n) (byte ∷ text) [] same e = absurd (omega arith)
+signs_take (suc n) (byte ∷ text) (sign ∷ form) same e =
     let here : nat_eq (sign_of byte) sign ≡ true = grind (arith, nat_tests) in
-    let behind : fits text form ≡ true = grind (arith, nat_tests) in
+    let behind : has_signs text form ≡ true = grind (arith, nat_tests) in
     let first = sign_is byte sign here in
-    let rest = fits_take n text form (omega arith) behind in
+    let rest = signs_take n text form (omega arith) behind in
     rw (first, rest) refl
 
-fits_nothing : (text : List ℕ) → fits text [] ≡ true
-fits_nothing [] = refl
-fits_nothing (byte ∷ text) = refl
+signs_nothing : (text : List ℕ) → has_signs text [] ≡ true
+signs_nothing [] = refl
+signs_nothing (byte ∷ text) = refl
 
-fits_drop : (i : ℕ) (text form : List ℕ) → fits text form ≡ true → fits (drop i text) (drop i form) ≡ true
-fits_drop zero text form e = e
-fits_drop (suc i) [] form e = refl
-fits_drop (suc i) (byte ∷ text) [] e = fits_nothing (drop i text)
-fits_drop (suc i) (byte ∷ text) (sign ∷ form) e = let behind : fits text form ≡ true = grind (arith, nat_tests) in fits_drop i text form behind
+signs_drop : (i : ℕ) (text form : List ℕ) → has_signs text form ≡ true → has_signs (drop i text) (drop i form) ≡ true
+signs_drop zero text form e = e
+signs_drop (suc i) [] form e = refl
+signs_drop (suc i) (byte ∷ text) [] e = signs_nothing (drop i text)
+signs_drop (suc i) (byte ∷ text) (sign ∷ form) e = let behind : has_signs text form ≡ true = grind (arith, nat_tests) in signs_drop i text form behind
 
-form_fits : (text form : List ℕ) → has_form text form ≡ true → fits text form ≡ true
-form_fits text form e = grind (arith, nat_tests)
+form_has_signs : (text form : List ℕ) → has_form text form ≡ true → has_signs text form ≡ true
+form_has_signs text form e = grind (arith, nat_tests)
 
 -- a text of a form is as long as that
 pub form_length : (text form : List ℕ) → has_form text form ≡ true → length text ≡ length form
@@ -98,7 +98,7 @@ pub form_digits : (text form : List ℕ) (i n : ℕ) → has_form text form ≡ 
 form_digits text form i n e =
     let same = form_length text form e in
     let parts : length (drop i text) ≡ length (drop i form) = omega (arith, length-drop i text, length-drop i form) in
-    fits_take n (drop i text) (drop i form) parts (fits_drop i text form (form_fits text form e))
+    signs_take n (drop i text) (drop i form) parts (signs_drop i text form (form_has_signs text form e))
 
 zeros_behind : (n : ℕ) → list_all is_ascii_digit (drop n (codes "000000")) ≡ true
 zeros_behind zero = refl

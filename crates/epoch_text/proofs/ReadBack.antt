@@ -19,7 +19,7 @@ use Rattle.epoch_text.specs.Dates.{day_by_place, day_of, is_between, is_start_ye
 use Rattle.epoch_text.specs.DayTexts.{day_in_year, day_text_of, since_1900, stamp}
 use Rattle.epoch_text.specs.Forms.{digits_in}
 use Rattle.epoch_text.specs.Ranges.{IsStart}
-use Rattle.epoch_text.specs.Starts.{instant_at, instant_of, start_of}
+use Rattle.epoch_text.specs.Starts.{micros_at, instant_of, start_of}
 
 -- what `digits_in` writes: so many digits, which write the number
 zero_digits : (n : ℕ) → list_all is_ascii_digit (replicate n 48) ≡ true
@@ -190,7 +190,7 @@ seconds_there hour minute second a b c =
 abbrev start_by_place : ℕ → ℕ → ℕ → ℕ → ℕ → ℕ → Option ℤ
 start_by_place year place hour minute second micros =
     option_and_then
-    (λ day. option_map (λ clock. instant_at day clock) (option_map (λ seconds. seconds * 1_000_000 + micros) (seconds_at hour minute second)))
+    (λ day. option_map (λ clock. micros_at day clock) (option_map (λ seconds. seconds * 1_000_000 + micros) (seconds_at hour minute second)))
     (day_by_place year place)
 
 bytes_read : (y1 y2 y3 y4 p1 p2 p3 h1 h2 m1 m2 s1 s2 f1 f2 f3 f4 f5 f6 : ℕ) → is_ascii_digit y1 ≡ true → is_ascii_digit y2 ≡ true → is_ascii_digit y3 ≡ true → is_ascii_digit y4 ≡ true → is_ascii_digit p1 ≡ true → is_ascii_digit p2 ≡ true → is_ascii_digit p3 ≡ true → is_ascii_digit h1 ≡ true → is_ascii_digit h2 ≡ true → is_ascii_digit m1 ≡ true → is_ascii_digit m2 ≡ true → is_ascii_digit s1 ≡ true → is_ascii_digit s2 ≡ true → is_ascii_digit f1 ≡ true → is_ascii_digit f2 ≡ true → is_ascii_digit f3 ≡ true → is_ascii_digit f4 ≡ true → is_ascii_digit f5 ≡ true → is_ascii_digit f6 ≡ true →
@@ -277,7 +277,7 @@ reads_stamp year place hour minute second micros ky bp bh bm bs bf =
 -- the fields of an instant say it
 same_instant : (year place micros : ℕ) (instant : ℤ) → pos micros ≡ instant +ℤ pos 2_208_988_800_000_000 →
     days_from_civil (pos year) 1 1 +ℤ pos place ≡ days_from_civil (pos 1900) 1 1 +ℤ pos (micros / 86_400_000_000) →
-    instant_at (days_from_civil (pos year) 1 1 +ℤ pos (place + 1 - 1))
+    micros_at (days_from_civil (pos year) 1 1 +ℤ pos (place + 1 - 1))
     ((micros % 86_400_000_000 / 1_000_000 / 3600 * 3600 + micros % 86_400_000_000 / 1_000_000 / 60 % 60 * 60 + micros % 86_400_000_000 / 1_000_000 % 60) * 1_000_000
     + micros % 86_400_000_000 % 1_000_000)
     ≡ instant

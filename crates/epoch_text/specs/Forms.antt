@@ -10,12 +10,12 @@ abbrev pub sign_of : ℕ → ℕ
 sign_of byte = if is_ascii_digit byte then 48 else byte
 
 -- whether each byte is as the form's sign at its place says, for as long as both last
-abbrev pub fits : List ℕ → List ℕ → Bool
-fits text form = list_all (λ (p : ℕ × ℕ). nat_eq (sign_of p.0) p.1) (zip text form)
+abbrev pub has_signs : List ℕ → List ℕ → Bool
+has_signs text form = list_all (λ (p : ℕ × ℕ). nat_eq (sign_of p.0) p.1) (zip text form)
 
 -- whether a text has this form: a digit where the form has 0, elsewhere the form's own sign, and no byte more or less
 abbrev pub has_form : List ℕ → List ℕ → Bool
-has_form text form = nat_eq (length text) (length form) && fits text form
+has_form text form = nat_eq (length text) (length form) && has_signs text form
 
 -- the number that so many digits write from a place on
 abbrev pub number_at : ℕ → ℕ → List ℕ → ℕ

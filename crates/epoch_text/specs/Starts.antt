@@ -9,12 +9,12 @@ abbrev pub day_micros : ℕ
 day_micros = 86_400_000_000
 
 -- the microseconds from 1970-01-01T00:00:00Z to so many microseconds after the midnight that begins a day
-abbrev pub instant_at : ℤ → ℕ → ℤ
-instant_at day micros = day *ℤ pos day_micros +ℤ pos micros
+abbrev pub micros_at : ℤ → ℕ → ℤ
+micros_at day micros = day *ℤ pos day_micros +ℤ pos micros
 
 -- the instant of a date and a time of day, where each is one
 abbrev pub instant_of : List ℕ → List ℕ → Option ℤ
-instant_of date clock = option_and_then (λ day. option_map (λ micros. instant_at day micros) (micros_of clock)) (day_of date)
+instant_of date clock = option_and_then (λ day. option_map (λ micros. micros_at day micros) (micros_of clock)) (day_of date)
 
 -- the start that a text is, where it is one: a date, `T` and a time of day. It is seen as its microseconds from
 -- 1970-01-01T00:00:00Z, and a date before that is negative

@@ -4,18 +4,18 @@ ghost use Rattle.std.specs.Prelude.{◌≡◌, ◌<◌, ◌≤◌, ◌^◌, leng
 ghost use Rattle.std.specs.Char.{is_ascii_digit};
 ghost use Rattle.std.specs.List.{list_all};
 ghost use Rattle.std.specs.Str.Parse.{digits_value};
-ghost use Rattle.epoch_text.specs.Forms.{fits, has_form, sign_of};
+ghost use Rattle.epoch_text.specs.Forms.{has_signs, has_form, sign_of};
 
 /// Whether a text has a form: a digit where the form has 0, elsewhere the form's own sign, and no byte more or less.
 pub(crate) fn has_form(text: &[u8], form: &[u8]) -> bool
     ensures { result ≡ has_form text.now form.now }
 {
-    text.len() == form.len() && fits(text, form)
+    text.len() == form.len() && has_signs(text, form)
 }
 
 /// Whether each byte is as the form's sign at its place says.
-fn fits(text: &[u8], form: &[u8]) -> bool
-    ensures { result ≡ fits text.now form.now }
+fn has_signs(text: &[u8], form: &[u8]) -> bool
+    ensures { result ≡ has_signs text.now form.now }
 {
     text.iter()
         .zip(form)

@@ -4,7 +4,7 @@ ghost use Rattle.std.specs.Prelude.{◌≡◌, ◌/◌, ◌%◌, ◌<◌, nat_eq
 ghost use Rattle.std.specs.Result.{result_ok};
 ghost use Rattle.jiff.specs.Words.{epoch_day, time_nanos};
 ghost use Rattle.epoch_text.specs.Ranges.{IsStartDay};
-ghost use Rattle.epoch_text.specs.Starts.{instant_at, instant_of, start_of};
+ghost use Rattle.epoch_text.specs.Starts.{micros_at, instant_of, start_of};
 
 mod clocks;
 mod dates;
@@ -55,7 +55,7 @@ fn start_of_parts(date: &[u8], clock: &[u8]) -> Option<Start>
 fn start_at(date: Date, time: Time) -> Start
     requires day { IsStartDay (epoch_day date) }
     requires whole { time_nanos time % 1_000 ≡ 0 }
-    ensures { result ≡ instant_at (epoch_day date) (time_nanos time / 1_000) }
+    ensures { result ≡ micros_at (epoch_day date) (time_nanos time / 1_000) }
 {
     match Offset::UTC.to_timestamp(DateTime::from_parts(date, time)) {
         Ok(instant) => Start::at(instant.as_microsecond()),

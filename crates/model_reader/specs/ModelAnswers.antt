@@ -1,18 +1,19 @@
 -- What a reader of a model in a row of tokens answers.
 use Rattle.std.specs.Prelude.{◌≡◌, ℕ, ◌-◌, List, [], ◌∷◌, ◌++◌, Result, Ok, Err, length, take, drop}
 use Rattle.aerie_base.specs.declared.places.Place.{Place}
-use Rattle.aerie_text.specs.declared.marks.Mark.{Mark}
+use Rattle.readers.specs.Marks.{Mark}
 use Rattle.aerie_text.specs.declared.token.Token.{Token}
-use Rattle.aerie_text.specs.Marks.{marks_of}
+use Rattle.readers.specs.Marks.{marks_of}
 use Rattle.aerie_text.specs.Places.{place_of}
-use Rattle.aerie_text.specs.grammar.Readings.{IsReadable, IsRefusedAt, IsRefusedAtEnd}
-use Rattle.aerie_text.specs.reading.Read.{Read, got, stopped, passed}
-use Rattle.aerie_text.specs.reading.Words.{word_of}
+use Rattle.readers.specs.grammar.Readings.{IsReadable, IsRefusedAt, IsRefusedAtEnd}
+use Rattle.readers.specs.Parsed.{Parsed, parsed, failed, over_limit}
+use Rattle.readers.specs.Words.{word_of}
 use Rattle.model_reader.specs.declared.raw.models.RawModel.{RawModel}
 use Rattle.model_reader.specs.declared.read_error.ReadError.{ReadError}
 use Rattle.model_reader.specs.declared.read_error.ReadError.TheVariants.{Syntax, TooMany, OutOfMemory}
 use Rattle.model_reader.specs.grammar.Rules.{model_rule}
 use Rattle.model_reader.specs.grammar.Written.{written}
+use Rattle.model_reader.specs.reading.Models.{model_at}
 
 -- the marks of the tokens from this one on
 abbrev pub marks_from : List ℕ → List Token → ℕ → List Mark
@@ -29,10 +30,10 @@ place_left text (mark ∷ rest) = mark.at
 
 -- The answer where so many tokens are counted: a model with the number of the token behind it, or the place of the first
 -- mark that is left, with the limit that is passed there.
-abbrev pub answer_of : List ℕ → ℕ → Read RawModel → Result (RawModel × ℕ) ReadError
-answer_of text count (got model rest) = Ok (model, count - length rest)
-answer_of text count (stopped rest) = Err (Syntax (place_left text rest))
-answer_of text count (passed limit rest) = Err (TooMany (word_of limit) (place_left text rest))
+abbrev pub answer_of : List ℕ → ℕ → Parsed RawModel → Result (RawModel × ℕ) ReadError
+answer_of text count (parsed model rest) = Ok (model, count - length rest)
+answer_of text count (failed rest) = Err (Syntax (place_left text rest))
+answer_of text count (over_limit limit rest) = Err (TooMany (word_of limit) (place_left text rest))
 
 -- the answer is this one, unless memory ran out
 abbrev pub UnlessOutOfMemory : {A : Type 0} → Result A ReadError → Result A ReadError → Type 0
@@ -40,6 +41,10 @@ UnlessOutOfMemory answer (Ok part) = answer ≡ Ok part
 UnlessOutOfMemory answer (Err (Syntax place)) = answer ≡ Err (Syntax place)
 UnlessOutOfMemory answer (Err (TooMany what place)) = answer ≡ Err (TooMany what place)
 UnlessOutOfMemory answer (Err OutOfMemory) = Unit {0}
+
+-- the answer of a reader of the model that begins with the token of this number
+abbrev pub IsAnswer : List ℕ → List Token → ℕ → Result (RawModel × ℕ) ReadError → Type 0
+IsAnswer text tokens from result = UnlessOutOfMemory (answer_of text (length tokens) (model_at (marks_from text tokens from))) result
 
 -- At the place stands the first of the marks that no reading of the grammar as it is written reads; or some reading reads
 -- them all and none is a model, and the place is that behind the text.

@@ -1,6 +1,5 @@
-pub mod Notation
 pub mod Rules
 pub mod Written
 pub mod Factored
 pub mod Verdicts
-pub mod Cases
+pub mod GrammarCases

@@ -1,4 +1,4 @@
-pub mod Cases
+pub mod ReadingCases
 pub mod Expressions
 pub mod Items
 pub mod Literals

@@ -1,13 +1,12 @@
 //! Laws of the grammar of models, each the promise of a function without a body.
 
-ghost use Rattle.std.specs.Prelude.{◌≡◌, ℕ, List, All, take};
-ghost use Rattle.aerie_text.specs.declared.marks.Mark.{Mark};
-ghost use Rattle.aerie_text.specs.Marks.{IsMarkOf};
-ghost use Rattle.aerie_text.specs.grammar.Alike.{AreAlike};
-ghost use Rattle.aerie_text.specs.grammar.Predictive.{IsPredictive};
-ghost use Rattle.aerie_text.specs.grammar.Readings.{IsRead};
-ghost use Rattle.aerie_text.specs.reading.Read.{stopped};
-ghost use Rattle.aerie_text.specs.reading.Verdicts.{Judges};
+ghost use Rattle.std.specs.Prelude.{◌≡◌, ℕ, List, take};
+ghost use Rattle.readers.specs.Marks.{Mark};
+ghost use Rattle.readers.specs.grammar.Alike.{AreAlike};
+ghost use Rattle.readers.specs.grammar.Predictive.{IsPredictive};
+ghost use Rattle.readers.specs.grammar.Readings.{IsRead};
+ghost use Rattle.readers.specs.Parsed.{failed};
+ghost use Rattle.readers.specs.Verdicts.{Judges};
 ghost use Rattle.model_reader.specs.grammar.Factored.{look, factored};
 ghost use Rattle.model_reader.specs.grammar.Rules.{model_rule};
 ghost use Rattle.model_reader.specs.grammar.Verdicts.{AnswersAreRight};
@@ -25,10 +24,10 @@ pub fn answers_are_right()
     ensures { AnswersAreRight }
 {}
 
-/// What is read of marks of a text tells of the readings of the grammar as it is written: a model is read where the marks
-/// before those that are left are one; reading stops at the first mark that is refused, or at the end where that is
-/// refused, and then the text does not begin with a model; and a limit is passed at a mark that some reading reads.
-pub fn models_follow()
-    ensures judged { (text : List ℕ) (marks : List Mark) → All (IsMarkOf text) marks → Judges written model_rule marks (model_at text marks) }
-    ensures stopped { (text : List ℕ) (marks rest : List Mark) → All (IsMarkOf text) marks → model_at text marks ≡ stopped rest → (count : ℕ) → IsRead written model_rule (take count marks) → ⊥ }
+/// What is read tells of the readings of the grammar as it is written: a model is read where the marks before those that
+/// are left are one; reading fails at the first mark that is refused, or at the end where that is refused, and then the
+/// marks do not begin with a model; and a limit is passed at a mark that some reading reads.
+pub fn models_conform()
+    ensures judged { (marks : List Mark) → Judges written model_rule marks (model_at marks) }
+    ensures failed { (marks rest : List Mark) → model_at marks ≡ failed rest → (count : ℕ) → IsRead written model_rule (take count marks) → ⊥ }
 {}

@@ -16,3 +16,4 @@ pub use raw::{
     RawParameter, RawPart, RawRead, RawStmt, RawStmtKind, RawType,
 };
 pub use read_error::ReadError;
+pub use reading::model;

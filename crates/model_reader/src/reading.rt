@@ -2,6 +2,7 @@
 
 mod body;
 mod change;
+mod child_start;
 mod declarations;
 mod expressions;
 mod invokes;
@@ -10,11 +11,11 @@ mod literals;
 mod models;
 mod names;
 mod statements;
-mod tall;
 mod types;
+mod with_height;
 
 pub use body::Body;
 pub use change::Change;
 pub use declarations::Declarations;
 pub use models::model;
-pub use tall::Tall;
+pub use with_height::WithHeight;

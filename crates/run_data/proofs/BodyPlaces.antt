@@ -6,17 +6,18 @@ use Rattle.aerie_base.specs.declared.values.Value.{Value}
 use Rattle.aerie_base.specs.declared.statements.Stmt.{Stmt}
 use Rattle.aerie_base.specs.declared.models.model.Parts.{Parts}
 use Rattle.aerie_base.specs.statements.Places.{Placed, left, block_lefts, all_lefts, block_size}
-use Rattle.aerie_base.specs.models.Bodies.{Setting, Scope, block_checked, has_slots, is_body}
+use Rattle.aerie_base.specs.models.Bodies.{Setting, block_checked, has_slots, is_body}
+use Rattle.aerie_base.specs.models.Scopes.{Scope}
 use Rattle.run_data.specs.declared.tasks.BodyId.{BodyId}
 use Rattle.run_data.specs.TaskStates.{body_of}
 use Rattle.run_data.specs.Scopes.{scope_or, block_scopes, scope_at, suits}
 use Rattle.run_data.specs.Jobs.{is_state_of}
 use Rattle.run_data.specs.Typed.{AreLeft}
 use Rattle.run_data.proofs.ScopeForms.{block_scopes_length, block_lefts_length}
-use Rattle.run_data.proofs.Standing.{standing_parts, standing_whole}
+use Rattle.run_data.proofs.Sublists.{standing_parts, standing_whole}
 use Rattle.run_data.proofs.Scoping.{both_hold, same_suffices, longer}
 use Rattle.run_data.proofs.CheckedForms.{block_goes}
-use Rattle.run_data.proofs.PlacesHold.{Follows, Reaches, Holds, AllHold, Stands, all_hold, hold_at, follows, block_reaches, body_holds}
+use Rattle.run_data.proofs.PlacesHold.{Follows, Reaches, Holds, AllHold, IsReached, all_hold, hold_at, follows, block_reaches, body_holds}
 use Rattle.run_data.proofs.ModelBodies.{setting_of, IsBodyOf, Suits, suits_found, suits_make}
 
 -- ---- any body that is as it should be
@@ -120,11 +121,11 @@ module _ (model : Parts) (kind : BodyId) (is : IsBodyOf model kind) where
 
   -- the next statement stands at its place, in its scope
   pub its_next : (here : Placed) (rest : List Placed) (locals : List Value) (scope : Scope) → left (body_of model kind) here.at ≡ here ∷ rest →
-      scope_at its_setting is.kinds (body_of model kind) here.at ≡ Some scope → Stands its_setting is.slots its_scopes its_lefts here rest scope
+      scope_at its_setting is.kinds (body_of model kind) here.at ≡ Some scope → IsReached its_setting is.slots its_scopes its_lefts here rest scope
   unfolding scope_at
   its_next here rest locals scope e found =
       let h : Holds its_setting is.slots its_scopes its_lefts scope (here ∷ rest) =
       subst (λ (l : List Placed). Holds its_setting is.slots its_scopes its_lefts scope l) e (its_place here.at scope found) in
       let both : Some h.0 ≡ Some scope = sym h.1 ∙ found in
       let same : h.0 ≡ scope = cc in
-      subst (λ (s : Scope). Stands its_setting is.slots its_scopes its_lefts here rest s) same h.4
+      subst (λ (s : Scope). IsReached its_setting is.slots its_scopes its_lefts here rest s) same h.4

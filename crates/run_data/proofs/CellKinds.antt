@@ -20,7 +20,7 @@ use Rattle.effect_cells.specs.Reads.{state_value, state_kind, kind_on}
 use Rattle.effect_cells.specs.Solvable.{may_be_solved}
 use Rattle.effect_cells.specs.States.{applied}
 use Rattle.run_data.specs.declared.frames.Item.{Item}
-use Rattle.run_data.specs.Courses.{after_item, after_items, seen}
+use Rattle.run_data.specs.StepStates.{after_item, after_items, seen}
 use Rattle.run_data.specs.Jobs.{AreCellsOf}
 use Rattle.run_data.specs.laws.ModelSteps.{WaitsGoByCells}
 

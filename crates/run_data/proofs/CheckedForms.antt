@@ -6,7 +6,8 @@ use Rattle.aerie_base.specs.declared.values.Kind.TheVariants.{Truth}
 use Rattle.aerie_base.specs.declared.expressions.Expr.{Expr}
 use Rattle.aerie_base.specs.declared.statements.Stmt.{Stmt, If, While, out-Stmt, roll-Stmt, roll-out-Stmt}
 use Rattle.aerie_base.specs.declared.statements.Stmt.TheOpen.{Stmt-F}
-use Rattle.aerie_base.specs.models.Bodies.{Setting, Scope, behind, checked, block_checked, when_good, where_good, with_local, behind_call, is_in, is_assigned, is_emission, is_returned, kind_in}
+use Rattle.aerie_base.specs.models.Bodies.{Setting, checked, block_checked, next_scope_if, same_scope_if, behind_call, is_in, is_assigned, is_emission, is_returned, kind_in}
+use Rattle.aerie_base.specs.models.Scopes.{Scope, behind, with_local}
 use Rattle.aerie_base.specs.models.BodyForms.{braces_checked, checked_If, checked_While}
 use Rattle.aerie_base.specs.statements.Places.{is_simple, simple_step}
 use Rattle.aerie_base.specs.statements.Induction.{AllOf, each, stmt_ind}
@@ -15,11 +16,11 @@ use Rattle.run_data.proofs.Scoping.{GoesOn, goes_nowhere, goes_further, goes_beh
 
 -- ---- what stands where there is a scope
 
-pub good_is : (good : Bool) (scope next : Scope) → where_good good scope ≡ Some next → IsTrue good × (next ≡ scope)
+pub good_is : (good : Bool) (scope next : Scope) → same_scope_if good scope ≡ Some next → IsTrue good × (next ≡ scope)
 good_is true scope next e = let same : scope ≡ next = cc in (refl, sym same)
 good_is false scope next e = absurd (cc)
 
-pub when_is : (good : Bool) (behind next : Option Scope) (found : Scope) → behind ≡ next → when_good good behind ≡ Some found → IsTrue good × (next ≡ Some found)
+pub when_is : (good : Bool) (behind next : Option Scope) (found : Scope) → behind ≡ next → next_scope_if good behind ≡ Some found → IsTrue good × (next ≡ Some found)
 when_is true behind next found same e = (refl, sym same ∙ e)
 when_is false behind next found same e = absurd (cc)
 
@@ -93,7 +94,7 @@ loop_is setting test body scope next e =
 takes_goes : (slot : ℕ) (kind : Option Kind) (scope next : Scope) → with_local slot kind scope ≡ Some next → GoesOn scope next
 takes_goes slot kind scope next e = let taken = takes slot kind scope next e in (Some taken.of ∷ [], taken.next_is)
 
-good_goes : (good : Bool) (scope next : Scope) → where_good good scope ≡ Some next → GoesOn scope next
+good_goes : (good : Bool) (scope next : Scope) → same_scope_if good scope ≡ Some next → GoesOn scope next
 good_goes good scope next e = subst (λ (l : Scope). GoesOn scope l) (sym (good_is good scope next e).1) (goes_nowhere scope)
 
 call_goes : (into : Option ℕ) (result : Option Kind) (scope next : Scope) → behind_call into result scope ≡ Some next → GoesOn scope next

@@ -9,7 +9,7 @@ use Rattle.aerie_base.specs.declared.models.Parameter.{Parameter}
 use Rattle.aerie_base.specs.declared.models.Activity.{Activity}
 use Rattle.aerie_base.specs.declared.models.model.Parts.{Parts}
 use Rattle.aerie_base.specs.expressions.Arithmetic.{value_kind}
-use Rattle.aerie_base.specs.expressions.Evaluation.{Noted}
+use Rattle.aerie_base.specs.expressions.Evaluation.{Evaluated}
 use Rattle.aerie_base.specs.expressions.Soundness.{Gives, sound}
 use Rattle.aerie_base.specs.expressions.Typing.{same_kind}
 use Rattle.aerie_base.specs.models.Cells.{read_kind}
@@ -18,7 +18,7 @@ use Rattle.effect_cells.specs.declared.effects.Effect.{Effect}
 use Rattle.run_data.specs.declared.tasks.BodyId.TheVariants as body
 use Rattle.run_data.specs.declared.frames.Item.{Item}
 use Rattle.run_data.specs.declared.frames.Item.TheVariants as item
-use Rattle.run_data.specs.Courses.{Course, after_items, seen, valued, noting}
+use Rattle.run_data.specs.StepStates.{StepState, after_items, seen, valued, with_flags}
 use Rattle.run_data.specs.Jobs.{is_state_of, AreCellsOf}
 use Rattle.run_data.specs.Scopes.{suits}
 use Rattle.run_data.specs.Steps.{with_first, first_of, valued_all}
@@ -48,23 +48,23 @@ first_given : (value : Value) (parameter : Parameter) (parameters : List Paramet
 first_given value parameter parameters (Ok values) e h = (e, h)
 first_given value parameter parameters (Err fault) e h = tt
 
-first_turn : (course : Course) (result : Noted) (parameter : Parameter) (parameters : List Parameter) (go : Course → Result (List Value) Fault × Course) →
-    Gives parameter.kind result.0 → ((noted : List Bool) → GiveAll parameters (go (noting course noted)).0) → GiveAll (parameter ∷ parameters) (first_of course result go).0
-first_turn course (Ok value, noted) parameter parameters go e h = first_given value parameter parameters (go (noting course noted)).0 e (h noted)
-first_turn course (Err fault, noted) parameter parameters go e h = tt
+first_turn : (so_far : StepState) (result : Evaluated) (parameter : Parameter) (parameters : List Parameter) (go : StepState → Result (List Value) Fault × StepState) →
+    Gives parameter.kind result.0 → ((read_flags : List Bool) → GiveAll parameters (go (with_flags so_far read_flags)).0) → GiveAll (parameter ∷ parameters) (first_of so_far result go).0
+first_turn so_far (Ok value, read_flags) parameter parameters go e h = first_given value parameter parameters (go (with_flags so_far read_flags)).0 e (h read_flags)
+first_turn so_far (Err fault, read_flags) parameter parameters go e h = tt
 
 -- the values of arguments have the parameters' types
-pub all_given : (model : Parts) (exprs : List Expr) (parameters : List Parameter) (course : Course) → AreCellsOf model (after_items course.view course.items) →
-    IsTrue (are_typed_arguments model course.locals exprs parameters) → GiveAll parameters (valued_all exprs course).0
-all_given model [] [] course cells h = tt
-all_given model [] (parameter ∷ parameters) course cells h = absurd (cc)
-all_given model (expr ∷ exprs) [] course cells h = absurd (cc)
-all_given model (expr ∷ exprs) (parameter ∷ parameters) course cells h =
-    let parts = both_hold (has_kind course.locals (read_kind model.cells) expr parameter.kind) (are_typed_arguments model course.locals exprs parameters) h in
-    first_turn course (valued course expr) parameter parameters (valued_all exprs)
-    (sound expr course.locals (read_kind model.cells) (seen course.view course.items) course.noted parameter.kind (seen_readings model course.view course.items cells)
-    (kind_is (kind_here course.locals (read_kind model.cells) expr) parameter.kind parts.0))
-    (λ noted. all_given model exprs parameters (noting course noted) cells parts.1)
+pub all_given : (model : Parts) (exprs : List Expr) (parameters : List Parameter) (so_far : StepState) → AreCellsOf model (after_items so_far.view so_far.items) →
+    IsTrue (are_typed_arguments model so_far.locals exprs parameters) → GiveAll parameters (valued_all exprs so_far).0
+all_given model [] [] so_far cells h = tt
+all_given model [] (parameter ∷ parameters) so_far cells h = absurd (cc)
+all_given model (expr ∷ exprs) [] so_far cells h = absurd (cc)
+all_given model (expr ∷ exprs) (parameter ∷ parameters) so_far cells h =
+    let parts = both_hold (has_kind so_far.locals (read_kind model.cells) expr parameter.kind) (are_typed_arguments model so_far.locals exprs parameters) h in
+    first_turn so_far (valued so_far expr) parameter parameters (valued_all exprs)
+    (sound expr so_far.locals (read_kind model.cells) (seen so_far.view so_far.items) so_far.read_flags parameter.kind (seen_readings model so_far.view so_far.items cells)
+    (kind_is (kind_here so_far.locals (read_kind model.cells) expr) parameter.kind parts.0))
+    (λ read_flags. all_given model exprs parameters (with_flags so_far read_flags) cells parts.1)
 
 -- ---- the state in which a child begins
 
@@ -105,15 +105,15 @@ module _ (model : Parts) (valid : IsTrue (valid_model model)) where
   begins_by kind activity e (Ok values) h = child_begins kind activity values e h
   begins_by kind activity e (Err fault) h = tt
 
-  typed_begins : (kind : ℕ) (exprs : List Expr) (course : Course) (found : Option Activity) → slice_get model.activities kind ≡ found → AreCellsOf model (after_items course.view course.items) →
-      IsTrue (is_typed_child model course.locals found exprs) → ChildBegins kind (valued_all exprs course).0
-  typed_begins kind exprs course None e cells h = absurd (cc)
-  typed_begins kind exprs course (Some activity) e cells h =
-      begins_by kind activity e (valued_all exprs course).0 (all_given model exprs activity.parameters course cells h)
+  typed_begins : (kind : ℕ) (exprs : List Expr) (so_far : StepState) (found : Option Activity) → slice_get model.activities kind ≡ found → AreCellsOf model (after_items so_far.view so_far.items) →
+      IsTrue (is_typed_child model so_far.locals found exprs) → ChildBegins kind (valued_all exprs so_far).0
+  typed_begins kind exprs so_far None e cells h = absurd (cc)
+  typed_begins kind exprs so_far (Some activity) e cells h =
+      begins_by kind activity e (valued_all exprs so_far).0 (all_given model exprs activity.parameters so_far cells h)
 
-  pub child_typed_begins : (kind : ℕ) (exprs : List Expr) (course : Course) → AreCellsOf model (after_items course.view course.items) →
-      IsTrue (is_typed_child model course.locals (slice_get model.activities kind) exprs) → ChildBegins kind (valued_all exprs course).0
-  child_typed_begins kind exprs course cells h = typed_begins kind exprs course (slice_get model.activities kind) refl cells h
+  pub child_typed_begins : (kind : ℕ) (exprs : List Expr) (so_far : StepState) → AreCellsOf model (after_items so_far.view so_far.items) →
+      IsTrue (is_typed_child model so_far.locals (slice_get model.activities kind) exprs) → ChildBegins kind (valued_all exprs so_far).0
+  child_typed_begins kind exprs so_far cells h = typed_begins kind exprs so_far (slice_get model.activities kind) refl cells h
 
 -- one child more
 pub children_more : (model : Parts) (items : List Item) (kind : ℕ) (values : List Value) → AreChildrenOf model items → IsTrue (is_state_of model (activity_begun model kind values)) →

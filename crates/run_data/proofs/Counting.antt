@@ -1,85 +1,21 @@
 -- How many tasks of a table are open, through its changes. Tables are in order of path.
-use Rattle.std.proofs.Common.{◌≡◌, ℕ, ◌+◌, Bool, true, false, List, [], ◌∷◌, Option, Some, None, refl, sym, ap, ◌∙◌, subst, arith}
+use Rattle.std.proofs.Common.{◌≡◌, ℕ, ◌+◌, true, List, [], ◌∷◌, Option, Some, None, refl, sym, ap, ◌∙◌, subst, arith}
 use Rattle.std.specs.Cmp.Lexicographic.{nat_list_cmp_total}
 use Rattle.std.specs.declared.cmp.Ordering.{Ordering}
 use Rattle.std.specs.declared.cmp.Ordering.TheVariants.{Less, Equal, Greater}
-use Rattle.std.specs.Ordering.{match_ordering, ordering_reverse}
-use Rattle.std.proofs.lemmas.Map.Lookups.{exact_bytes}
+use Rattle.std.specs.Ordering.{match_ordering}
 use Rattle.aerie_base.specs.Paths.{path_cmp}
 use Rattle.effect_cells.specs.declared.effects.CellState.{CellState}
 use Rattle.run_data.specs.declared.jobs.Job.{Job}
 use Rattle.run_data.specs.Endings.{is_open}
-use Rattle.run_data.specs.Tasks.{Doing, anchored, ready, delayed, waiting, calling, over, Task, Table, with_task, on_each, ready_jobs, job_if_ready}
-
--- ---- the order of paths
-
-path_itself : (path : List ℕ) → path_cmp path path ≡ Equal
-path_itself path = by (path_cmp path path) (nat_list_cmp_total.antisymm path path)
-  where
-    by : (order : Ordering) → order ≡ ordering_reverse order → order ≡ Equal
-    by Less e = absurd (cc)
-    by Equal e = refl
-    by Greater e = absurd (cc)
-
-pub path_same : (path other : List ℕ) → path_cmp path other ≡ Equal → path ≡ other
-path_same path other e = exact_bytes path other e
-
-pub reversed : (path other : List ℕ) (order : Ordering) → path_cmp path other ≡ order → path_cmp other path ≡ ordering_reverse order
-reversed path other order e = nat_list_cmp_total.antisymm other path ∙ ap ordering_reverse e
-
--- ---- tables in order
-
-abbrev pub Above : List ℕ → Table → Type 0
-Above path [] = Unit {0}
-Above path (entry ∷ rest) = (path_cmp path entry.0 ≡ Less) × Above path rest
-
-abbrev pub InOrder : Table → Type 0
-InOrder [] = Unit {0}
-InOrder (entry ∷ rest) = Above entry.0 rest × InOrder rest
-
-above_all : (path other : List ℕ) (table : Table) → path_cmp path other ≡ Less → Above other table → Above path table
-above_all path other [] less above = tt
-above_all path other (entry ∷ rest) less above = (nat_list_cmp_total.trans path other entry.0 less above.0, above_all path other rest less above.1)
-
-above_with : (path other : List ℕ) (task : Task) (table : Table) → Above path table → path_cmp path other ≡ Less → Above path (with_task table other task)
-above_with path other task [] above less = (less, tt)
-above_with path other task (entry ∷ rest) above less = by (path_cmp other entry.0) (above_with path other task rest above.1 less)
-  where
-    by : (order : Ordering) → Above path (with_task rest other task) →
-        Above path (match_ordering order ((other, task) ∷ entry ∷ rest) ((entry.0, task) ∷ rest) (entry ∷ with_task rest other task))
-    by Less further = (less, above)
-    by Equal further = above
-    by Greater further = (above.0, further)
-
-pub order_with : (table : Table) (path : List ℕ) (task : Task) → InOrder table → InOrder (with_task table path task)
-order_with [] path task order = (tt, tt)
-order_with (entry ∷ rest) path task order = by (path_cmp path entry.0) refl (order_with rest path task order.1)
-  where
-    by : (r : Ordering) → path_cmp path entry.0 ≡ r → InOrder (with_task rest path task) →
-        InOrder (match_ordering r ((path, task) ∷ entry ∷ rest) ((entry.0, task) ∷ rest) (entry ∷ with_task rest path task))
-    by Less e further = ((e, above_all path entry.0 rest e order.0), order)
-    by Equal e further = order
-    by Greater e further = (above_with entry.0 path task rest order.0 (reversed path entry.0 Greater e), further)
-
-above_each : (path : List ℕ) (change : List ℕ → Task → Task) (table : Table) → Above path table → Above path (on_each change table)
-above_each path change [] above = tt
-above_each path change (entry ∷ rest) above = (above.0, above_each path change rest above.1)
-
-pub order_each : (change : List ℕ → Task → Task) (table : Table) → InOrder table → InOrder (on_each change table)
-order_each change [] order = tt
-order_each change (entry ∷ rest) order = (above_each entry.0 change rest order.0, order_each change rest order.1)
+use Rattle.run_data.specs.Tasks.{TaskPhase, anchored, ready, delayed, waiting, calling, over, Task, Table, with_task, on_each, ready_jobs, job_if_ready}
+use Rattle.run_data.specs.laws.OrderedTables.{Above, InOrder}
+use Rattle.run_data.specs.laws.Weights.{one_if, opens}
+use Rattle.run_data.proofs.OrderedTables.{path_itself, path_same, reversed}
 
 -- ---- open tasks
 
-abbrev pub one_if : Bool → ℕ
-one_if true = 1
-one_if false = 0
-
-abbrev pub opens : Table → ℕ
-opens [] = 0
-opens (entry ∷ rest) = one_if (is_open entry.1.doing) + opens rest
-
-pub opens_each : (change : List ℕ → Task → Task) → ((path : List ℕ) (task : Task) → is_open (change path task).doing ≡ is_open task.doing) →
+pub opens_each : (change : List ℕ → Task → Task) → ((path : List ℕ) (task : Task) → is_open (change path task).phase ≡ is_open task.phase) →
     (table : Table) → opens (on_each change table) ≡ opens table
 opens_each change same [] = refl
 opens_each change same (entry ∷ rest) = λ i. one_if (same entry.0 entry.1 i) + opens_each change same rest i
@@ -91,15 +27,15 @@ standing path (entry ∷ rest) = match_ordering (path_cmp path entry.0) None (So
 
 abbrev pub open_there : Option Task → ℕ
 open_there None = 0
-open_there (Some task) = one_if (is_open task.doing)
+open_there (Some task) = one_if (is_open task.phase)
 
-pub opens_with : (table : Table) (path : List ℕ) (task : Task) → opens (with_task table path task) + open_there (standing path table) ≡ opens table + one_if (is_open task.doing)
+pub opens_with : (table : Table) (path : List ℕ) (task : Task) → opens (with_task table path task) + open_there (standing path table) ≡ opens table + one_if (is_open task.phase)
 opens_with [] path task = omega arith
 opens_with (entry ∷ rest) path task = by (path_cmp path entry.0) (opens_with rest path task)
   where
-    by : (order : Ordering) → opens (with_task rest path task) + open_there (standing path rest) ≡ opens rest + one_if (is_open task.doing) →
+    by : (order : Ordering) → opens (with_task rest path task) + open_there (standing path rest) ≡ opens rest + one_if (is_open task.phase) →
         opens (match_ordering order ((path, task) ∷ entry ∷ rest) ((entry.0, task) ∷ rest) (entry ∷ with_task rest path task))
-        + open_there (match_ordering order None (Some entry.1) (standing path rest)) ≡ one_if (is_open entry.1.doing) + opens rest + one_if (is_open task.doing)
+        + open_there (match_ordering order None (Some entry.1) (standing path rest)) ≡ one_if (is_open entry.1.phase) + opens rest + one_if (is_open task.phase)
     by Less further = omega arith
     by Equal further = omega arith
     by Greater further = omega (arith, further)
@@ -140,7 +76,7 @@ module _ (path other : List ℕ) (task : Task) (apart : path_cmp path other ≡ 
 pub record Found (path : List ℕ) (table : Table) : Type 0 where
   pub task : Task
   pub stands : standing path table ≡ Some task
-  pub is_open : is_open task.doing ≡ true
+  pub is_open : is_open task.phase ≡ true
   pub above : (other : List ℕ) → Above other table → path_cmp other path ≡ Less
 
 found_further : (entry : List ℕ × Task) (rest : Table) (path : List ℕ) → Above entry.0 rest → Found path rest → Found path (entry ∷ rest)
@@ -151,7 +87,7 @@ found_further entry rest path above found = record {
   above = λ other over_all. found.above other over_all.1;
 }
 
-found_here : (entry : List ℕ × Task) (rest : Table) → is_open entry.1.doing ≡ true → Found entry.0 (entry ∷ rest)
+found_here : (entry : List ℕ × Task) (rest : Table) → is_open entry.1.phase ≡ true → Found entry.0 (entry ∷ rest)
 found_here entry rest open_ = record {
   task = entry.1;
   stands = ap (λ order. match_ordering order None (Some entry.1) (standing entry.0 rest)) (path_itself entry.0);
@@ -168,8 +104,8 @@ first_further : (entry : List ℕ × Task) (rest : Table) (jobs : List (ℕ × J
 first_further entry rest [] above found = tt
 first_further entry rest (job ∷ jobs) above found = found_further entry rest job.1.path above found
 
-first_if : (cells : List CellState) (entry : List ℕ × Task) (rest : Table) (doing : Doing) (jobs : List (ℕ × Job)) → entry.1.doing ≡ doing → Above entry.0 rest → FirstFound rest jobs →
-    FirstFound (entry ∷ rest) (job_if_ready cells entry.0 entry.1 doing jobs)
+first_if : (cells : List CellState) (entry : List ℕ × Task) (rest : Table) (phase : TaskPhase) (jobs : List (ℕ × Job)) → entry.1.phase ≡ phase → Above entry.0 rest → FirstFound rest jobs →
+    FirstFound (entry ∷ rest) (job_if_ready cells entry.0 entry.1 phase jobs)
 first_if cells entry rest (ready state) jobs e above found = found_here entry rest (ap is_open e)
 first_if cells entry rest (anchored to edge start state) jobs e above found = first_further entry rest jobs above found
 first_if cells entry rest (delayed until state) jobs e above found = first_further entry rest jobs above found
@@ -180,4 +116,4 @@ first_if cells entry rest (over result) jobs e above found = first_further entry
 pub first_found : (cells : List CellState) (table : Table) → InOrder table → FirstFound table (ready_jobs cells table)
 first_found cells [] order = tt
 first_found cells (entry ∷ rest) order =
-    first_if cells entry rest entry.1.doing (ready_jobs cells rest) refl order.0 (first_found cells rest order.1)
+    first_if cells entry rest entry.1.phase (ready_jobs cells rest) refl order.0 (first_found cells rest order.1)

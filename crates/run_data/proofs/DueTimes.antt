@@ -8,14 +8,15 @@ use Rattle.effect_cells.specs.declared.effects.CellState.TheVariants.{Counter, R
 use Rattle.effect_cells.specs.Cells.{passed}
 use Rattle.effect_cells.specs.States.{later, volume_of}
 use Rattle.effect_cells.specs.SumLaws.{flowed_zero}
-use Rattle.effect_cells.specs.WakeTimes.{found_or, least_from, holds_on, holds_in, wake_time}
-use Rattle.run_data.specs.Tasks.{Doing, anchored, ready, delayed, waiting, calling, over, Task, Table, on_each, woken, woken_doing, job_if_ready, ready_jobs}
+use Rattle.effect_cells.specs.Searching.{found_or, least_from}
+use Rattle.effect_cells.specs.WakeTimes.{holds_on, holds_in, wake_time}
+use Rattle.run_data.specs.Tasks.{TaskPhase, anchored, ready, delayed, waiting, calling, over, Task, Table, on_each, woken, woken_phase, job_if_ready, ready_jobs}
 use Rattle.run_data.specs.declared.jobs.Job.{Job}
-use Rattle.run_data.specs.Fresh.{earlier, after, due, least_due}
+use Rattle.run_data.specs.Fresh.{earlier, from_now, due_time, least_due}
 use Rattle.run_data.proofs.Tables.{Each}
 
 -- a delay ends after this time
-abbrev pub EndsAfter : ℕ → Doing → Type 0
+abbrev pub EndsAfter : ℕ → TaskPhase → Type 0
 EndsAfter now (delayed until state) = now < until
 EndsAfter now (anchored to edge start state) = Unit {0}
 EndsAfter now (ready state) = Unit {0}
@@ -24,7 +25,7 @@ EndsAfter now (calling child into state) = Unit {0}
 EndsAfter now (over result) = Unit {0}
 
 -- a condition does not hold
-abbrev pub StillWaits : List CellState → Doing → Type 0
+abbrev pub StillWaits : List CellState → TaskPhase → Type 0
 StillWaits cells (waiting condition state) = holds_on cells condition ≡ false
 StillWaits cells (delayed until state) = Unit {0}
 StillWaits cells (anchored to edge start state) = Unit {0}
@@ -33,7 +34,7 @@ StillWaits cells (calling child into state) = Unit {0}
 StillWaits cells (over result) = Unit {0}
 
 -- a delay does not end before the next time, and there is none where there is no such time
-abbrev pub EndsNotBefore : Option ℕ → Doing → Type 0
+abbrev pub EndsNotBefore : Option ℕ → TaskPhase → Type 0
 EndsNotBefore None (delayed until state) = ⊥
 EndsNotBefore (Some time) (delayed until state) = time ≤ until
 EndsNotBefore next (anchored to edge start state) = Unit {0}
@@ -82,11 +83,11 @@ wakes_later cells condition limit found fails e =
 
 -- ---- the next time
 
-after_is_after : (now : ℕ) (found : Option ℕ) → ((dt : ℕ) → found ≡ Some dt → 0 < dt) → IsAfter now (after now found)
+after_is_after : (now : ℕ) (found : Option ℕ) → ((dt : ℕ) → found ≡ Some dt → 0 < dt) → IsAfter now (from_now now found)
 after_is_after now None h = tt
 after_is_after now (Some dt) h = omega (arith, h dt refl)
 
-due_is_after : (now horizon : ℕ) (cells : List CellState) (doing : Doing) → EndsAfter now doing → StillWaits cells doing → IsAfter now (due now horizon cells doing)
+due_is_after : (now horizon : ℕ) (cells : List CellState) (phase : TaskPhase) → EndsAfter now phase → StillWaits cells phase → IsAfter now (due_time now horizon cells phase)
 due_is_after now horizon cells (delayed until state) ends waits = ends
 due_is_after now horizon cells (waiting condition state) ends waits =
     after_is_after now (wake_time cells condition (horizon - now)) (λ dt. wakes_later cells condition (horizon - now) dt waits)
@@ -108,15 +109,15 @@ pub least_is_after : (now horizon : ℕ) (cells : List CellState) (table : Table
     IsAfter now (least_due now horizon cells table)
 least_is_after now horizon cells [] ends waits = tt
 least_is_after now horizon cells (entry ∷ rest) ends waits =
-    earlier_is_after now (due now horizon cells entry.1.doing) (least_due now horizon cells rest)
-    (due_is_after now horizon cells entry.1.doing ends.0 waits.0) (least_is_after now horizon cells rest ends.1 waits.1)
+    earlier_is_after now (due_time now horizon cells entry.1.phase) (least_due now horizon cells rest)
+    (due_is_after now horizon cells entry.1.phase ends.0 waits.0) (least_is_after now horizon cells rest ends.1 waits.1)
 
 -- ---- no delay ends before it
 
 min_left : (a b c : ℕ) → a ≤ c → min a b ≤ c
 min_left a b c h = omega (arith, min-le_left a b)
 
-earlier_left : (now horizon : ℕ) (cells : List CellState) (doing : Doing) (rest : Option ℕ) → EndsNotBefore (earlier (due now horizon cells doing) rest) doing
+earlier_left : (now horizon : ℕ) (cells : List CellState) (phase : TaskPhase) (rest : Option ℕ) → EndsNotBefore (earlier (due_time now horizon cells phase) rest) phase
 earlier_left now horizon cells (delayed until state) None = omega arith
 earlier_left now horizon cells (delayed until state) (Some time) = min_left until time until (omega arith)
 earlier_left now horizon cells (waiting condition state) rest = tt
@@ -128,8 +129,8 @@ earlier_left now horizon cells (over result) rest = tt
 min_right : (a b c : ℕ) → b ≤ c → min a b ≤ c
 min_right a b c h = omega (arith, min-le_right a b)
 
-earlier_right : (first rest : Option ℕ) (doing : Doing) → EndsNotBefore rest doing → EndsNotBefore (earlier first rest) doing
-earlier_right None rest doing h = h
+earlier_right : (first rest : Option ℕ) (phase : TaskPhase) → EndsNotBefore rest phase → EndsNotBefore (earlier first rest) phase
+earlier_right None rest phase h = h
 earlier_right (Some time) None (delayed until state) h = absurd h
 earlier_right (Some time) (Some other) (delayed until state) h = min_right time other until h
 earlier_right (Some time) rest (waiting condition state) h = tt
@@ -140,19 +141,19 @@ earlier_right (Some time) rest (over result) h = tt
 
 each_right : (first rest : Option ℕ) (table : Table) → Each (EndsNotBefore rest) table → Each (EndsNotBefore (earlier first rest)) table
 each_right first rest [] each = tt
-each_right first rest (entry ∷ entries) each = (earlier_right first rest entry.1.doing each.0, each_right first rest entries each.1)
+each_right first rest (entry ∷ entries) each = (earlier_right first rest entry.1.phase each.0, each_right first rest entries each.1)
 
 pub none_ends_before : (now horizon : ℕ) (cells : List CellState) (table : Table) → Each (EndsNotBefore (least_due now horizon cells table)) table
 none_ends_before now horizon cells [] = tt
 none_ends_before now horizon cells (entry ∷ rest) = (
-  earlier_left now horizon cells entry.1.doing (least_due now horizon cells rest),
-  each_right (due now horizon cells entry.1.doing) (least_due now horizon cells rest) rest (none_ends_before now horizon cells rest),
+  earlier_left now horizon cells entry.1.phase (least_due now horizon cells rest),
+  each_right (due_time now horizon cells entry.1.phase) (least_due now horizon cells rest) rest (none_ends_before now horizon cells rest),
 )
 
 -- ---- where no task is ready
 
-none_here : (cells : List CellState) (path : List ℕ) (task : Task) (doing : Doing) (rest : List (ℕ × Job)) →
-    job_if_ready cells path task (woken_doing cells doing) rest ≡ [] → StillWaits cells doing × (rest ≡ [])
+none_here : (cells : List CellState) (path : List ℕ) (task : Task) (phase : TaskPhase) (rest : List (ℕ × Job)) →
+    job_if_ready cells path task (woken_phase cells phase) rest ≡ [] → StillWaits cells phase × (rest ≡ [])
 none_here cells path task (waiting condition state) rest e = by (holds_on cells condition) e
   where
     by : (holds : Bool) → job_if_ready cells path task (if holds then ready state else waiting condition state) rest ≡ [] → (holds ≡ false) × (rest ≡ [])
@@ -167,5 +168,5 @@ none_here cells path task (over result) rest e = (tt, e)
 pub none_ready : (cells : List CellState) (table : Table) → ready_jobs cells (on_each (woken cells) table) ≡ [] → Each (StillWaits cells) table
 none_ready cells [] e = tt
 none_ready cells (entry ∷ rest) e =
-    let h = none_here cells entry.0 (woken cells entry.0 entry.1) entry.1.doing (ready_jobs cells (on_each (woken cells) rest)) e in
+    let h = none_here cells entry.0 (woken cells entry.0 entry.1) entry.1.phase (ready_jobs cells (on_each (woken cells) rest)) e in
     (h.0, none_ready cells rest h.1)

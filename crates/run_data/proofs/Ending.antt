@@ -1,5 +1,5 @@
 -- A simulation ends: with each turn a weight falls.
-use Rattle.std.proofs.Common.{◌≡◌, ◌⊎◌, inl, inr, ℕ, zero, suc, ◌+◌, ◌-◌, ◌*◌, ◌<◌, ◌≤◌, Bool, true, false, List, [], ◌∷◌, length, Option, Some, None, if◌then◌else◌, nat_eq, nat_lt, nat_abs, refl, sym, ap, ◌∙◌, subst, arith}
+use Rattle.std.proofs.Common.{◌≡◌, ◌⊎◌, inl, inr, ℕ, zero, suc, ◌+◌, ◌-◌, ◌<◌, ◌≤◌, Bool, true, false, List, [], ◌∷◌, length, Option, Some, None, if◌then◌else◌, nat_eq, nat_lt, nat_abs, refl, sym, ap, ◌∙◌, subst, arith}
 use Rattle.std.proofs.lemmas.Bool.{ltb-false}
 use Rattle.std.specs.declared.cmp.Ordering.{Ordering}
 use Rattle.std.specs.declared.cmp.Ordering.TheVariants.{Less, Equal, Greater}
@@ -9,7 +9,7 @@ use Rattle.aerie_base.specs.declared.plans.Directive.{Directive}
 use Rattle.aerie_base.specs.declared.plans.Plan.{Plan}
 use Rattle.aerie_base.specs.Paths.{root, daemon_root, path_cmp, child_path}
 use Rattle.effect_cells.specs.declared.effects.CellState.{CellState}
-use Rattle.effect_cells.specs.Cells.{passed, first_out, committed as committed_cells}
+use Rattle.effect_cells.specs.Cells.{passed, first_out, committed_cells}
 use Rattle.effect_cells.specs.WakeTimes.{holds_on}
 use Rattle.run_data.specs.declared.jobs.Job.{Job}
 use Rattle.run_data.specs.declared.frames.Frame.{Frame}
@@ -18,20 +18,23 @@ use Rattle.run_data.specs.declared.frames.Status.TheVariants as status
 use Rattle.run_data.specs.declared.tasks.TaskState.{TaskState}
 use Rattle.run_data.specs.declared.runs.Run.{Run}
 use Rattle.run_data.specs.Batches.{Batch, limit, failed, committed, batch, judged as judged_batch, when_within, when_no_fault, unless_out, Blame, least_fault, tree_of, cost_of, by_path, put_by_path, in_front_unless_greater}
-use Rattle.run_data.specs.Endings.{is_open, after_batch, gone_on, due_doing, back, has_ended, has_come, result_of, with_result}
-use Rattle.run_data.specs.Fold.{Next, more, finished, begins, turns}
+use Rattle.run_data.specs.Endings.{is_open, after_batch, gone_on, due_phase, back, has_ended, has_come, result_of, with_result}
+use Rattle.run_data.specs.Transitions.{Next, more, finished, begins, onward, iterate}
 use Rattle.run_data.specs.Frames.{Made, Making, made_by_all}
-use Rattle.run_data.specs.Fresh.{Standing, start, next, next_by, judged, moved, to_time, to_end, after_outcome, least_due, below, Stands, IsFresh, after_turns}
+use Rattle.run_data.specs.Fresh.{SimulationState, start, next, next_by, woken_or_moved, moved, to_time, to_end, after_outcome, least_due, below, IsReached, IsFresh, after_turns}
 use Rattle.run_data.specs.TaskStates.{activity_begun, daemon_begun}
-use Rattle.run_data.specs.Tasks.{Doing, anchored, ready, delayed, waiting, calling, over, Task, Table, task_at, with_task, on_each, planned, with_directives, with_daemons, children_made, children_in, after_delay, doing_after, task_after, after_frame, after_frames, ready_jobs, woken, woken_doing, rested, rested_doing}
+use Rattle.run_data.specs.Tasks.{TaskPhase, anchored, ready, delayed, waiting, calling, over, Task, Table, task_at, with_task, on_each, planned, with_directives, with_daemons, children_made, children_in, after_delay, phase_after, task_after, after_frame, after_frames, ready_jobs, woken, woken_phase, rested, rested_phase}
 use Rattle.run_data.specs.laws.Ending.{enough_turns, TurnsFinish, HasFreshRun, FreshRunByTurns}
-use Rattle.run_data.specs.laws.Folding.{result_stays, turns_come, same_result}
+use Rattle.run_data.specs.laws.Weights.{one_if, opens, idle, weigh, weight, WeightFalls, WeightBegins}
+use Rattle.run_data.specs.laws.Iteration.{result_stays, turns_come, same_result}
 use Rattle.run_data.proofs.FramePaths.{HasPath}
-use Rattle.run_data.proofs.Counting.{InOrder, order_with, order_each, one_if, opens, opens_each, standing, open_there, opens_with, standing_still, path_same, Found, FirstFound, first_found}
+use Rattle.run_data.specs.laws.OrderedTables.{InOrder}
+use Rattle.run_data.proofs.OrderedTables.{order_with, order_each, path_same}
+use Rattle.run_data.proofs.Counting.{opens_each, standing, open_there, opens_with, standing_still, Found, FirstFound, first_found}
 use Rattle.run_data.proofs.DueTimes.{StillWaits, IsAfter, least_is_after, none_ready}
 use Rattle.run_data.proofs.Paying.{open_status, EachFrame, Pays, AllPay, HasFrameOf, all_pay, all_first}
 use Rattle.run_data.proofs.Tables.{Each}
-use Rattle.run_data.proofs.Rising.{StandsWell, GoesWell, next_well, start_well, below_is}
+use Rattle.run_data.proofs.Rising.{StandsWell, GoesWell, next_well, start_well, stands_well, below_is}
 
 -- ---- any fold
 
@@ -40,12 +43,12 @@ module _ (S R : Type 0) (go : S → Next S R) (Good : S → Type 0) (weight : S 
   FallsTo at (more place) = Good place × (weight place < weight at)
   FallsTo at (finished result) = Unit {0}
 
-  pub ends : ((at : S) → Good at → FallsTo at (go at)) → (count : ℕ) (at : S) → Good at → weight at < count → (result : R) × (turns S R go count (more at) ≡ finished result)
+  pub ends : ((at : S) → Good at → FallsTo at (go at)) → (count : ℕ) (at : S) → Good at → weight at < count → (result : R) × (iterate S R go count (more at) ≡ finished result)
   ends falls zero at good less = absurd (omega arith)
   ends falls (suc count) at good less = by (go at) (falls at good) (ends falls count)
     where
-      by : (place : Next S R) → FallsTo at place → ((at : S) → Good at → weight at < count → (result : R) × (turns S R go count (more at) ≡ finished result)) →
-          (result : R) × (turns S R go count place ≡ finished result)
+      by : (place : Next S R) → FallsTo at place → ((at : S) → Good at → weight at < count → (result : R) × (iterate S R go count (more at) ≡ finished result)) →
+          (result : R) × (iterate S R go count place ≡ finished result)
       by (more place) fall further = further place fall.0 (omega (arith, fall.1))
       by (finished result) fall further = (result, result_stays S R go count result)
 
@@ -55,7 +58,7 @@ delay_open : (now by : ℕ) (state : TaskState) → one_if (is_open (after_delay
 delay_open now zero state = omega arith
 delay_open now (suc less) state = omega arith
 
-open_after : (now made : ℕ) (ending : Status) → one_if (is_open (doing_after now made ending)) ≤ open_status ending
+open_after : (now made : ℕ) (ending : Status) → one_if (is_open (phase_after now made ending)) ≤ open_status ending
 open_after now made (status.Delayed by state) = delay_open now (nat_abs by) state
 open_after now made (status.Waiting condition state) = omega arith
 open_after now made (status.Calling into state) = omega arith
@@ -83,7 +86,7 @@ unfolding open_frames
 frames_open now [] table = omega arith
 frames_open now (frame ∷ rest) table = omega (arith, one_frame now frame table, frames_open now rest (after_frame now frame table))
 
-module _ (now : ℕ) (path : List ℕ) (task : Task) (open_ : is_open task.doing ≡ true) where
+module _ (now : ℕ) (path : List ℕ) (task : Task) (open_ : is_open task.phase ≡ true) where
   falls_here : (frame : Frame) (rest : List Frame) (table : Table) → frame.path ≡ path → standing path table ≡ Some task →
       opens (after_frames now (frame ∷ rest) table) + 1 ≤ opens table + open_frames (frame ∷ rest)
   unfolding open_frames
@@ -112,14 +115,14 @@ module _ (now : ℕ) (path : List ℕ) (task : Task) (open_ : is_open task.doing
 
 -- ---- the tasks after a batch
 
-order_frames : (now : ℕ) (frames : List Frame) (table : Table) → InOrder table → InOrder (after_frames now frames table)
+pub order_frames : (now : ℕ) (frames : List Frame) (table : Table) → InOrder table → InOrder (after_frames now frames table)
 order_frames now [] table order = order
 order_frames now (frame ∷ rest) table order = order_frames now rest (after_frame now frame table) (order_with table frame.path (new_task now frame table) order)
 
-order_batch : (now : ℕ) (frames : List Frame) (table : Table) → InOrder table → InOrder (after_batch now frames table)
+pub order_batch : (now : ℕ) (frames : List Frame) (table : Table) → InOrder table → InOrder (after_batch now frames table)
 order_batch now frames table order = order_each (gone_on (after_frames now frames table) now) (after_frames now frames table) (order_frames now frames table order)
 
-back_open : (table : Table) (path : List ℕ) (doing : Doing) → is_open (back table path doing) ≡ is_open doing
+pub back_open : (table : Table) (path : List ℕ) (phase : TaskPhase) → is_open (back table path phase) ≡ is_open phase
 back_open table path (calling child into state) = by (has_ended table (child_path path child))
   where
     by : (ended : Bool) → is_open (if ended then ready (with_result into (result_of (task_at table (child_path path child))) state) else calling child into state) ≡ true
@@ -135,7 +138,7 @@ delayed_open : (now by : ℕ) (state : TaskState) → is_open (after_delay now b
 delayed_open now zero state = refl
 delayed_open now (suc less) state = refl
 
-due_open : (table : Table) (now : ℕ) (doing : Doing) → is_open (due_doing table now doing) ≡ is_open doing
+pub due_open : (table : Table) (now : ℕ) (phase : TaskPhase) → is_open (due_phase table now phase) ≡ is_open phase
 due_open table now (anchored to edge start state) = by (has_come table to edge)
   where
     by : (come : Bool) → is_open (if come then after_delay now start state else anchored to edge start state) ≡ true
@@ -150,9 +153,9 @@ due_open table now (over result) = refl
 opens_batch : (now : ℕ) (frames : List Frame) (table : Table) → opens (after_batch now frames table) ≡ opens (after_frames now frames table)
 opens_batch now frames table =
     let whole = after_frames now frames table in
-    opens_each (gone_on whole now) (λ path task. due_open whole now (back whole path task.doing) ∙ back_open whole path task.doing) whole
+    opens_each (gone_on whole now) (λ path task. due_open whole now (back whole path task.phase) ∙ back_open whole path task.phase) whole
 
-woken_open : (cells : List CellState) (doing : Doing) → is_open (woken_doing cells doing) ≡ is_open doing
+pub woken_open : (cells : List CellState) (phase : TaskPhase) → is_open (woken_phase cells phase) ≡ is_open phase
 woken_open cells (waiting condition state) = by (holds_on cells condition)
   where
     by : (holds : Bool) → is_open (if holds then ready state else waiting condition state) ≡ true
@@ -164,7 +167,7 @@ woken_open cells (delayed until state) = refl
 woken_open cells (calling child into state) = refl
 woken_open cells (over result) = refl
 
-rested_open : (now : ℕ) (doing : Doing) → is_open (rested_doing now doing) ≡ is_open doing
+pub rested_open : (now : ℕ) (phase : TaskPhase) → is_open (rested_phase now phase) ≡ is_open phase
 rested_open now (delayed until state) = by (nat_eq until now)
   where
     by : (same : Bool) → is_open (if same then ready state else delayed until state) ≡ true
@@ -188,7 +191,7 @@ put_cost frame (first ∷ rest) = by (path_cmp frame.path first.path) (put_cost 
     by Equal further = refl
     by Greater further = omega (arith, further)
 
-sorted_cost : (frames : List Frame) → cost_of (by_path frames) ≡ cost_of frames
+pub sorted_cost : (frames : List Frame) → cost_of (by_path frames) ≡ cost_of frames
 sorted_cost [] = refl
 sorted_cost (frame ∷ rest) = put_cost frame (by_path rest) ∙ ap (λ n. frame.cost + n) (sorted_cost rest)
 
@@ -201,7 +204,7 @@ put_each P frame (first ∷ rest) here each = by (path_cmp frame.path first.path
     by Equal further = (here, each)
     by Greater further = (each.0, further)
 
-sorted_each : (P : Frame → Type 0) (frames : List Frame) → EachFrame P frames → EachFrame P (by_path frames)
+pub sorted_each : (P : Frame → Type 0) (frames : List Frame) → EachFrame P frames → EachFrame P (by_path frames)
 sorted_each P [] each = tt
 sorted_each P (frame ∷ rest) each = put_each P frame (by_path rest) each.0 (sorted_each P rest each.1)
 
@@ -225,7 +228,7 @@ sorted_path path (frame ∷ rest) (inr h) = put_path path frame (by_path rest) (
 -- ---- a batch
 
 -- what is committed is within the bound, each frame pays, and one is of this path
-abbrev Commits : ℕ → ℕ → List ℕ → Batch → Type 0
+abbrev pub Commits : ℕ → ℕ → List ℕ → Batch → Type 0
 Commits bound spent path limit = Unit {0}
 Commits bound spent path (failed who fault) = Unit {0}
 Commits bound spent path (committed cells touched frames) = (spent + cost_of frames ≤ bound) × EachFrame Pays frames × HasPath path frames
@@ -250,23 +253,15 @@ making_commits : (bound spent : ℕ) (path : List ℕ) (cells : List CellState) 
 making_commits bound spent path cells None pay has = tt
 making_commits bound spent path cells (Some made) pay has = made_commits bound spent path made pay has cells
 
-batch_commits : (model : Parts) (bound spent : ℕ) (cells : List CellState) (job : ℕ × Job) (rest : List (ℕ × Job)) → Commits bound spent job.1.path (batch model bound spent cells (job ∷ rest))
+pub batch_commits : (model : Parts) (bound spent : ℕ) (cells : List CellState) (job : ℕ × Job) (rest : List (ℕ × Job)) → Commits bound spent job.1.path (batch model bound spent cells (job ∷ rest))
 batch_commits model bound spent cells job rest =
     making_commits bound spent job.1.path cells (made_by_all model bound (job ∷ rest)) (all_pay model bound (job ∷ rest)) (all_first model bound job rest)
 
 -- ---- the weight
 
--- whether no task is ready
-abbrev idle : List (ℕ × Job) → ℕ
-idle [] = 1
-idle (job ∷ rest) = 0
-
 idle_most : (jobs : List (ℕ × Job)) → idle jobs ≤ 1
 idle_most [] = omega arith
 idle_most (job ∷ rest) = omega arith
-
-abbrev weigh : ℕ → ℕ → ℕ → ℕ → ℕ
-weigh open_ left rest time = 2 * (open_ + left) + rest + time
 
 by_batch : (before after_ opened cost spent bound rest later time : ℕ) → after_ + 1 ≤ before + opened → opened ≤ cost → spent + cost ≤ bound → later ≤ 1 →
     weigh after_ (bound - (spent + cost)) later time < weigh before (bound - spent) rest time
@@ -280,14 +275,11 @@ by_waking : (open_ left time : ℕ) → weigh open_ left 0 time < weigh open_ le
 by_waking open_ left time = omega arith
 
 module _ (model : Parts) (plan : Plan) (bound : ℕ) where
-  abbrev weight : Standing → ℕ
-  weight at = weigh (opens at.table) (bound - at.spent) (idle (ready_jobs at.cells at.table)) (plan.duration - at.time)
-
-  abbrev Falls : Standing → Next Standing Run → Type 0
-  Falls at (more next_) = InOrder next_.table × (weight next_ < weight at)
+  abbrev Falls : SimulationState → Next SimulationState Run → Type 0
+  Falls at (more next_) = InOrder next_.table × (weight plan bound next_ < weight plan bound at)
   Falls at (finished run) = Unit {0}
 
-  outcome_falls : (at : Standing) (outcome : Batch) (path : List ℕ) → InOrder at.table → Found path at.table → Commits bound at.spent path outcome → Falls at (after_outcome model plan bound at outcome)
+  outcome_falls : (at : SimulationState) (outcome : Batch) (path : List ℕ) → InOrder at.table → Found path at.table → Commits bound at.spent path outcome → Falls at (after_outcome model plan bound at outcome)
   outcome_falls at limit path order found commits = tt
   outcome_falls at (failed who fault) path order found commits = tt
   outcome_falls at (committed cells touched frames) path order found commits =
@@ -299,23 +291,23 @@ module _ (model : Parts) (plan : Plan) (bound : ℕ) where
             (omega (arith, fall, same)) (pay_cost frames commits.1) commits.0 (idle_most (ready_jobs cells table)),
       )
 
-  time_falls : (at : Standing) (time : ℕ) (cells : List CellState) (out : Option ℕ) → InOrder at.table → idle (ready_jobs at.cells at.table) ≡ 1 → at.time < time → time < plan.duration →
+  time_falls : (at : SimulationState) (time : ℕ) (cells : List CellState) (out : Option ℕ) → InOrder at.table → idle (ready_jobs at.cells at.table) ≡ 1 → at.time < time → time < plan.duration →
       Falls at (to_time model plan bound at time cells out)
   time_falls at time cells (Some cell) order none later below = tt
   time_falls at time cells None order none later below =
       let table = on_each (rested time) at.table in
-      let same : opens table ≡ opens at.table = opens_each (rested time) (λ path task. rested_open time task.doing) at.table in (
+      let same : opens table ≡ opens at.table = opens_each (rested time) (λ path task. rested_open time task.phase) at.table in (
         order_each (rested time) at.table order,
         subst (λ n. weigh (opens table) (bound - at.spent) (idle (ready_jobs cells table)) (plan.duration - time) < weigh (opens at.table) (bound - at.spent) n (plan.duration - at.time)) (sym none)
             (subst (λ n. weigh n (bound - at.spent) (idle (ready_jobs cells table)) (plan.duration - time) < weigh (opens at.table) (bound - at.spent) 1 (plan.duration - at.time)) (sym same)
             (by_time (opens at.table) (bound - at.spent) (idle (ready_jobs cells table)) at.time time plan.duration later below (idle_most (ready_jobs cells table)))),
       )
 
-  end_falls : (at : Standing) (out : Option ℕ) → Falls at (to_end model plan bound at out)
+  end_falls : (at : SimulationState) (out : Option ℕ) → Falls at (to_end model plan bound at out)
   end_falls at (Some cell) = tt
   end_falls at None = tt
 
-  moved_falls : (at : Standing) (next_time : Option ℕ) → StandsWell plan at → InOrder at.table → idle (ready_jobs at.cells at.table) ≡ 1 →
+  moved_falls : (at : SimulationState) (next_time : Option ℕ) → StandsWell plan at → InOrder at.table → idle (ready_jobs at.cells at.table) ≡ 1 →
       below plan.duration (least_due at.time plan.duration at.cells at.table) ≡ next_time → Each (StillWaits at.cells) at.table → Falls at (moved model plan bound at next_time)
   moved_falls at None well order none e waits = end_falls at (first_out (passed at.cells (plan.duration - at.time)))
   moved_falls at (Some time) well order none e waits =
@@ -323,33 +315,33 @@ module _ (model : Parts) (plan : Plan) (bound : ℕ) where
       let later : at.time < time = subst (IsAfter at.time) is.0 (least_is_after at.time plan.duration at.cells at.table well.delays waits) in
       time_falls at time (passed at.cells (time - at.time)) (first_out (passed at.cells (time - at.time))) order none later is.1
 
-  judged_falls : (at : Standing) (jobs : List (ℕ × Job)) → StandsWell plan at → InOrder at.table → idle (ready_jobs at.cells at.table) ≡ 1 →
-      ready_jobs at.cells (on_each (woken at.cells) at.table) ≡ jobs → Falls at (judged model plan bound at (on_each (woken at.cells) at.table) jobs)
+  judged_falls : (at : SimulationState) (jobs : List (ℕ × Job)) → StandsWell plan at → InOrder at.table → idle (ready_jobs at.cells at.table) ≡ 1 →
+      ready_jobs at.cells (on_each (woken at.cells) at.table) ≡ jobs → Falls at (woken_or_moved model plan bound at (on_each (woken at.cells) at.table) jobs)
   judged_falls at [] well order none e =
       moved_falls at (below plan.duration (least_due at.time plan.duration at.cells at.table)) well order none refl (none_ready at.cells at.table e)
   judged_falls at (job ∷ rest) well order none e =
       let table = on_each (woken at.cells) at.table in
-      let same : opens table ≡ opens at.table = opens_each (woken at.cells) (λ path task. woken_open at.cells task.doing) at.table in
+      let same : opens table ≡ opens at.table = opens_each (woken at.cells) (λ path task. woken_open at.cells task.phase) at.table in
       let some : idle (ready_jobs at.cells table) ≡ 0 = ap idle e in (
         order_each (woken at.cells) at.table order,
-        subst (λ n. weigh (opens table) (bound - at.spent) n (plan.duration - at.time) < weight at) (sym some)
+        subst (λ n. weigh (opens table) (bound - at.spent) n (plan.duration - at.time) < weight plan bound at) (sym some)
             (subst (λ n. weigh (opens table) (bound - at.spent) 0 (plan.duration - at.time) < weigh (opens at.table) (bound - at.spent) n (plan.duration - at.time)) (sym none)
             (subst (λ n. weigh n (bound - at.spent) 0 (plan.duration - at.time) < weigh (opens at.table) (bound - at.spent) 1 (plan.duration - at.time)) (sym same)
             (by_waking (opens at.table) (bound - at.spent) (plan.duration - at.time)))),
       )
 
-  next_by_falls : (at : Standing) (jobs : List (ℕ × Job)) → StandsWell plan at → InOrder at.table → ready_jobs at.cells at.table ≡ jobs → FirstFound at.table jobs → Falls at (next_by model plan bound at jobs)
+  next_by_falls : (at : SimulationState) (jobs : List (ℕ × Job)) → StandsWell plan at → InOrder at.table → ready_jobs at.cells at.table ≡ jobs → FirstFound at.table jobs → Falls at (next_by model plan bound at jobs)
   next_by_falls at [] well order e found = judged_falls at (ready_jobs at.cells (on_each (woken at.cells) at.table)) well order (ap idle e) refl
   next_by_falls at (job ∷ rest) well order e found =
       outcome_falls at (batch model bound at.spent at.cells (job ∷ rest)) job.1.path order found (batch_commits model bound at.spent at.cells job rest)
 
-  next_falls : (at : Standing) → StandsWell plan at → InOrder at.table → Falls at (next model plan bound at)
+  next_falls : (at : SimulationState) → StandsWell plan at → InOrder at.table → Falls at (next model plan bound at)
   next_falls at well order = next_by_falls at (ready_jobs at.cells at.table) well order refl (first_found at.cells at.table order)
 
-  abbrev Good : Standing → Type 0
+  abbrev Good : SimulationState → Type 0
   Good at = StandsWell plan at × InOrder at.table
 
-  both_fall : (at : Standing) (place : Next Standing Run) → GoesWell plan place → Falls at place → FallsTo Standing Run (next model plan bound) Good weight at place
+  both_fall : (at : SimulationState) (place : Next SimulationState Run) → GoesWell plan place → Falls at place → FallsTo SimulationState Run (next model plan bound) Good (weight plan bound) at place
   both_fall at (more place) well fall = ((well, fall.0), fall.1)
   both_fall at (finished run) well fall = tt
 
@@ -368,17 +360,17 @@ module _ (model : Parts) (plan : Plan) (bound : ℕ) where
   one_most false = omega arith
 
   one_more : (table : Table) (path : List ℕ) (task : Task) → opens (with_task table path task) ≤ opens table + 1
-  one_more table path task = omega (arith, opens_with table path task, one_most (is_open task.doing))
+  one_more table path task = omega (arith, opens_with table path task, one_most (is_open task.phase))
 
   abbrev directive_task : Directive → Task
   directive_task directive = record {
-    doing = planned directive.anchor directive.start (activity_begun model directive.kind directive.arguments);
+    phase = planned directive.anchor directive.start (activity_begun model directive.kind directive.arguments);
     made = 0;
     begun = false;
   }
 
   abbrev daemon_task : ℕ → Daemon → Task
-  daemon_task number daemon = record { doing = delayed 0 (daemon_begun number daemon); made = 0; begun = false }
+  daemon_task number daemon = record { phase = delayed 0 (daemon_begun number daemon); made = 0; begun = false }
 
   opens_directives : (directives : List Directive) (table : Table) → opens (with_directives model directives table) ≤ opens table + length directives
   opens_directives [] table = omega arith
@@ -397,17 +389,17 @@ module _ (model : Parts) (plan : Plan) (bound : ℕ) where
   opens_start =
       omega (
         arith,
-        opens_each (rested 0) (λ path task. rested_open 0 task.doing) (with_directives model plan.directives (with_daemons 0 model.daemons [])),
+        opens_each (rested 0) (λ path task. rested_open 0 task.phase) (with_directives model plan.directives (with_daemons 0 model.daemons [])),
         opens_directives plan.directives (with_daemons 0 model.daemons []),
         opens_daemons 0 model.daemons [],
       )
 
-  start_weight : weight (start model plan) < enough_turns model plan bound
+  start_weight : weight plan bound (start model plan) < enough_turns model plan bound
   start_weight = omega (arith, opens_start, idle_most (ready_jobs (start model plan).cells (start model plan).table))
 
   pub run_ends : (run : Run) × (after_turns model plan bound (enough_turns model plan bound) ≡ finished run)
   run_ends =
-      ends Standing Run (next model plan bound) Good weight (λ at good. both_fall at (next model plan bound at) (next_well model plan bound at good.0) (next_falls at good.0 good.1))
+      ends SimulationState Run (next model plan bound) Good (weight plan bound) (λ at good. both_fall at (next model plan bound at) (next_well model plan bound at good.0) (next_falls at good.0 good.1))
       (enough_turns model plan bound) (start model plan) (start_well model plan bound, order_start) start_weight
 
 pub turns_finish : TurnsFinish
@@ -415,8 +407,8 @@ turns_finish model plan bound = run_ends model plan bound
 
 turns_are_fresh : (model : Parts) (plan : Plan) (bound : ℕ) (run : Run) → after_turns model plan bound (enough_turns model plan bound) ≡ finished run → IsFresh model plan bound run
 turns_are_fresh model plan bound run e =
-    subst (Stands model plan bound) e
-    (turns_come Standing Run (next model plan bound) (enough_turns model plan bound) (start model plan) (more (start model plan)) begins)
+    subst (IsReached model plan bound) e
+    (turns_come SimulationState Run (next model plan bound) (enough_turns model plan bound) (start model plan) (more (start model plan)) begins)
 
 pub has_fresh_run : HasFreshRun
 has_fresh_run model plan bound =
@@ -426,6 +418,28 @@ has_fresh_run model plan bound =
 pub fresh_by_turns : FreshRunByTurns
 fresh_by_turns model plan bound run =
     let found = run_ends model plan bound in (
-      λ fresh. found.1 ∙ ap finished (same_result Standing Run (next model plan bound) (start model plan) found.0 run (turns_are_fresh model plan bound found.0 found.1) fresh),
+      λ fresh. found.1 ∙ ap finished (same_result SimulationState Run (next model plan bound) (start model plan) found.0 run (turns_are_fresh model plan bound found.0 found.1) fresh),
       turns_are_fresh model plan bound run,
     )
+
+-- ---- each turn
+
+abbrev OrderedPlace : Next SimulationState Run → Type 0
+OrderedPlace (more at) = InOrder at.table
+OrderedPlace (finished run) = Unit {0}
+
+standing_good : (model : Parts) (plan : Plan) (bound : ℕ) (place : Next SimulationState Run) → IsReached model plan bound place → OrderedPlace place
+standing_good model plan bound (more at) begins = order_start model plan bound
+standing_good model plan bound place (onward {place = at} before) =
+    ordered_next (next model plan bound at) (next_falls model plan bound at (stands_well model plan bound (more at) before) (standing_good model plan bound (more at) before))
+  where
+    ordered_next : (later : Next SimulationState Run) → Falls model plan bound at later → OrderedPlace later
+    ordered_next (more later) falls = falls.0
+    ordered_next (finished run) falls = tt
+
+pub weight_falls : WeightFalls
+weight_falls model plan bound at later reached e =
+    (subst (Falls model plan bound at) e (next_falls model plan bound at (stands_well model plan bound (more at) reached) (standing_good model plan bound (more at) reached))).1
+
+pub weight_begins : WeightBegins
+weight_begins model plan bound = start_weight model plan bound

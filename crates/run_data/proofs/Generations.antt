@@ -13,7 +13,7 @@ use Rattle.run_data.specs.declared.frames.Item.{Item}
 use Rattle.run_data.specs.declared.frames.Item.TheVariants as item
 use Rattle.run_data.specs.Steps.{Stepped}
 use Rattle.run_data.specs.Frames.{Making, with_effect, with_child, with_frame, job_step, frame_of, child_job, of_items, of_step, too_deep, made_within, made_by, made_by_all, room_of}
-use Rattle.run_data.specs.laws.Generations.{Due, child_jobs, deep_frame, Generation, step_generation, beside_generation, generation, beside_frames, further, generations, frames_in, due_of, SameFrames, SameByGenerations}
+use Rattle.run_data.specs.laws.Generations.{PendingStep, child_jobs, deep_frame, Generation, step_generation, beside_generation, generation, beside_frames, further, generations, frames_in, pending_of, SameFrames, SameByGenerations}
 
 -- ---- the same frames
 
@@ -36,21 +36,21 @@ same_beside (Some first) None (Some again) h = absurd h
 same_beside (Some first) (Some rest) None h = absurd h
 same_beside (Some first) (Some rest) (Some again) h = IsPermutation-append_right first rest again h
 
-same_further : (here : Generation) (go again : List Due → Option (List Frame)) → ((dues : List Due) → SameFrames (go dues) (again dues)) → SameFrames (further here go) (further here again)
+same_further : (here : Generation) (go again : List PendingStep → Option (List Frame)) → ((dues : List PendingStep) → SameFrames (go dues) (again dues)) → SameFrames (further here go) (further here again)
 same_further None go again h = tt
 same_further (Some here) go again h = same_beside (Some here.0) (go here.1) (again here.1) (h here.1)
 
 -- ---- job by job
 
 module _ (model : Parts) (budget : ℕ) where
-  abbrev one : Due → Generation
+  abbrev pub one : PendingStep → Generation
   one due = step_generation model due (job_step model budget due.job)
 
-  abbrev all_down : (Due → Option (List Frame)) → List Due → Option (List Frame)
+  abbrev pub all_down : (PendingStep → Option (List Frame)) → List PendingStep → Option (List Frame)
   all_down go [] = Some []
   all_down go (due ∷ rest) = beside_frames (go due) (all_down go rest)
 
-  abbrev down : ℕ → Due → Option (List Frame)
+  abbrev pub down : ℕ → PendingStep → Option (List Frame)
   down zero due = Some []
   down (suc count) due = further (one due) (all_down (down count))
 
@@ -64,7 +64,7 @@ module _ (model : Parts) (budget : ℕ) where
   nothing_first None = refl
   nothing_first (Some frames) = refl
 
-  down_append : (go : Due → Option (List Frame)) (first second : List Due) → all_down go (first ++ second) ≡ beside_frames (all_down go first) (all_down go second)
+  pub down_append : (go : PendingStep → Option (List Frame)) (first second : List PendingStep) → all_down go (first ++ second) ≡ beside_frames (all_down go first) (all_down go second)
   down_append go [] second = nothing_first (all_down go second)
   down_append go (due ∷ rest) second = ap (beside_frames (go due)) (down_append go rest second) ∙ append_frames (go due) (all_down go rest) (all_down go second)
 
@@ -83,11 +83,11 @@ module _ (model : Parts) (budget : ℕ) where
   two_beside a b (Some x) None = tt
   two_beside a b (Some x) (Some y) = regroup a x b y
 
-  none_beside : (frames : Option (List Frame)) → beside_frames frames None ≡ None
+  pub none_beside : (frames : Option (List Frame)) → beside_frames frames None ≡ None
   none_beside None = refl
   none_beside (Some frames) = refl
 
-  beside_same : (go : Due → Option (List Frame)) (here rest : Generation) →
+  beside_same : (go : PendingStep → Option (List Frame)) (here rest : Generation) →
       SameFrames (beside_frames (further here (all_down go)) (further rest (all_down go))) (further (beside_generation here rest) (all_down go))
   beside_same go None rest = tt
   beside_same go (Some here) None = subst (λ l. SameFrames l None) (sym (none_beside (beside_frames (Some here.0) (all_down go here.1)))) tt
@@ -95,7 +95,7 @@ module _ (model : Parts) (budget : ℕ) where
       subst (λ l. SameFrames (beside_frames (beside_frames (Some here.0) (all_down go here.1)) (beside_frames (Some rest.0) (all_down go rest.1))) (beside_frames (Some (here.0 ++ rest.0)) l))
       (sym (down_append go here.1 rest.1)) (two_beside here.0 rest.0 (all_down go here.1) (all_down go rest.1))
 
-  one_generation : (count : ℕ) (dues : List Due) → SameFrames (all_down (down (suc count)) dues) (further (generation model budget dues) (all_down (down count)))
+  one_generation : (count : ℕ) (dues : List PendingStep) → SameFrames (all_down (down (suc count)) dues) (further (generation model budget dues) (all_down (down count)))
   one_generation count [] = IsPermutation-refl []
   one_generation count (due ∷ rest) =
       same_trans (beside_frames (down (suc count) due) (all_down (down (suc count)) rest))
@@ -103,11 +103,11 @@ module _ (model : Parts) (budget : ℕ) where
       (same_beside (down (suc count) due) _ _ (one_generation count rest))
       (beside_same (down count) (one due) (generation model budget rest))
 
-  zero_down : (dues : List Due) → all_down (down zero) dues ≡ Some []
+  pub zero_down : (dues : List PendingStep) → all_down (down zero) dues ≡ Some []
   zero_down [] = refl
   zero_down (due ∷ rest) = ap (beside_frames (Some [])) (zero_down rest)
 
-  same_generations : (count : ℕ) (dues : List Due) → SameFrames (all_down (down count) dues) (generations model budget count dues)
+  same_generations : (count : ℕ) (dues : List PendingStep) → SameFrames (all_down (down count) dues) (generations model budget count dues)
   same_generations zero dues = subst (λ l. SameFrames l (Some [])) (sym (zero_down dues)) (IsPermutation-refl [])
   same_generations (suc count) dues =
       same_trans (all_down (down (suc count)) dues) (further (generation model budget dues) (all_down (down count))) (generations model budget (suc count) dues)
@@ -147,7 +147,7 @@ module _ (model : Parts) (budget : ℕ) where
   all_deep maker [] = refl
   all_deep maker (job ∷ rest) = ap (beside_frames (Some (deep_frame maker job ∷ []))) (all_deep maker rest)
 
-  abbrev due_with : ℕ → Job → Due
+  abbrev due_with : ℕ → Job → PendingStep
   due_with room child = record { room = room; number = 0; job = child }
 
   all_due : (room count : ℕ) (jobs : List Job) → ((job : Job) → frames_in (made_within model budget room 0 job) ≡ down count (due_with room job)) →
@@ -162,26 +162,26 @@ module _ (model : Parts) (budget : ℕ) where
   zero_step : (count number : ℕ) (job : Job) (stepped : Stepped) →
       frames_in (of_step model (too_deep job.path) job number stepped) ≡ further (step_generation model (record { room = 0; number = number; job = job }) stepped) (all_down (down count))
   zero_step count number job None = refl
-  zero_step count number job (Some (status, course)) =
-      let children = child_jobs model job.path number job.view course.items in
-      frames_of_frame (frame_of job status course) (of_items model (too_deep job.path) job.path number job.view course.items)
-      ∙ ap (beside_frames (Some (frame_of job status course ∷ []))) (frames_of_items (too_deep job.path) job.path number job.view course.items ∙ all_deep job.path children)
-      ∙ ap (λ l. Some (frame_of job status course ∷ l)) (append_none (map (deep_frame job.path) children))
+  zero_step count number job (Some (status, so_far)) =
+      let children = child_jobs model job.path number job.view so_far.items in
+      frames_of_frame (frame_of job status so_far) (of_items model (too_deep job.path) job.path number job.view so_far.items)
+      ∙ ap (beside_frames (Some (frame_of job status so_far ∷ []))) (frames_of_items (too_deep job.path) job.path number job.view so_far.items ∙ all_deep job.path children)
+      ∙ ap (λ l. Some (frame_of job status so_far ∷ l)) (append_none (map (deep_frame job.path) children))
 
   more_step : (room count number : ℕ) (job : Job) (stepped : Stepped) → ((child : Job) → frames_in (made_within model budget room 0 child) ≡ down count (due_with room child)) →
       frames_in (of_step model (made_within model budget room 0) job number stepped) ≡ further (step_generation model (record { room = suc room; number = number; job = job }) stepped) (all_down (down count))
   more_step room count number job None h = refl
-  more_step room count number job (Some (status, course)) h =
-      frames_of_frame (frame_of job status course) (of_items model (made_within model budget room 0) job.path number job.view course.items)
-      ∙ ap (beside_frames (Some (frame_of job status course ∷ [])))
-      (frames_of_items (made_within model budget room 0) job.path number job.view course.items ∙ all_due room count (child_jobs model job.path number job.view course.items) h)
+  more_step room count number job (Some (status, so_far)) h =
+      frames_of_frame (frame_of job status so_far) (of_items model (made_within model budget room 0) job.path number job.view so_far.items)
+      ∙ ap (beside_frames (Some (frame_of job status so_far ∷ [])))
+      (frames_of_items (made_within model budget room 0) job.path number job.view so_far.items ∙ all_due room count (child_jobs model job.path number job.view so_far.items) h)
 
   within_is : (count room number : ℕ) (job : Job) → room < count → frames_in (made_within model budget room number job) ≡ down count (record { room = room; number = number; job = job })
   within_is zero room number job less = absurd (omega arith)
   within_is (suc count) zero number job less = zero_step count number job (job_step model budget job)
   within_is (suc count) (suc room) number job less = more_step room count number job (job_step model budget job) (λ child. within_is count room 0 child (omega arith))
 
-  all_is : (jobs : List (ℕ × Job)) → frames_in (made_by_all model budget jobs) ≡ all_down (down (child_limit + 1)) (map due_of jobs)
+  pub all_is : (jobs : List (ℕ × Job)) → frames_in (made_by_all model budget jobs) ≡ all_down (down (child_limit + 1)) (map pending_of jobs)
   all_is [] = refl
   all_is (job ∷ rest) =
       frames_of_child (made_by model budget job) (made_by_all model budget rest)
@@ -189,5 +189,5 @@ module _ (model : Parts) (budget : ℕ) where
 
 pub same_by_generations : SameByGenerations
 same_by_generations model budget jobs =
-    subst (λ l. SameFrames l (generations model budget (child_limit + 1) (map due_of jobs))) (sym (all_is model budget jobs))
-    (same_generations model budget (child_limit + 1) (map due_of jobs))
+    subst (λ l. SameFrames l (generations model budget (child_limit + 1) (map pending_of jobs))) (sym (all_is model budget jobs))
+    (same_generations model budget (child_limit + 1) (map pending_of jobs))

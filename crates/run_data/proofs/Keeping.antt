@@ -1,55 +1,55 @@
--- What statements without blocks leave of a course: its view of the cells and its cost.
+-- What statements without blocks leave of the state of a step: its view of the cells and its cost.
 use Rattle.std.proofs.Common.{◌≡◌, ℕ, List, [], ◌∷◌, Some, None, Result, Ok, Err, Bool, refl, sym, subst}
 use Rattle.aerie_base.specs.declared.values.Value.{Value}
 use Rattle.aerie_base.specs.declared.faults.Fault.{Fault}
 use Rattle.aerie_base.specs.declared.expressions.Expr.{Expr}
 use Rattle.aerie_base.specs.declared.statements.Stmt.{Stmt}
 use Rattle.aerie_base.specs.declared.statements.Stmt.TheOpen.{Stmt-F}
-use Rattle.aerie_base.specs.expressions.Evaluation.{Noted}
+use Rattle.aerie_base.specs.expressions.Evaluation.{Evaluated}
 use Rattle.run_data.specs.declared.tasks.BodyId.{BodyId}
-use Rattle.run_data.specs.Courses.{Course, valued, noting}
-use Rattle.run_data.specs.Steps.{Turn, onward, ended, with_noted, first_of, valued_all, with_all, act, emission_expr}
+use Rattle.run_data.specs.StepStates.{StepState, valued, with_flags}
+use Rattle.run_data.specs.Steps.{Turn, onward, ended, with_evaluated, first_of, valued_all, with_all, act, emission_expr}
 
 -- the same view and the same cost
-pub record Keeps (before after : Course) : Type 0 where
+pub record Keeps (before after : StepState) : Type 0 where
   pub view : after.view ≡ before.view
   pub cost : after.cost ≡ before.cost
 
-abbrev pub TurnKeeps : Course → Turn → Type 0
-TurnKeeps course (onward next) = Keeps course next
-TurnKeeps course (ended status last) = Keeps course last
+abbrev pub TurnKeeps : StepState → Turn → Type 0
+TurnKeeps so_far (onward next) = Keeps so_far next
+TurnKeeps so_far (ended status last) = Keeps so_far last
 
-noted_keeps : (course : Course) (result : Noted) (go : Value → Course → Turn) → ((value : Value) (noted : List Bool) → TurnKeeps course (go value (noting course noted))) →
-    TurnKeeps course (with_noted course result go)
-noted_keeps course (Err fault, noted) go kept = record { view = refl; cost = refl }
-noted_keeps course (Ok value, noted) go kept = kept value noted
+evaluated_keeps : (so_far : StepState) (result : Evaluated) (go : Value → StepState → Turn) → ((value : Value) (read_flags : List Bool) → TurnKeeps so_far (go value (with_flags so_far read_flags))) →
+    TurnKeeps so_far (with_evaluated so_far result go)
+evaluated_keeps so_far (Err fault, read_flags) go kept = record { view = refl; cost = refl }
+evaluated_keeps so_far (Ok value, read_flags) go kept = kept value read_flags
 
-first_notes : (course : Course) (result : Noted) (go : Course → Result (List Value) Fault × Course) →
-    ((noted : List Bool) → (later : List Bool) × ((go (noting course noted)).1 ≡ noting course later)) →
-    (later : List Bool) × ((first_of course result go).1 ≡ noting course later)
-first_notes course (Err fault, noted) go h = (noted, refl)
-first_notes course (Ok value, noted) go h = h noted
+first_notes : (so_far : StepState) (result : Evaluated) (go : StepState → Result (List Value) Fault × StepState) →
+    ((read_flags : List Bool) → (later : List Bool) × ((go (with_flags so_far read_flags)).1 ≡ with_flags so_far later)) →
+    (later : List Bool) × ((first_of so_far result go).1 ≡ with_flags so_far later)
+first_notes so_far (Err fault, read_flags) go h = (read_flags, refl)
+first_notes so_far (Ok value, read_flags) go h = h read_flags
 
-pub all_notes : (exprs : List Expr) (course : Course) → (later : List Bool) × ((valued_all exprs course).1 ≡ noting course later)
-all_notes [] course = (course.noted, refl)
-all_notes (expr ∷ rest) course = first_notes course (valued course expr) (valued_all rest) (λ noted. all_notes rest (noting course noted))
+pub all_notes : (exprs : List Expr) (so_far : StepState) → (later : List Bool) × ((valued_all exprs so_far).1 ≡ with_flags so_far later)
+all_notes [] so_far = (so_far.read_flags, refl)
+all_notes (expr ∷ rest) so_far = first_notes so_far (valued so_far expr) (valued_all rest) (λ read_flags. all_notes rest (with_flags so_far read_flags))
 
-all_keeps : (course : Course) (result : Result (List Value) Fault × Course) (go : List Value → Course → Turn) →
-    ((later : List Bool) × (result.1 ≡ noting course later)) → ((values : List Value) (noted : List Bool) → TurnKeeps course (go values (noting course noted))) →
-    TurnKeeps course (with_all result go)
-all_keeps course (Err fault, last) go is kept =
+all_keeps : (so_far : StepState) (result : Result (List Value) Fault × StepState) (go : List Value → StepState → Turn) →
+    ((later : List Bool) × (result.1 ≡ with_flags so_far later)) → ((values : List Value) (read_flags : List Bool) → TurnKeeps so_far (go values (with_flags so_far read_flags))) →
+    TurnKeeps so_far (with_all result go)
+all_keeps so_far (Err fault, last) go is kept =
     record { view = λ i. (is.1 i).view; cost = λ i. (is.1 i).cost }
-all_keeps course (Ok values, last) go is kept = subst (λ c. TurnKeeps course (go values c)) (sym is.1) (kept values is.0)
+all_keeps so_far (Ok values, last) go is kept = subst (λ c. TurnKeeps so_far (go values c)) (sym is.1) (kept values is.0)
 
-pub act_keeps : (kind : BodyId) (at : ℕ) (stmt : Stmt-F Stmt) (course : Course) → TurnKeeps course (act kind at stmt course)
-act_keeps kind at (Stmt-F.Let slot expr) course = noted_keeps course (valued course expr) _ (λ value noted. record { view = refl; cost = refl })
-act_keeps kind at (Stmt-F.Assign slot expr) course = noted_keeps course (valued course expr) _ (λ value noted. record { view = refl; cost = refl })
-act_keeps kind at (Stmt-F.Emit cell what) course = noted_keeps course (valued course (emission_expr what)) _ (λ value noted. record { view = refl; cost = refl })
-act_keeps kind at (Stmt-F.Delay expr) course = noted_keeps course (valued course expr) _ (λ value noted. record { view = refl; cost = refl })
-act_keeps kind at (Stmt-F.WaitUntil condition) course = record { view = refl; cost = refl }
-act_keeps kind at (Stmt-F.Spawn child exprs) course = all_keeps course (valued_all exprs course) _ (all_notes exprs course) (λ values noted. record { view = refl; cost = refl })
-act_keeps kind at (Stmt-F.Call child exprs into) course = all_keeps course (valued_all exprs course) _ (all_notes exprs course) (λ values noted. record { view = refl; cost = refl })
-act_keeps kind at (Stmt-F.If test block other) course = record { view = refl; cost = refl }
-act_keeps kind at (Stmt-F.While test body) course = record { view = refl; cost = refl }
-act_keeps kind at (Stmt-F.Return None) course = record { view = refl; cost = refl }
-act_keeps kind at (Stmt-F.Return (Some expr)) course = noted_keeps course (valued course expr) _ (λ value noted. record { view = refl; cost = refl })
+pub act_keeps : (kind : BodyId) (at : ℕ) (stmt : Stmt-F Stmt) (so_far : StepState) → TurnKeeps so_far (act kind at stmt so_far)
+act_keeps kind at (Stmt-F.Let slot expr) so_far = evaluated_keeps so_far (valued so_far expr) _ (λ value read_flags. record { view = refl; cost = refl })
+act_keeps kind at (Stmt-F.Assign slot expr) so_far = evaluated_keeps so_far (valued so_far expr) _ (λ value read_flags. record { view = refl; cost = refl })
+act_keeps kind at (Stmt-F.Emit cell what) so_far = evaluated_keeps so_far (valued so_far (emission_expr what)) _ (λ value read_flags. record { view = refl; cost = refl })
+act_keeps kind at (Stmt-F.Delay expr) so_far = evaluated_keeps so_far (valued so_far expr) _ (λ value read_flags. record { view = refl; cost = refl })
+act_keeps kind at (Stmt-F.WaitUntil condition) so_far = record { view = refl; cost = refl }
+act_keeps kind at (Stmt-F.Spawn child exprs) so_far = all_keeps so_far (valued_all exprs so_far) _ (all_notes exprs so_far) (λ values read_flags. record { view = refl; cost = refl })
+act_keeps kind at (Stmt-F.Call child exprs into) so_far = all_keeps so_far (valued_all exprs so_far) _ (all_notes exprs so_far) (λ values read_flags. record { view = refl; cost = refl })
+act_keeps kind at (Stmt-F.If test block other) so_far = record { view = refl; cost = refl }
+act_keeps kind at (Stmt-F.While test body) so_far = record { view = refl; cost = refl }
+act_keeps kind at (Stmt-F.Return None) so_far = record { view = refl; cost = refl }
+act_keeps kind at (Stmt-F.Return (Some expr)) so_far = evaluated_keeps so_far (valued so_far expr) _ (λ value read_flags. record { view = refl; cost = refl })

@@ -17,8 +17,9 @@ use Rattle.aerie_base.specs.declared.models.EnumType.{EnumType}
 use Rattle.aerie_base.specs.expressions.Arithmetic.{value_kind}
 use Rattle.aerie_base.specs.expressions.Soundness.{Within, more_known}
 use Rattle.aerie_base.specs.expressions.Typing.{kind_of, same_kind, slot_kinds}
-use Rattle.aerie_base.specs.models.Bodies.{Scope, known}
-use Rattle.aerie_base.specs.models.Conditions.{Locals, Reads, operand_kind, is_coefficient, is_term, is_linear, side_kind, may_equal, is_typed_condition, cond_depth, is_condition}
+use Rattle.aerie_base.specs.models.Scopes.{Scope, known}
+use Rattle.aerie_base.specs.models.Conditions.{Locals, Reads, is_coefficient, is_term, is_linear, side_kind, may_equal, is_typed_condition, cond_depth, is_condition}
+use Rattle.aerie_base.specs.expressions.Typing.{operand_kind}
 use Rattle.aerie_base.specs.models.Expressions.{typed, has_literals, expr_depth, is_kind_of}
 use Rattle.aerie_base.specs.models.Limits.{depth_limit}
 use Rattle.run_data.specs.Scopes.{suits}

@@ -7,8 +7,10 @@ use Rattle.aerie_base.specs.declared.statements.Stmt.{Stmt}
 use Rattle.aerie_base.specs.declared.models.Activity.{Activity}
 use Rattle.aerie_base.specs.declared.models.Daemon.{Daemon}
 use Rattle.aerie_base.specs.declared.models.model.Parts.{Parts}
-use Rattle.aerie_base.specs.models.Activities.{ends_in_return, parameter_kinds, are_parameters, are_requires, is_result, is_activity, is_daemon}
-use Rattle.aerie_base.specs.models.Bodies.{Setting, Scope, is_body}
+use Rattle.aerie_base.specs.models.Activities.{ends_in_return, are_parameters, are_requires, is_result, is_activity, is_daemon}
+use Rattle.aerie_base.specs.models.Signatures.{parameter_kinds, signatures_of}
+use Rattle.aerie_base.specs.models.Bodies.{Setting, is_body}
+use Rattle.aerie_base.specs.models.Scopes.{Scope}
 use Rattle.aerie_base.specs.models.Values.{is_kind}
 use Rattle.aerie_base.specs.models.ValidModel.{valid_model, has_good_activities, has_good_daemons, enum_names, cell_names}
 use Rattle.aerie_base.specs.models.ValidParts.{are_good}
@@ -23,7 +25,7 @@ use Rattle.run_data.proofs.Scoping.{both_hold, and_holds}
 -- what a body of a model may name
 abbrev pub setting_of : Parts → ℕ → Option Kind → Setting
 setting_of model parameters result =
-    record { enums = model.enums; cells = model.cells; activities = model.activities; parameters = parameters; result = result }
+    record { enums = model.enums; cells = model.cells; signatures = signatures_of model.activities; parameters = parameters; result = result }
 
 -- a body of a model, with its parameters' types, its slots and the type of its result
 pub record IsBodyOf (model : Parts) (kind : BodyId) : Type 0 where
@@ -63,8 +65,8 @@ module _ (model : Parts) (valid : IsTrue (valid_model model)) where
   unfolding has_good_activities is_activity
   activity_good kind activity e =
       let taken = enum_names model ++ cell_names model in
-      let all = both_hold _ (list_all (is_activity model.enums model.cells model.activities taken) model.activities) (are_good model valid).activities in
-      let is = all_at (is_activity model.enums model.cells model.activities taken) model.activities kind activity all.1 e in
+      let all = both_hold _ (list_all (is_activity model.enums model.cells (signatures_of model.activities) taken) model.activities) (are_good model valid).activities in
+      let is = all_at (is_activity model.enums model.cells (signatures_of model.activities) taken) model.activities kind activity all.1 e in
       fourth (are_parameters model.enums taken activity) (are_requires model.enums activity) (is_result model.enums activity.result activity.body) _ is
 
   result_ends : (result : Option Kind) (body : List Stmt) → IsTrue (is_result model.enums result body) → IsTrue (is_some result) → IsTrue (ends_in_return body)
@@ -75,16 +77,16 @@ module _ (model : Parts) (valid : IsTrue (valid_model model)) where
   unfolding has_good_activities is_activity
   activity_ends kind activity e some =
       let taken = enum_names model ++ cell_names model in
-      let all = both_hold _ (list_all (is_activity model.enums model.cells model.activities taken) model.activities) (are_good model valid).activities in
-      let is = all_at (is_activity model.enums model.cells model.activities taken) model.activities kind activity all.1 e in
+      let all = both_hold _ (list_all (is_activity model.enums model.cells (signatures_of model.activities) taken) model.activities) (are_good model valid).activities in
+      let is = all_at (is_activity model.enums model.cells (signatures_of model.activities) taken) model.activities kind activity all.1 e in
       result_ends activity.result activity.body (third (are_parameters model.enums taken activity) (are_requires model.enums activity) (is_result model.enums activity.result activity.body) _ is) some
 
   pub daemon_good : (number : ℕ) (daemon : Daemon) → slice_get model.daemons number ≡ Some daemon →
       IsTrue (is_body (setting_of model 0 None) [] daemon.slots daemon.body)
   unfolding has_good_daemons is_daemon
   daemon_good number daemon e =
-      let all = both_hold _ (list_all (is_daemon model.enums model.cells model.activities) model.daemons) (are_good model valid).daemons in
-      all_at (is_daemon model.enums model.cells model.activities) model.daemons number daemon all.1 e
+      let all = both_hold _ (list_all (is_daemon model.enums model.cells (signatures_of model.activities)) model.daemons) (are_good model valid).daemons in
+      all_at (is_daemon model.enums model.cells (signatures_of model.activities)) model.daemons number daemon all.1 e
 
   -- the body of an activity type
   abbrev pub activity_body_is : (kind : ℕ) (activity : Activity) → slice_get model.activities kind ≡ Some activity → IsBodyOf model (body.Activity kind)

@@ -1,4 +1,5 @@
 -- A batch does not depend on the order of its jobs.
+use Rattle.std.specs.List.{list_all}
 use Rattle.std.proofs.Common.{◌≡◌, ℕ, ℤ, zero, suc, ◌+◌, ◌+ℤ◌, ◌<◌, Bool, true, false, ◌&&◌, if◌then◌else◌, nat_eq, nat_lt, List, [], ◌∷◌, ◌++◌, map, length, Option, Some, None, slice_get, refl, sym, ap, ◌∙◌, subst, arith}
 use Rattle.std.proofs.lemmas.Int.{ints}
 use Rattle.aerie_base.specs.declared.models.model.Parts.{Parts}
@@ -9,20 +10,21 @@ use Rattle.effect_cells.specs.declared.effects.Effect.TheVariants.{Add, Register
 use Rattle.effect_cells.specs.declared.registers.Change.{Change}
 use Rattle.effect_cells.specs.declared.trees.Part.{Part, Emit, Child, Child', Row_of-Part, end_of-Part, more_of-Part}
 use Rattle.effect_cells.specs.declared.trees.Tree.{Tree}
-use Rattle.effect_cells.specs.Cells.{accepts, accepted_by, fits_cells, with_effects, first_out, committed as committed_cells}
+use Rattle.effect_cells.specs.Cells.{accepts, accepted_by, fits_cells, with_effects, first_out, committed_cells}
 use Rattle.effect_cells.specs.ChangeLaws.{sides_commute, sides_associate}
 use Rattle.effect_cells.specs.Changes.{change_beside}
 use Rattle.effect_cells.specs.States.{applied_if_any, is_of_kind}
 use Rattle.effect_cells.specs.TreeRecursion.{part_gives, row_gives, gives-Child}
-use Rattle.effect_cells.specs.Worth.{Before, effect_beside, in_front, beside, part_worth, tree_worth, items_worth, worth_of, part_fits, tree_fits, all_true}
+use Rattle.effect_cells.specs.Worth.{Before, effect_beside, in_front, beside, part_worth, tree_worth, items_worth, worth_of, part_fits, tree_fits}
 use Rattle.run_data.specs.declared.jobs.Job.{Job}
 use Rattle.run_data.specs.declared.frames.Frame.{Frame}
 use Rattle.run_data.specs.Batches.{committed, judged, when_within, when_no_fault, unless_out, is_there, touched_from, Blame, least_fault, tree_of, cost_of, by_path}
 use Rattle.run_data.specs.Frames.{Made, Making, with_child, made_by, made_by_all}
-use Rattle.run_data.specs.laws.Orders.{Reordered, same, behind, exchanged, in_turn, EachOf, EachTwo, AreApart, FitsCells, OrderDoesNotMatter}
+use Rattle.run_data.specs.laws.Orders.{EachOf, EachTwo, AreApart, FitsCells, OrderDoesNotMatter}
 use Rattle.run_data.proofs.FramePaths.{NoPathInBoth, frames_apart}
 use Rattle.run_data.proofs.InTurn.{FitsAny, front_fits, both}
 use Rattle.run_data.proofs.PathOrder.{least_exchange, least_behind, sorted_exchange, sorted_behind}
+use Rattle.run_data.proofs.Reordering.{Reordered, same, behind, exchanged, in_turn, reordered}
 
 -- ---- effects beside each other
 
@@ -119,18 +121,18 @@ module _ (cells : List CellState) (cell : ℕ) where
     part_fitting (Emit on effect) rest h k = emit_fits on effect rest h k
     part_fitting (Child' _ items) rest h k = beside_fits (slice_get cells cell) _ rest (row_fitting items h) k
 
-    row_fitting : {m : _} → (row : Row_of-Part m) → all_true (row_gives Bool Bool (part_fits (accepts cells)) tree_fits row) ≡ true →
+    row_fitting : {m : _} → (row : Row_of-Part m) → list_all (λ flag. flag) (row_gives Bool Bool (part_fits (accepts cells)) tree_fits row) ≡ true →
         Fits (items_worth (row_gives Before (ℕ → Option Effect) part_worth tree_worth row) cell)
     row_fitting end_of-Part h = none_fits (slice_get cells cell)
     row_fitting (more_of-Part part rest) h =
-        let fit = both (part_gives Bool Bool (part_fits (accepts cells)) tree_fits part) (all_true (row_gives Bool Bool (part_fits (accepts cells)) tree_fits rest)) h in
+        let fit = both (part_gives Bool Bool (part_fits (accepts cells)) tree_fits part) (list_all (λ flag. flag) (row_gives Bool Bool (part_fits (accepts cells)) tree_fits rest)) h in
         part_fitting part (items_worth (row_gives Before (ℕ → Option Effect) part_worth tree_worth rest) cell) fit.0 (row_fitting rest fit.1)
 
-  parts_fitting : (parts : List Part) → all_true (map (part_gives Bool Bool (part_fits (accepts cells)) tree_fits) parts) ≡ true →
+  parts_fitting : (parts : List Part) → list_all (λ flag. flag) (map (part_gives Bool Bool (part_fits (accepts cells)) tree_fits) parts) ≡ true →
       Fits (items_worth (map (part_gives Before (ℕ → Option Effect) part_worth tree_worth) parts) cell)
   parts_fitting [] h = none_fits (slice_get cells cell)
   parts_fitting (part ∷ rest) h =
-      let fit = both (part_gives Bool Bool (part_fits (accepts cells)) tree_fits part) (all_true (map (part_gives Bool Bool (part_fits (accepts cells)) tree_fits) rest)) h in
+      let fit = both (part_gives Bool Bool (part_fits (accepts cells)) tree_fits part) (list_all (λ flag. flag) (map (part_gives Bool Bool (part_fits (accepts cells)) tree_fits) rest)) h in
       part_fitting part (items_worth (map (part_gives Before (ℕ → Option Effect) part_worth tree_worth) rest) cell) fit.0 (parts_fitting rest fit.1)
 
   tree_fitting : (tree : Tree) → fits_cells cells tree ≡ true → Fits (worth_of tree cell)
@@ -170,7 +172,7 @@ alike_trans cells (Some first) (Some second) (Some third) h k = record {
   worth = λ cell less. h.worth cell less ∙ k.worth cell less;
 }
 
-cost_append : (frames rest : List Frame) → cost_of (frames ++ rest) ≡ cost_of frames + cost_of rest
+pub cost_append : (frames rest : List Frame) → cost_of (frames ++ rest) ≡ cost_of frames + cost_of rest
 cost_append [] rest = omega arith
 cost_append (frame ∷ frames) rest = omega (arith, cost_append frames rest)
 
@@ -225,7 +227,7 @@ alike_exchanged cells (Some first) (Some second) (Some rest) apart h k l = recor
 
 -- ---- all jobs
 
-child_fits : (cells : List CellState) (child rest : Making) → FitsCells cells child → FitsCells cells rest → FitsCells cells (with_child child rest)
+pub child_fits : (cells : List CellState) (child rest : Making) → FitsCells cells child → FitsCells cells rest → FitsCells cells (with_child child rest)
 child_fits cells None rest h k = tt
 child_fits cells (Some child) None h k = tt
 child_fits cells (Some child) (Some rest) h k =
@@ -317,4 +319,4 @@ judged_alike bound spent cells (Some made) (Some other) h = judged_same bound sp
 
 pub order_does_not_matter : OrderDoesNotMatter
 order_does_not_matter model bound spent cells jobs others apart fit order =
-    sym (judged_alike bound spent cells (made_by_all model bound jobs) (made_by_all model bound others) (all_alike model bound cells jobs others order apart fit))
+    sym (judged_alike bound spent cells (made_by_all model bound jobs) (made_by_all model bound others) (all_alike model bound cells jobs others (reordered jobs others order) apart fit))

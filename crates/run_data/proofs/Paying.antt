@@ -4,7 +4,7 @@ use Rattle.aerie_base.specs.declared.models.model.Parts.{Parts}
 use Rattle.aerie_base.specs.declared.statements.Stmt.{Stmt, out-Stmt}
 use Rattle.aerie_base.specs.declared.statements.Stmt.TheOpen.{Stmt-F}
 use Rattle.aerie_base.specs.expressions.Arithmetic.{truth_in}
-use Rattle.aerie_base.specs.expressions.Evaluation.{Noted}
+use Rattle.aerie_base.specs.expressions.Evaluation.{Evaluated}
 use Rattle.aerie_base.specs.statements.Places.{Placed, left}
 use Rattle.effect_cells.specs.declared.effects.CellState.{CellState}
 use Rattle.effect_cells.specs.declared.effects.Effect.{Effect}
@@ -16,7 +16,7 @@ use Rattle.run_data.specs.declared.frames.Item.{Item}
 use Rattle.run_data.specs.declared.frames.Item.TheVariants as item
 use Rattle.run_data.specs.declared.frames.Status.{Status}
 use Rattle.run_data.specs.declared.frames.Status.TheVariants.{Delayed, Waiting, Calling, Done, Faulted}
-use Rattle.run_data.specs.Courses.{Course, starting, valued, noting, paid}
+use Rattle.run_data.specs.StepStates.{StepState, starting, valued, with_flags, paid}
 use Rattle.run_data.specs.Steps.{Turn, onward, ended, Stepped, act, after, after_test, perform, steps}
 use Rattle.run_data.specs.Frames.{job_step, frame_of, Making, with_effect, with_child, with_frame, child_job, of_items, of_step, too_deep, made_within, made_by, made_by_all, room_of}
 use Rattle.run_data.specs.TaskStates.{body_of}
@@ -41,46 +41,46 @@ at_most_one (Calling into next) = omega arith
 at_most_one (Done result) = omega arith
 at_most_one (Faulted fault) = omega arith
 
-abbrev CostsMore : (Course → Stepped) → Status → Course → Type 0
-CostsMore go ending last = (course : Course) → go course ≡ Some (ending, last) → course.cost ≤ last.cost
+abbrev CostsMore : (StepState → Stepped) → Status → StepState → Type 0
+CostsMore go ending last = (so_far : StepState) → go so_far ≡ Some (ending, last) → so_far.cost ≤ last.cost
 
-ended_costs : (status ending : Status) (course last : Course) → ◌≡◌ {A = Stepped} (Some (status, course)) (Some (ending, last)) → course.cost ≤ last.cost
-ended_costs status ending course last e = omega (arith, ap (λ c. c.cost) (both_are status ending course last e).1)
+ended_costs : (status ending : Status) (so_far last : StepState) → ◌≡◌ {A = Stepped} (Some (status, so_far)) (Some (ending, last)) → so_far.cost ≤ last.cost
+ended_costs status ending so_far last e = omega (arith, ap (λ c. c.cost) (both_are status ending so_far last e).1)
 
-after_costs : (course : Course) (turn : Turn) (go : Course → Stepped) (ending : Status) (last : Course) → TurnKeeps course turn → CostsMore go ending last →
-    after turn go ≡ Some (ending, last) → course.cost ≤ last.cost
-after_costs course (onward next) go ending last keeps h e = omega (arith, h next e, keeps.cost)
-after_costs course (ended status c) go ending last keeps h e = omega (arith, ended_costs status ending c last e, keeps.cost)
+after_costs : (so_far : StepState) (turn : Turn) (go : StepState → Stepped) (ending : Status) (last : StepState) → TurnKeeps so_far turn → CostsMore go ending last →
+    after turn go ≡ Some (ending, last) → so_far.cost ≤ last.cost
+after_costs so_far (onward next) go ending last keeps h e = omega (arith, h next e, keeps.cost)
+after_costs so_far (ended status c) go ending last keeps h e = omega (arith, ended_costs status ending c last e, keeps.cost)
 
-test_costs : (course : Course) (result : Noted) (go : Bool → Course → Stepped) (ending : Status) (last : Course) → ((holds : Bool) → CostsMore (go holds) ending last) →
-    after_test course result go ≡ Some (ending, last) → course.cost ≤ last.cost
-test_costs course (Err fault, noted) go ending last h e = ended_costs (Faulted fault) ending (noting course noted) last e
-test_costs course (Ok value, noted) go ending last h e = h (truth_in value) (noting course noted) e
+test_costs : (so_far : StepState) (result : Evaluated) (go : Bool → StepState → Stepped) (ending : Status) (last : StepState) → ((holds : Bool) → CostsMore (go holds) ending last) →
+    after_test so_far result go ≡ Some (ending, last) → so_far.cost ≤ last.cost
+test_costs so_far (Err fault, read_flags) go ending last h e = ended_costs (Faulted fault) ending (with_flags so_far read_flags) last e
+test_costs so_far (Ok value, read_flags) go ending last h e = h (truth_in value) (with_flags so_far read_flags) e
 
-simple_costs : (kind : BodyId) (at : ℕ) (stmt : Stmt-F Stmt) (course : Course) (go : Course → Stepped) (ending : Status) (last : Course) → CostsMore go ending last →
-    after (act kind at stmt course) go ≡ Some (ending, last) → course.cost ≤ last.cost
-simple_costs kind at stmt course go ending last = after_costs course (act kind at stmt course) go ending last (act_keeps kind at stmt course)
+simple_costs : (kind : BodyId) (at : ℕ) (stmt : Stmt-F Stmt) (so_far : StepState) (go : StepState → Stepped) (ending : Status) (last : StepState) → CostsMore go ending last →
+    after (act kind at stmt so_far) go ≡ Some (ending, last) → so_far.cost ≤ last.cost
+simple_costs kind at stmt so_far go ending last = after_costs so_far (act kind at stmt so_far) go ending last (act_keeps kind at stmt so_far)
 
-pub perform_costs : (kind : BodyId) (here : Placed) (rest : List Placed) (stmt : Stmt-F Stmt) (course : Course) (go : List Placed → Course → Stepped) (ending : Status) (last : Course) →
-    ((placed : List Placed) → CostsMore (go placed) ending last) → perform kind here rest stmt course go ≡ Some (ending, last) → course.cost ≤ last.cost
-perform_costs kind here rest (Stmt-F.If test block other) course go ending last h e = test_costs course (valued course test) _ ending last (λ holds c. h _ c) e
-perform_costs kind here rest (Stmt-F.While test body) course go ending last h e = test_costs course (valued course test) _ ending last (λ holds c. h _ c) e
-perform_costs kind here rest (Stmt-F.Let slot expr) course go ending last h e = simple_costs kind here.at (Stmt-F.Let slot expr) course (go rest) ending last (h rest) e
-perform_costs kind here rest (Stmt-F.Assign slot expr) course go ending last h e = simple_costs kind here.at (Stmt-F.Assign slot expr) course (go rest) ending last (h rest) e
-perform_costs kind here rest (Stmt-F.Emit cell what) course go ending last h e = simple_costs kind here.at (Stmt-F.Emit cell what) course (go rest) ending last (h rest) e
-perform_costs kind here rest (Stmt-F.Delay expr) course go ending last h e = simple_costs kind here.at (Stmt-F.Delay expr) course (go rest) ending last (h rest) e
-perform_costs kind here rest (Stmt-F.WaitUntil condition) course go ending last h e = simple_costs kind here.at (Stmt-F.WaitUntil condition) course (go rest) ending last (h rest) e
-perform_costs kind here rest (Stmt-F.Spawn child exprs) course go ending last h e = simple_costs kind here.at (Stmt-F.Spawn child exprs) course (go rest) ending last (h rest) e
-perform_costs kind here rest (Stmt-F.Call child exprs into) course go ending last h e = simple_costs kind here.at (Stmt-F.Call child exprs into) course (go rest) ending last (h rest) e
-perform_costs kind here rest (Stmt-F.Return value) course go ending last h e = simple_costs kind here.at (Stmt-F.Return value) course (go rest) ending last (h rest) e
+pub perform_costs : (kind : BodyId) (here : Placed) (rest : List Placed) (stmt : Stmt-F Stmt) (so_far : StepState) (go : List Placed → StepState → Stepped) (ending : Status) (last : StepState) →
+    ((placed : List Placed) → CostsMore (go placed) ending last) → perform kind here rest stmt so_far go ≡ Some (ending, last) → so_far.cost ≤ last.cost
+perform_costs kind here rest (Stmt-F.If test block other) so_far go ending last h e = test_costs so_far (valued so_far test) _ ending last (λ holds c. h _ c) e
+perform_costs kind here rest (Stmt-F.While test body) so_far go ending last h e = test_costs so_far (valued so_far test) _ ending last (λ holds c. h _ c) e
+perform_costs kind here rest (Stmt-F.Let slot expr) so_far go ending last h e = simple_costs kind here.at (Stmt-F.Let slot expr) so_far (go rest) ending last (h rest) e
+perform_costs kind here rest (Stmt-F.Assign slot expr) so_far go ending last h e = simple_costs kind here.at (Stmt-F.Assign slot expr) so_far (go rest) ending last (h rest) e
+perform_costs kind here rest (Stmt-F.Emit cell what) so_far go ending last h e = simple_costs kind here.at (Stmt-F.Emit cell what) so_far (go rest) ending last (h rest) e
+perform_costs kind here rest (Stmt-F.Delay expr) so_far go ending last h e = simple_costs kind here.at (Stmt-F.Delay expr) so_far (go rest) ending last (h rest) e
+perform_costs kind here rest (Stmt-F.WaitUntil condition) so_far go ending last h e = simple_costs kind here.at (Stmt-F.WaitUntil condition) so_far (go rest) ending last (h rest) e
+perform_costs kind here rest (Stmt-F.Spawn child exprs) so_far go ending last h e = simple_costs kind here.at (Stmt-F.Spawn child exprs) so_far (go rest) ending last (h rest) e
+perform_costs kind here rest (Stmt-F.Call child exprs into) so_far go ending last h e = simple_costs kind here.at (Stmt-F.Call child exprs into) so_far (go rest) ending last (h rest) e
+perform_costs kind here rest (Stmt-F.Return value) so_far go ending last h e = simple_costs kind here.at (Stmt-F.Return value) so_far (go rest) ending last (h rest) e
 
-pub steps_cost : (budget : ℕ) (kind : BodyId) (placed : List Placed) (ending : Status) (last course : Course) → steps kind budget placed course ≡ Some (ending, last) →
-    course.cost + open_status ending ≤ last.cost
-steps_cost budget kind [] ending last course e =
-    let both = both_are (Done None) ending course last e in omega (arith, ap (λ c. c.cost) both.1, ap open_status both.0)
-steps_cost zero kind (here ∷ rest) ending last course e = absurd (cc)
-steps_cost (suc budget) kind (here ∷ rest) ending last course e =
-    let more = perform_costs kind here rest (out-Stmt here.what) (paid course) (steps kind budget) ending last
+pub steps_cost : (budget : ℕ) (kind : BodyId) (placed : List Placed) (ending : Status) (last so_far : StepState) → steps kind budget placed so_far ≡ Some (ending, last) →
+    so_far.cost + open_status ending ≤ last.cost
+steps_cost budget kind [] ending last so_far e =
+    let both = both_are (Done None) ending so_far last e in omega (arith, ap (λ c. c.cost) both.1, ap open_status both.0)
+steps_cost zero kind (here ∷ rest) ending last so_far e = absurd (cc)
+steps_cost (suc budget) kind (here ∷ rest) ending last so_far e =
+    let more = perform_costs kind here rest (out-Stmt here.what) (paid so_far) (steps kind budget) ending last
     (λ placed c f. (let g = steps_cost budget kind placed ending last c f in omega arith)) e in
     omega (arith, more, at_most_one ending)
 
@@ -101,7 +101,7 @@ abbrev pub HasFrameOf : List ℕ → Making → Type 0
 HasFrameOf path None = Unit {0}
 HasFrameOf path (Some made) = HasPath path made.frames
 
-each_append : (P : Frame → Type 0) (first second : List Frame) → EachFrame P first → EachFrame P second → EachFrame P (first ++ second)
+pub each_append : (P : Frame → Type 0) (first second : List Frame) → EachFrame P first → EachFrame P second → EachFrame P (first ++ second)
 each_append P [] second h k = k
 each_append P (frame ∷ rest) second h k = (h.0, each_append P rest second h.1 k)
 
@@ -135,10 +135,10 @@ items_pay model of_child maker number view (item.Child kind arguments ∷ rest) 
 step_pays : (model : Parts) (of_child : Job → Making) (job : Job) (number budget : ℕ) (stepped : Stepped) → job_step model budget job ≡ stepped → ((job : Job) → AllPay (of_child job)) →
     AllPay (of_step model of_child job number stepped)
 step_pays model of_child job number budget None e h = tt
-step_pays model of_child job number budget (Some (status, course)) e h =
-    frame_pays (frame_of job status course) (of_items model of_child job.path number job.view course.items)
-    (let cost = steps_cost budget job.state.kind (left (body_of model job.state.kind) job.state.at) status course (starting job.view job.state.locals) e in omega arith)
-    (items_pay model of_child job.path number job.view course.items h)
+step_pays model of_child job number budget (Some (status, so_far)) e h =
+    frame_pays (frame_of job status so_far) (of_items model of_child job.path number job.view so_far.items)
+    (let cost = steps_cost budget job.state.kind (left (body_of model job.state.kind) job.state.at) status so_far (starting job.view job.state.locals) e in omega arith)
+    (items_pay model of_child job.path number job.view so_far.items h)
 
 deep_pays : (maker : List ℕ) (child : Job) → AllPay (too_deep maker child)
 deep_pays maker child = (omega arith, tt)
@@ -161,7 +161,7 @@ frame_first path frame (Some made) e = inl e
 
 step_first : (model : Parts) (of_child : Job → Making) (job : Job) (number : ℕ) (stepped : Stepped) → HasFrameOf job.path (of_step model of_child job number stepped)
 step_first model of_child job number None = tt
-step_first model of_child job number (Some (status, course)) = frame_first job.path (frame_of job status course) (of_items model of_child job.path number job.view course.items) refl
+step_first model of_child job number (Some (status, so_far)) = frame_first job.path (frame_of job status so_far) (of_items model of_child job.path number job.view so_far.items) refl
 
 within_first : (model : Parts) (budget room number : ℕ) (job : Job) → HasFrameOf job.path (made_within model budget room number job)
 within_first model budget zero number job = step_first model (too_deep job.path) job number (job_step model budget job)

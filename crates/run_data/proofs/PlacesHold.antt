@@ -10,12 +10,13 @@ use Rattle.aerie_base.specs.declared.statements.Stmt.TheOpen.{Stmt-F}
 use Rattle.aerie_base.specs.statements.Places.{Placed, placed, lefts, block_lefts, size, block_size, is_simple, simple_step}
 use Rattle.aerie_base.specs.statements.PlaceForms.{plain_of, size_If, lefts_If, lefts_While}
 use Rattle.aerie_base.specs.statements.Induction.{AllOf, each, stmt_ind}
-use Rattle.aerie_base.specs.models.Bodies.{Setting, Scope, behind, checked, block_checked}
+use Rattle.aerie_base.specs.models.Bodies.{Setting, checked, block_checked}
+use Rattle.aerie_base.specs.models.Scopes.{Scope, behind}
 use Rattle.run_data.specs.Scopes.{scope_or, stmt_scopes, block_scopes}
 use Rattle.run_data.proofs.Scoping.{Suffices, same_suffices, in_turn, goes_behind, longer, behind_length, behind_suffices, end_suffices, beginning_suffices}
 use Rattle.run_data.proofs.CheckedForms.{then_is, choice_is, loop_is, block_goes}
 use Rattle.run_data.proofs.ScopeForms.{after_block, scopes_If, scopes_While, scopes_simple, scopes_length, block_scopes_length, lefts_length, block_lefts_length, lefts_begin, scopes_begin}
-use Rattle.run_data.proofs.Standing.{Standing, standing_parts}
+use Rattle.run_data.proofs.Sublists.{StandsAt, standing_parts}
 
 module _ (setting : Setting) (slots : ℕ) (scopes : List Scope) (leftovers : List (List Placed)) where
   -- ---- what holds at a place
@@ -49,7 +50,7 @@ module _ (setting : Setting) (slots : ℕ) (scopes : List Scope) (leftovers : Li
   Onward here rest scope next (Stmt-F.Return value) = Follows next rest × Reaches next (here.at + 1) × IsLeft (here.at + 1) rest
 
   -- a statement at its place, where the scope is this and these are left behind it
-  pub record Stands (here : Placed) (rest : List Placed) (scope : Scope) : Type 0 where
+  pub record IsReached (here : Placed) (rest : List Placed) (scope : Scope) : Type 0 where
     pub next : Scope
     pub checks : checked setting here.what scope ≡ Some next
     pub small : length next ≤ slots
@@ -60,7 +61,7 @@ module _ (setting : Setting) (slots : ℕ) (scopes : List Scope) (leftovers : Li
   Holds scope [] = Unit {0}
   Holds scope (here ∷ rest) =
       (there : Scope) × (slice_get scopes here.at ≡ Some there) × Suffices scope there
-      × (slice_get leftovers here.at ≡ Some (here ∷ rest)) × Stands here rest there
+      × (slice_get leftovers here.at ≡ Some (here ∷ rest)) × IsReached here rest there
 
   abbrev pub AllHold : List Scope → List (List Placed) → Type 0
   AllHold [] [] = Unit {0}
@@ -104,11 +105,11 @@ module _ (setting : Setting) (slots : ℕ) (scopes : List Scope) (leftovers : Li
 
   -- ---- the first place of a block
 
-  first_of : {A : Type 0} (whole : List A) (at : ℕ) (first : A) (more part rest : List A) → part ≡ first ∷ more → Standing whole at (part ++ rest) → slice_get whole at ≡ Some first
-  first_of whole at first more part rest e h = (subst (λ (l : _). Standing whole at (l ++ rest)) e h).0
+  first_of : {A : Type 0} (whole : List A) (at : ℕ) (first : A) (more part rest : List A) → part ≡ first ∷ more → StandsAt whole at (part ++ rest) → slice_get whole at ≡ Some first
+  first_of whole at first more part rest e h = (subst (λ (l : _). StandsAt whole at (l ++ rest)) e h).0
 
   block_follows : (block : List Stmt) (at : ℕ) (scope : Scope) (rest : List Placed) →
-      Standing leftovers at (block_lefts block at rest) → Standing scopes at (block_scopes setting block scope) →
+      StandsAt leftovers at (block_lefts block at rest) → StandsAt scopes at (block_scopes setting block scope) →
       Follows scope rest → Follows scope (placed at block ++ rest)
   block_follows [] at scope rest left there h = h
   block_follows (stmt ∷ block) at scope rest left there h =
@@ -120,7 +121,7 @@ module _ (setting : Setting) (slots : ℕ) (scopes : List Scope) (leftovers : Li
       )
 
   pub block_reaches : (block : List Stmt) (at : ℕ) (scope next : Scope) → block_checked setting block scope ≡ Some next →
-      Standing scopes at (block_scopes setting block scope) → Reaches next (at + block_size block) → Reaches scope at
+      StandsAt scopes at (block_scopes setting block scope) → Reaches next (at + block_size block) → Reaches scope at
   block_reaches [] at scope next e there h =
       let same : next ≡ scope = cc in
       subst (λ (n : ℕ). Reaches scope n) (add-zero at) (subst (λ (s : Scope). Reaches s (at + 0)) same h)
@@ -128,7 +129,7 @@ module _ (setting : Setting) (slots : ℕ) (scopes : List Scope) (leftovers : Li
       let b = scopes_begin setting stmt scope in
       (scope, first_of scopes at scope b.0 (stmt_scopes setting stmt scope) _ b.1 there, same_suffices scope)
 
-  block_left : (block : List Stmt) (at : ℕ) (rest : List Placed) → Standing leftovers at (block_lefts block at rest) → IsLeft (at + block_size block) rest → IsLeft at (placed at block ++ rest)
+  block_left : (block : List Stmt) (at : ℕ) (rest : List Placed) → StandsAt leftovers at (block_lefts block at rest) → IsLeft (at + block_size block) rest → IsLeft at (placed at block ++ rest)
   block_left [] at rest left h = subst (λ (n : ℕ). IsLeft n rest) (add-zero at) h
   block_left (stmt ∷ block) at rest left h =
       let onward : List Placed = placed (at + size stmt) block ++ rest in
@@ -139,12 +140,12 @@ module _ (setting : Setting) (slots : ℕ) (scopes : List Scope) (leftovers : Li
 
   abbrev Proved : Stmt → Type 0
   Proved stmt = (at : ℕ) (scope next : Scope) (rest : List Placed) → checked setting stmt scope ≡ Some next → length next ≤ slots →
-      Standing leftovers at (lefts stmt at rest) → Standing scopes at (stmt_scopes setting stmt scope) → Holds next rest → Reaches next (at + size stmt) → IsLeft (at + size stmt) rest →
+      StandsAt leftovers at (lefts stmt at rest) → StandsAt scopes at (stmt_scopes setting stmt scope) → Holds next rest → Reaches next (at + size stmt) → IsLeft (at + size stmt) rest →
       Holds scope (record { at = at; what = stmt } ∷ rest) × AllHold (stmt_scopes setting stmt scope) (lefts stmt at rest)
 
   abbrev BlockProved : List Stmt → Type 0
   BlockProved block = (at : ℕ) (scope next : Scope) (rest : List Placed) → block_checked setting block scope ≡ Some next → length next ≤ slots →
-      Standing leftovers at (block_lefts block at rest) → Standing scopes at (block_scopes setting block scope) → Holds next rest → Reaches next (at + block_size block) → IsLeft (at + block_size block) rest →
+      StandsAt leftovers at (block_lefts block at rest) → StandsAt scopes at (block_scopes setting block scope) → Holds next rest → Reaches next (at + block_size block) → IsLeft (at + block_size block) rest →
       Holds scope (placed at block ++ rest) × AllHold (block_scopes setting block scope) (block_lefts block at rest)
 
   block_proved : (block : List Stmt) → AllOf Proved block → BlockProved block
@@ -157,7 +158,7 @@ module _ (setting : Setting) (slots : ℕ) (scopes : List Scope) (leftovers : Li
       let onward : List Placed = placed (at + size stmt) block ++ rest in
       let lists = standing_parts leftovers at (size stmt) (lefts stmt at onward) (block_lefts block (at + size stmt) rest) (lefts_length stmt at onward) left in
       let parts = standing_parts scopes at (size stmt) (stmt_scopes setting stmt scope) (block_scopes setting block middle) (scopes_length setting stmt scope)
-      (subst (λ (s : Scope). Standing scopes at (stmt_scopes setting stmt scope ++ block_scopes setting block s)) middle_is there) in
+      (subst (λ (s : Scope). StandsAt scopes at (stmt_scopes setting stmt scope ++ block_scopes setting block s)) middle_is there) in
       let place : at + (size stmt + block_size block) ≡ (at + size stmt) + block_size block = omega arith in
       let reach_on : Reaches next ((at + size stmt) + block_size block) = subst (λ (n : ℕ). Reaches next n) place reach in
       let ends_on : IsLeft ((at + size stmt) + block_size block) rest = subst (λ (n : ℕ). IsLeft n rest) place ends in
@@ -189,8 +190,8 @@ module _ (setting : Setting) (slots : ℕ) (scopes : List Scope) (leftovers : Li
   simple_proved stmt h at scope next rest e small left there holds reach ends =
       let plain = plain_of stmt h in
       let here : Placed = record { at = at; what = stmt } in
-      let lists = subst (λ (l : List (List Placed)). Standing leftovers at l) (plain.lefts_is at rest) left in
-      let parts = subst (λ (l : List Scope). Standing scopes at l) (scopes_simple setting stmt h scope) there in
+      let lists = subst (λ (l : List (List Placed)). StandsAt leftovers at l) (plain.lefts_is at rest) left in
+      let parts = subst (λ (l : List Scope). StandsAt scopes at l) (scopes_simple setting stmt h scope) there in
       let reach_on : Reaches next (at + 1) = subst (λ (n : ℕ). Reaches next (at + n)) plain.size_is reach in
       let ends_on : IsLeft (at + 1) rest = subst (λ (n : ℕ). IsLeft (at + n) rest) plain.size_is ends in
       let own : Holds scope (here ∷ rest) =
@@ -211,13 +212,13 @@ module _ (setting : Setting) (slots : ℕ) (scopes : List Scope) (leftovers : Li
       let form : stmt_scopes setting (If test block other) scope ≡ scope ∷ block_scopes setting block scope ++ (middle ∷ block_scopes setting other middle) =
       scopes_If setting test block other scope ∙ ap (λ (m : Scope). scope ∷ block_scopes setting block scope ++ (m ∷ block_scopes setting other m)) middle_is in
       let second_at : ℕ = at + 2 + block_size block in
-      let lists = subst (λ (l : List (List Placed)). Standing leftovers at l) (lefts_If test block other at rest) left in
-      let parts = subst (λ (l : List Scope). Standing scopes at l) form there in
+      let lists = subst (λ (l : List (List Placed)). StandsAt leftovers at l) (lefts_If test block other at rest) left in
+      let parts = subst (λ (l : List Scope). StandsAt scopes at l) form there in
       let in_lists = standing_parts leftovers (at + 1) (block_size block) (block_lefts block (at + 1) rest) (rest ∷ block_lefts other second_at rest) (block_lefts_length block (at + 1) rest) lists.1 in
       let in_parts = standing_parts scopes (at + 1) (block_size block) (block_scopes setting block scope) (middle ∷ block_scopes setting other middle) (block_scopes_length setting block scope) parts.1 in
       let place : ((at + 1) + block_size block) + 1 ≡ second_at = omega arith in
-      let other_lists = subst (λ (n : ℕ). Standing leftovers n (block_lefts other second_at rest)) place in_lists.1.1 in
-      let other_parts = subst (λ (n : ℕ). Standing scopes n (block_scopes setting other middle)) place in_parts.1.1 in
+      let other_lists = subst (λ (n : ℕ). StandsAt leftovers n (block_lefts other second_at rest)) place in_lists.1.1 in
+      let other_parts = subst (λ (n : ℕ). StandsAt scopes n (block_scopes setting other middle)) place in_parts.1.1 in
       let first_goes = block_goes setting block scope is.first is.block_is in
       let second_goes = block_goes setting other middle is.second is.other_is in
       let to_next : Suffices middle next = subst (λ (s : Scope). Suffices middle s) (sym is.next_is) (behind_suffices middle is.second) in
@@ -266,8 +267,8 @@ module _ (setting : Setting) (slots : ℕ) (scopes : List Scope) (leftovers : Li
       let after_is : after_block setting body scope ≡ after = ap (λ (found : Option Scope). behind scope (scope_or scope found)) is.body_is in
       let form : stmt_scopes setting (While test body) scope ≡ scope ∷ block_scopes setting body scope ++ after ∷ [] =
       scopes_While setting test body scope ∙ ap (λ (m : Scope). scope ∷ block_scopes setting body scope ++ m ∷ []) after_is in
-      let lists = subst (λ (l : List (List Placed)). Standing leftovers at l) (lefts_While test body at rest) left in
-      let parts = subst (λ (l : List Scope). Standing scopes at l) form there in
+      let lists = subst (λ (l : List (List Placed)). StandsAt leftovers at l) (lefts_While test body at rest) left in
+      let parts = subst (λ (l : List Scope). StandsAt scopes at l) form there in
       let in_lists = standing_parts leftovers (at + 1) (block_size body) (block_lefts body (at + 1) (here ∷ rest)) ((here ∷ rest) ∷ []) (block_lefts_length body (at + 1) (here ∷ rest)) lists.1 in
       let in_parts = standing_parts scopes (at + 1) (block_size body) (block_scopes setting body scope) (after ∷ []) (block_scopes_length setting body scope) parts.1 in
       let inner_goes = block_goes setting body scope is.inner is.body_is in

@@ -7,16 +7,16 @@ use Rattle.aerie_base.specs.declared.plans.Plan.{Plan}
 use Rattle.effect_cells.specs.declared.effects.CellState.{CellState}
 use Rattle.effect_cells.specs.declared.effects.Effect.{Effect}
 use Rattle.effect_cells.specs.declared.trees.Tree.{Tree}
-use Rattle.effect_cells.specs.Cells.{initial, passed, first_out, with_effects, committed as committed_cells}
+use Rattle.effect_cells.specs.Cells.{initial, passed, first_out, with_effects, committed_cells}
 use Rattle.effect_cells.specs.States.{applied_if_any}
 use Rattle.effect_cells.specs.Worth.{worth_of}
 use Rattle.run_data.specs.declared.jobs.Job.{Job}
 use Rattle.run_data.specs.declared.runs.Instant.{Instant}
 use Rattle.run_data.specs.declared.runs.Run.{Run}
 use Rattle.run_data.specs.Batches.{Batch, limit, failed, committed, batch, judged as judged_batch, when_within, when_no_fault, unless_out, is_there, touched_from, Blame, least_fault, tree_of, cost_of}
-use Rattle.run_data.specs.Fold.{Next, more, finished, begins, onward}
+use Rattle.run_data.specs.Transitions.{Next, more, finished, begins, onward}
 use Rattle.run_data.specs.Frames.{Made, Making, made_by_all}
-use Rattle.run_data.specs.Fresh.{Standing, start, states_from, instant_at, settled, next_by, judged, moved, to_time, to_end, after_outcome, least_due, below, Stands}
+use Rattle.run_data.specs.Fresh.{SimulationState, start, states_from, instant_at, settled, next_by, woken_or_moved, moved, to_time, to_end, after_outcome, least_due, below, IsReached}
 use Rattle.run_data.specs.Tasks.{on_each, ready_jobs, woken}
 use Rattle.run_data.specs.Values.{with_states, cells_from}
 use Rattle.run_data.specs.laws.Replay.{CellsAreReplayed}
@@ -139,23 +139,23 @@ with_last from cells (instant ∷ rest) last t before less =
 
 module _ (model : Parts) (plan : Plan) (bound : ℕ) where
   -- the cells with which this time began
-  abbrev cells_before : Standing → List CellState
+  abbrev cells_before : SimulationState → List CellState
   cells_before at = cells_from 0 (initial model) at.instants at.time
 
-  abbrev Follows : Standing → Type 0
+  abbrev Follows : SimulationState → Type 0
   Follows at = SameElsewhere 0 at.touched (cells_before at) at.cells
 
-  abbrev PlaceFollows : Next Standing Run → Type 0
+  abbrev PlaceFollows : Next SimulationState Run → Type 0
   PlaceFollows (more at) = Follows at
   PlaceFollows (finished run) = Unit {0}
 
-  pub replayed : (at : Standing) → StandsWell plan at → Follows at → (t : ℕ) → at.time ≤ t → cells_from 0 (initial model) (settled model plan bound at) t ≡ passed at.cells (t - at.time)
+  pub replayed : (at : SimulationState) → StandsWell plan at → Follows at → (t : ℕ) → at.time ≤ t → cells_from 0 (initial model) (settled model plan bound at) t ≡ passed at.cells (t - at.time)
   replayed at well follows t less =
       with_last 0 (initial model) at.instants (instant_at at) t well.before less
       ∙ ap (λ cells. passed cells (t - at.time)) (replays at.touched [] (cells_before at) at.cells 0 refl follows)
 
   -- what is committed comes of one tree
-  abbrev OfTree : List CellState → Batch → Type 0
+  abbrev pub OfTree : List CellState → Batch → Type 0
   OfTree cells limit = Unit {0}
   OfTree cells (failed who fault) = Unit {0}
   OfTree cells (committed after_ touched frames) = (tree : Tree) × (committed_cells cells tree ≡ after_) × (touched_from 0 tree cells ≡ touched)
@@ -172,11 +172,11 @@ module _ (model : Parts) (plan : Plan) (bound : ℕ) where
   within_of_tree cells made true = fault_of_tree cells made (least_fault made.frames)
   within_of_tree cells made false = tt
 
-  making_of_tree : (spent : ℕ) (cells : List CellState) (making : Making) → OfTree cells (judged_batch bound spent cells making)
+  pub making_of_tree : (spent : ℕ) (cells : List CellState) (making : Making) → OfTree cells (judged_batch bound spent cells making)
   making_of_tree spent cells None = tt
   making_of_tree spent cells (Some made) = within_of_tree cells made (if nat_lt bound (spent + cost_of made.frames) then false else true)
 
-  outcome_follows : (at : Standing) (outcome : Batch) → OfTree at.cells outcome → Follows at → PlaceFollows (after_outcome model plan bound at outcome)
+  outcome_follows : (at : SimulationState) (outcome : Batch) → OfTree at.cells outcome → Follows at → PlaceFollows (after_outcome model plan bound at outcome)
   outcome_follows at limit of_tree follows = tt
   outcome_follows at (failed who fault) of_tree follows = tt
   outcome_follows at (committed cells touched frames) of_tree follows =
@@ -185,16 +185,16 @@ module _ (model : Parts) (plan : Plan) (bound : ℕ) where
       (changes_elsewhere 0 at.touched (touched_from 0 of_tree.0 at.cells) (worth_of of_tree.0) (cells_before at) at.cells
       (λ cell less. not_there of_tree.0 at.cells cell (omega arith)) follows))
 
-  time_follows : (at : Standing) (time : ℕ) (out : Option ℕ) → StandsWell plan at → Follows at → at.time < time → PlaceFollows (to_time model plan bound at time (passed at.cells (time - at.time)) out)
+  time_follows : (at : SimulationState) (time : ℕ) (out : Option ℕ) → StandsWell plan at → Follows at → at.time < time → PlaceFollows (to_time model plan bound at time (passed at.cells (time - at.time)) out)
   time_follows at time (Some cell) well follows later = tt
   time_follows at time None well follows later =
       subst (λ cells. SameElsewhere 0 [] cells (passed at.cells (time - at.time))) (sym (replayed at well follows time (omega arith))) (all_same 0 [] (passed at.cells (time - at.time)))
 
-  end_follows : (at : Standing) (out : Option ℕ) → PlaceFollows (to_end model plan bound at out)
+  end_follows : (at : SimulationState) (out : Option ℕ) → PlaceFollows (to_end model plan bound at out)
   end_follows at (Some cell) = tt
   end_follows at None = tt
 
-  moved_follows : (at : Standing) (next_time : Option ℕ) → StandsWell plan at → Follows at → below plan.duration (least_due at.time plan.duration at.cells at.table) ≡ next_time →
+  moved_follows : (at : SimulationState) (next_time : Option ℕ) → StandsWell plan at → Follows at → below plan.duration (least_due at.time plan.duration at.cells at.table) ≡ next_time →
       Each (StillWaits at.cells) at.table → PlaceFollows (moved model plan bound at next_time)
   moved_follows at None well follows e waits = end_follows at (first_out (passed at.cells (plan.duration - at.time)))
   moved_follows at (Some time) well follows e waits =
@@ -202,13 +202,13 @@ module _ (model : Parts) (plan : Plan) (bound : ℕ) where
       let later : at.time < time = subst (IsAfter at.time) is.0 (least_is_after at.time plan.duration at.cells at.table well.delays waits) in
       time_follows at time (first_out (passed at.cells (time - at.time))) well follows later
 
-  judged_follows : (at : Standing) (jobs : List (ℕ × Job)) → ready_jobs at.cells (on_each (woken at.cells) at.table) ≡ jobs → StandsWell plan at → Follows at →
-      PlaceFollows (judged model plan bound at (on_each (woken at.cells) at.table) jobs)
+  judged_follows : (at : SimulationState) (jobs : List (ℕ × Job)) → ready_jobs at.cells (on_each (woken at.cells) at.table) ≡ jobs → StandsWell plan at → Follows at →
+      PlaceFollows (woken_or_moved model plan bound at (on_each (woken at.cells) at.table) jobs)
   judged_follows at [] e well follows =
       moved_follows at (below plan.duration (least_due at.time plan.duration at.cells at.table)) well follows refl (none_ready at.cells at.table e)
   judged_follows at (job ∷ rest) e well follows = follows
 
-  next_follows : (at : Standing) (jobs : List (ℕ × Job)) → StandsWell plan at → Follows at → PlaceFollows (next_by model plan bound at jobs)
+  next_follows : (at : SimulationState) (jobs : List (ℕ × Job)) → StandsWell plan at → Follows at → PlaceFollows (next_by model plan bound at jobs)
   next_follows at [] well follows = judged_follows at (ready_jobs at.cells (on_each (woken at.cells) at.table)) refl well follows
   next_follows at (job ∷ rest) well follows =
       outcome_follows at (batch model bound at.spent at.cells (job ∷ rest)) (making_of_tree at.spent at.cells (made_by_all model bound (job ∷ rest))) follows
@@ -216,7 +216,7 @@ module _ (model : Parts) (plan : Plan) (bound : ℕ) where
   start_follows : Follows (start model plan)
   start_follows = subst (λ cells. SameElsewhere 0 [] cells (initial model)) (sym (passed_none (initial model))) (all_same 0 [] (initial model))
 
-  place_follows : (place : Next Standing Run) → Stands model plan bound place → PlaceFollows place
+  place_follows : (place : Next SimulationState Run) → IsReached model plan bound place → PlaceFollows place
   place_follows (more at) begins = start_follows
   place_follows place (onward {place = at} before) =
       next_follows at (ready_jobs at.cells at.table) (stands_well model plan bound (more at) before) (place_follows (more at) before)

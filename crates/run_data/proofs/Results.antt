@@ -9,19 +9,22 @@ use Rattle.aerie_base.specs.declared.models.Activity.{Activity}
 use Rattle.aerie_base.specs.declared.models.model.Parts.{Parts}
 use Rattle.aerie_base.specs.declared.expressions.Expr.{Expr}
 use Rattle.aerie_base.specs.expressions.Arithmetic.{Outcome, value_kind, number_in, truth_in}
-use Rattle.aerie_base.specs.expressions.Evaluation.{Noted}
+use Rattle.aerie_base.specs.expressions.Evaluation.{Evaluated}
 use Rattle.aerie_base.specs.expressions.Soundness.{Gives, sound}
 use Rattle.aerie_base.specs.models.Activities.{is_return, is_return_step}
-use Rattle.aerie_base.specs.models.Bodies.{result_of}
+use Rattle.aerie_base.specs.models.Signatures.{result_of}
 use Rattle.aerie_base.specs.models.Cells.{read_kind}
 use Rattle.aerie_base.specs.models.ValidModel.{valid_model}
 use Rattle.aerie_base.specs.statements.Places.{Placed, placed, left, block_size, simple_step}
 use Rattle.run_data.specs.declared.tasks.BodyId.{BodyId}
 use Rattle.run_data.specs.declared.tasks.TaskState.{TaskState}
+use Rattle.run_data.specs.declared.frames.Status.{Status}
 use Rattle.run_data.specs.declared.frames.Status.TheVariants.{Done, Faulted}
-use Rattle.run_data.specs.Courses.{Course, after_items, starting, seen, valued, noting, paid}
-use Rattle.run_data.specs.Jobs.{AreCellsOf}
-use Rattle.run_data.specs.Steps.{Turn, onward, ended, act, with_noted, valued_all, emission_expr, delay_of, behind, Stepped, after, after_test, perform, steps}
+use Rattle.run_data.specs.declared.jobs.Job.{Job}
+use Rattle.run_data.specs.Frames.{job_step}
+use Rattle.run_data.specs.StepStates.{StepState, after_items, starting, seen, valued, with_flags, paid}
+use Rattle.run_data.specs.Jobs.{is_state_of, AreCellsOf}
+use Rattle.run_data.specs.Steps.{Turn, onward, ended, act, with_evaluated, valued_all, emission_expr, delay_of, behind, Stepped, after, after_test, perform, steps}
 use Rattle.run_data.specs.TaskStates.{body_of, activity_body}
 use Rattle.run_data.specs.Typed.{AreLeft, kind_here}
 use Rattle.run_data.specs.laws.Typing.{body_result}
@@ -45,11 +48,11 @@ not_some : (found : Option Kind) → found ≡ None → IsTrue (is_some found) �
 not_some None e h = absurd (cc)
 not_some (Some of) e h = absurd (cc)
 
-any_turn : (P : Turn → Type 0) (course : Course) (result : Noted) (go : Value → Course → Turn) →
-    ((fault : Fault) (noted : List Bool) → P (ended (Faulted fault) (noting course noted))) → ((value : Value) (noted : List Bool) → result.0 ≡ Ok value → P (go value (noting course noted))) →
-    P (with_noted course result go)
-any_turn P course (Ok value, noted) go faulted goes = goes value noted refl
-any_turn P course (Err fault, noted) go faulted goes = faulted fault noted
+any_turn : (P : Turn → Type 0) (so_far : StepState) (result : Evaluated) (go : Value → StepState → Turn) →
+    ((fault : Fault) (read_flags : List Bool) → P (ended (Faulted fault) (with_flags so_far read_flags))) → ((value : Value) (read_flags : List Bool) → result.0 ≡ Ok value → P (go value (with_flags so_far read_flags))) →
+    P (with_evaluated so_far result go)
+any_turn P so_far (Ok value, read_flags) go faulted goes = goes value read_flags refl
+any_turn P so_far (Err fault, read_flags) go faulted goes = faulted fault read_flags
 
 module _ (model : Parts) (valid : IsTrue (valid_model model)) (kind : BodyId) where
   -- where the body has a result, what is left ends in a `return`
@@ -75,23 +78,23 @@ module _ (model : Parts) (valid : IsTrue (valid_model model)) (kind : BodyId) wh
   Ended (ended status last) = EndsAsDeclared model kind status
 
   -- a value has the type of its expression
-  value_has : (course : Course) (expr : Expr) (of : Kind) (value : Value) → AreCellsOf model (after_items course.view course.items) →
-      kind_here course.locals (read_kind model.cells) expr ≡ Some of → (valued course expr).0 ≡ Ok value → value_kind value ≡ of
-  value_has course expr of value cells e is =
+  value_has : (so_far : StepState) (expr : Expr) (of : Kind) (value : Value) → AreCellsOf model (after_items so_far.view so_far.items) →
+      kind_here so_far.locals (read_kind model.cells) expr ≡ Some of → (valued so_far expr).0 ≡ Ok value → value_kind value ≡ of
+  value_has so_far expr of value cells e is =
       subst (λ (o : Outcome). Gives of o) is
-      (sound expr course.locals (read_kind model.cells) (seen course.view course.items) course.noted of (seen_readings model course.view course.items cells) e)
+      (sound expr so_far.locals (read_kind model.cells) (seen so_far.view so_far.items) so_far.read_flags of (seen_readings model so_far.view so_far.items cells) e)
 
   delay_under : (by : ℤ) (next : TaskState) → IsUnderWay model next → EndsAsDeclared model kind (delay_of by next)
   delay_under (pos micros) next h = h
   delay_under (negsuc below) next h = tt
 
-  module _ (here : Placed) (rest : List Placed) (course : Course) (first : AreLeft model kind (here ∷ rest) course.locals)
-      (cells : AreCellsOf model (after_items course.view course.items)) (under : Under (here ∷ rest)) where
-    n : Now model kind here rest course.locals
-    n = now model kind here rest course.locals valid first
+  module _ (here : Placed) (rest : List Placed) (so_far : StepState) (first : AreLeft model kind (here ∷ rest) so_far.locals)
+      (cells : AreCellsOf model (after_items so_far.view so_far.items)) (under : Under (here ∷ rest)) where
+    n : Now model kind here rest so_far.locals
+    n = now model kind here rest so_far.locals valid first
 
     abbrev FitsHere : Stmt-F Stmt → Type 0
-    FitsHere = Fits model n.is.parameters n.is.result n.suits_it.scope course.locals n.few n.suits_it.suit n.stands.next
+    FitsHere = Fits model n.is.parameters n.is.result n.suits_it.scope so_far.locals n.few n.suits_it.suit n.stands.next
 
     abbrev OnwardHere : Stmt-F Stmt → Type 0
     OnwardHere = Onward (its_setting model kind n.is) n.is.slots (its_scopes model kind n.is) (its_lefts model kind n.is) here rest n.suits_it.scope n.stands.next
@@ -104,71 +107,71 @@ module _ (model : Parts) (valid : IsTrue (valid_model model)) (kind : BodyId) wh
         IsLeft (its_setting model kind n.is) n.is.slots (its_scopes model kind n.is) (its_lefts model kind n.is) (here.at + 1) rest → left (body_of model kind) (here.at + 1) ≡ [] → body_result model kind ≡ None
     goes_on x e differs h = under_way (here.at + 1) rest (next_left h) (rest_under here rest (not_return here x e differs) under)
 
-    turn_ends : (x : Stmt-F Stmt) → out-Stmt here.what ≡ x → FitsHere x → OnwardHere x → simple_step x ≡ true → Ended (act kind here.at x course)
-    turn_ends (Stmt-F.Let slot expr) e fit on simple = any_turn Ended course (valued course expr) _ (λ fault noted. tt) (λ value noted is. tt)
-    turn_ends (Stmt-F.Assign slot expr) e fit on simple = any_turn Ended course (valued course expr) _ (λ fault noted. tt) (λ value noted is. tt)
-    turn_ends (Stmt-F.Emit cell what) e fit on simple = any_turn Ended course (valued course (emission_expr what)) _ (λ fault noted. tt) (λ value noted is. tt)
+    turn_ends : (x : Stmt-F Stmt) → out-Stmt here.what ≡ x → FitsHere x → OnwardHere x → simple_step x ≡ true → Ended (act kind here.at x so_far)
+    turn_ends (Stmt-F.Let slot expr) e fit on simple = any_turn Ended so_far (valued so_far expr) _ (λ fault read_flags. tt) (λ value read_flags is. tt)
+    turn_ends (Stmt-F.Assign slot expr) e fit on simple = any_turn Ended so_far (valued so_far expr) _ (λ fault read_flags. tt) (λ value read_flags is. tt)
+    turn_ends (Stmt-F.Emit cell what) e fit on simple = any_turn Ended so_far (valued so_far (emission_expr what)) _ (λ fault read_flags. tt) (λ value read_flags is. tt)
     turn_ends (Stmt-F.Delay expr) e fit on simple =
-        any_turn Ended course (valued course expr) _ (λ fault noted. tt)
-        (λ value noted is. delay_under (number_in value) (behind kind here.at (noting course noted)) (goes_on (Stmt-F.Delay expr) e refl on.2))
+        any_turn Ended so_far (valued so_far expr) _ (λ fault read_flags. tt)
+        (λ value read_flags is. delay_under (number_in value) (behind kind here.at (with_flags so_far read_flags)) (goes_on (Stmt-F.Delay expr) e refl on.2))
     turn_ends (Stmt-F.WaitUntil condition) e fit on simple = goes_on (Stmt-F.WaitUntil condition) e refl on.2
     turn_ends (Stmt-F.Spawn child exprs) e fit on simple =
-        all_turn Ended (λ result. Unit {0}) course (valued_all exprs course) _ (all_notes exprs course) tt (λ fault noted. tt) (λ values noted given. tt)
+        all_turn Ended (λ result. Unit {0}) so_far (valued_all exprs so_far) _ (all_notes exprs so_far) tt (λ fault read_flags. tt) (λ values read_flags given. tt)
     turn_ends (Stmt-F.Call child exprs into) e fit on simple =
-        all_turn Ended (λ result. Unit {0}) course (valued_all exprs course) _ (all_notes exprs course) tt (λ fault noted. tt)
-        (λ values noted given. goes_on (Stmt-F.Call child exprs into) e refl on.2)
+        all_turn Ended (λ result. Unit {0}) so_far (valued_all exprs so_far) _ (all_notes exprs so_far) tt (λ fault read_flags. tt)
+        (λ values read_flags given. goes_on (Stmt-F.Call child exprs into) e refl on.2)
     turn_ends (Stmt-F.If test block other) e fit on simple = absurd (cc)
     turn_ends (Stmt-F.While test block) e fit on simple = absurd (cc)
     turn_ends (Stmt-F.Return None) e fit on simple = sym (n.is.result_is ∙ fit.0)
     turn_ends (Stmt-F.Return (Some expr)) e fit on simple =
-        any_turn Ended course (valued course expr) _ (λ fault noted. tt)
-        (λ value noted is. ap Some (value_has course expr fit.0 value cells fit.2 is) ∙ sym (n.is.result_is ∙ fit.1))
+        any_turn Ended so_far (valued so_far expr) _ (λ fault read_flags. tt)
+        (λ value read_flags is. ap Some (value_has so_far expr fit.0 value cells fit.2 is) ∙ sym (n.is.result_is ∙ fit.1))
 
-    pub act_ends : (x : Stmt-F Stmt) → out-Stmt here.what ≡ x → simple_step x ≡ true → Ended (act kind here.at x course)
+    pub act_ends : (x : Stmt-F Stmt) → out-Stmt here.what ≡ x → simple_step x ≡ true → Ended (act kind here.at x so_far)
     act_ends x e simple =
         turn_ends x e
-        (subst FitsHere e (stmt_fits model n.is.parameters n.is.result n.suits_it.scope course.locals n.few n.suits_it.suit here.what n.stands.next n.stands.checks))
+        (subst FitsHere e (stmt_fits model n.is.parameters n.is.result n.suits_it.scope so_far.locals n.few n.suits_it.suit here.what n.stands.next n.stands.checks))
         (subst OnwardHere e n.stands.onward) simple
 
   -- ---- a step
 
   abbrev Declared : Stepped → Type 0
   Declared None = Unit {0}
-  Declared (Some (status, course)) = EndsAsDeclared model kind status
+  Declared (Some (status, so_far)) = EndsAsDeclared model kind status
 
-  record IsThere (list : List Placed) (course : Course) : Type 0 where
-    first : AreLeft model kind list course.locals
-    cells : AreCellsOf model (after_items course.view course.items)
+  record IsThere (list : List Placed) (so_far : StepState) : Type 0 where
+    first : AreLeft model kind list so_far.locals
+    cells : AreCellsOf model (after_items so_far.view so_far.items)
     under : Under list
 
-  tested : (course : Course) (result : Noted) (go : Bool → Course → Stepped) → ((holds : Bool) (noted : List Bool) → Declared (go holds (noting course noted))) → Declared (after_test course result go)
-  tested course (Ok value, noted) go goes = goes (truth_in value) noted
-  tested course (Err fault, noted) go goes = tt
+  tested : (so_far : StepState) (result : Evaluated) (go : Bool → StepState → Stepped) → ((holds : Bool) (read_flags : List Bool) → Declared (go holds (with_flags so_far read_flags))) → Declared (after_test so_far result go)
+  tested so_far (Ok value, read_flags) go goes = goes (truth_in value) read_flags
+  tested so_far (Err fault, read_flags) go goes = tt
 
-  turned : (before : Course) (rest : List Placed) (turn : Turn) (go : Course → Stepped) → Under rest → TurnGoes model kind rest before turn → Ended turn →
-      ((next : Course) → IsThere rest next → Declared (go next)) → Declared (after turn go)
+  turned : (before : StepState) (rest : List Placed) (turn : Turn) (go : StepState → Stepped) → Under rest → TurnGoes model kind rest before turn → Ended turn →
+      ((next : StepState) → IsThere rest next → Declared (go next)) → Declared (after turn go)
   turned before rest (onward next) go under on ends goes = goes next (record { first = on.0; cells = on.1; under = under })
   turned before rest (ended status last) go under on ends goes = ends
 
-  module _ (here : Placed) (rest : List Placed) (course : Course) (h : IsThere (here ∷ rest) course) (go : List Placed → Course → Stepped)
-      (goes : (list : List Placed) (next : Course) → IsThere list next → Declared (go list next)) where
+  module _ (here : Placed) (rest : List Placed) (so_far : StepState) (h : IsThere (here ∷ rest) so_far) (go : List Placed → StepState → Stepped)
+      (goes : (list : List Placed) (next : StepState) → IsThere list next → Declared (go list next)) where
     -- a `return` goes no further
-    simple_returns : (x : Stmt-F Stmt) → out-Stmt here.what ≡ x → simple_step x ≡ true → (is_return_step x ≡ false) → Declared (after (act kind here.at x course) (go rest))
+    simple_returns : (x : Stmt-F Stmt) → out-Stmt here.what ≡ x → simple_step x ≡ true → (is_return_step x ≡ false) → Declared (after (act kind here.at x so_far) (go rest))
     simple_returns x e simple differs =
-        turned course rest (act kind here.at x course) (go rest) (rest_under here rest (not_return here x e differs) h.under)
-        (turn_there model kind here rest course valid h.first h.cells (act kind here.at x course) (ap (λ (y : Stmt-F Stmt). act kind here.at y course) e))
-        (act_ends here rest course h.first h.cells h.under x e simple) (goes rest)
+        turned so_far rest (act kind here.at x so_far) (go rest) (rest_under here rest (not_return here x e differs) h.under)
+        (turn_there model kind here rest so_far valid h.first h.cells (act kind here.at x so_far) (ap (λ (y : Stmt-F Stmt). act kind here.at y so_far) e))
+        (act_ends here rest so_far h.first h.cells h.under x e simple) (goes rest)
 
-    returned : (value : Option Expr) → out-Stmt here.what ≡ Stmt-F.Return value → Ended (act {A = Stmt} kind here.at (Stmt-F.Return value) course) → Declared (after (act {A = Stmt} kind here.at (Stmt-F.Return value) course) (go rest))
+    returned : (value : Option Expr) → out-Stmt here.what ≡ Stmt-F.Return value → Ended (act {A = Stmt} kind here.at (Stmt-F.Return value) so_far) → Declared (after (act {A = Stmt} kind here.at (Stmt-F.Return value) so_far) (go rest))
     returned None e ends = ends
-    returned (Some expr) e ends = by_value (valued course expr) ends
+    returned (Some expr) e ends = by_value (valued so_far expr) ends
       where
-        by_value : (result : Noted) → Ended (with_noted course result (λ value c. ended (Done (Some value)) c)) → Declared (after (with_noted course result (λ value c. ended (Done (Some value)) c)) (go rest))
-        by_value (Ok value, noted) done = done
-        by_value (Err fault, noted) done = done
+        by_value : (result : Evaluated) → Ended (with_evaluated so_far result (λ value c. ended (Done (Some value)) c)) → Declared (after (with_evaluated so_far result (λ value c. ended (Done (Some value)) c)) (go rest))
+        by_value (Ok value, read_flags) done = done
+        by_value (Err fault, read_flags) done = done
 
-    there : (list : List Placed) (noted : List Bool) → AreLeft model kind list course.locals → Under list → IsThere list (noting course noted)
-    there list noted left under = record { first = left; cells = h.cells; under = under }
+    there : (list : List Placed) (read_flags : List Bool) → AreLeft model kind list so_far.locals → Under list → IsThere list (with_flags so_far read_flags)
+    there list read_flags left under = record { first = left; cells = h.cells; under = under }
 
     chosen : (holds : Bool) (a b : List Placed) → Under rest → Under ((if holds then a else b) ++ rest)
     chosen holds a b under some = in_front (if holds then a else b) rest (under some)
@@ -177,16 +180,16 @@ module _ (model : Parts) (valid : IsTrue (valid_model model)) (kind : BodyId) wh
     repeated true a again under some = in_front a (here ∷ rest) (again some)
     repeated false a again under some = under some
 
-    performed : (x : Stmt-F Stmt) → out-Stmt here.what ≡ x → Declared (perform kind here rest x course go)
+    performed : (x : Stmt-F Stmt) → out-Stmt here.what ≡ x → Declared (perform kind here rest x so_far go)
     performed (Stmt-F.If test block other) e =
-        tested course (valued course test) _ (λ holds noted. goes _ (noting course noted)
-        (there ((if holds then placed (here.at + 1) block else placed (here.at + 2 + block_size block) other) ++ rest) noted
-        (choice_runs_on model kind here rest course.locals test block other holds valid h.first e)
+        tested so_far (valued so_far test) _ (λ holds read_flags. goes _ (with_flags so_far read_flags)
+        (there ((if holds then placed (here.at + 1) block else placed (here.at + 2 + block_size block) other) ++ rest) read_flags
+        (choice_runs_on model kind here rest so_far.locals test block other holds valid h.first e)
         (chosen holds (placed (here.at + 1) block) (placed (here.at + 2 + block_size block) other) (rest_under here rest (not_return here (Stmt-F.If test block other) e refl) h.under))))
     performed (Stmt-F.While test block) e =
-        tested course (valued course test) _ (λ holds noted. goes _ (noting course noted)
-        (there (if holds then placed (here.at + 1) block ++ here ∷ rest else rest) noted
-        (loop_runs_on model kind here rest course.locals test block holds valid h.first e)
+        tested so_far (valued so_far test) _ (λ holds read_flags. goes _ (with_flags so_far read_flags)
+        (there (if holds then placed (here.at + 1) block ++ here ∷ rest else rest) read_flags
+        (loop_runs_on model kind here rest so_far.locals test block holds valid h.first e)
         (repeated holds (placed (here.at + 1) block) h.under (rest_under here rest (not_return here (Stmt-F.While test block) e refl) h.under))))
     performed (Stmt-F.Let slot value) e = simple_returns (Stmt-F.Let slot value) e refl refl
     performed (Stmt-F.Assign slot value) e = simple_returns (Stmt-F.Assign slot value) e refl refl
@@ -195,13 +198,13 @@ module _ (model : Parts) (valid : IsTrue (valid_model model)) (kind : BodyId) wh
     performed (Stmt-F.WaitUntil condition) e = simple_returns (Stmt-F.WaitUntil condition) e refl refl
     performed (Stmt-F.Spawn child arguments) e = simple_returns (Stmt-F.Spawn child arguments) e refl refl
     performed (Stmt-F.Call child arguments into) e = simple_returns (Stmt-F.Call child arguments into) e refl refl
-    performed (Stmt-F.Return value) e = returned value e (act_ends here rest course h.first h.cells h.under (Stmt-F.Return value) e refl)
+    performed (Stmt-F.Return value) e = returned value e (act_ends here rest so_far h.first h.cells h.under (Stmt-F.Return value) e refl)
 
-  steps_declared : (budget : ℕ) (list : List Placed) (course : Course) → IsThere list course → Declared (steps kind budget list course)
-  steps_declared budget [] course h = sym (unless_some (body_result model kind) h.under)
-  steps_declared zero (here ∷ rest) course h = tt
-  steps_declared (suc budget) (here ∷ rest) course h =
-      performed here rest (paid course) (record { first = h.first; cells = h.cells; under = h.under }) (steps kind budget) (steps_declared budget) (out-Stmt here.what) refl
+  steps_declared : (budget : ℕ) (list : List Placed) (so_far : StepState) → IsThere list so_far → Declared (steps kind budget list so_far)
+  steps_declared budget [] so_far h = sym (unless_some (body_result model kind) h.under)
+  steps_declared zero (here ∷ rest) so_far h = tt
+  steps_declared (suc budget) (here ∷ rest) so_far h =
+      performed here rest (paid so_far) (record { first = h.first; cells = h.cells; under = h.under }) (steps kind budget) (steps_declared budget) (out-Stmt here.what) refl
 
   -- where something is left, or there is no result, what is left ends in a `return` where there is a result
   begins_under : (at : ℕ) → IsBodyOf model kind → (left (body_of model kind) at ≡ [] → body_result model kind ≡ None) → Under (left (body_of model kind) at)
@@ -209,16 +212,21 @@ module _ (model : Parts) (valid : IsTrue (valid_model model)) (kind : BodyId) wh
       left_ends (body_of model kind) at (is.ends (subst (λ (o : Option Kind). IsTrue (is_some o)) is.result_is some))
       (λ e. not_some (body_result model kind) (h e) some)
 
-pub results_fit : ResultsFit
-results_fit model budget job status course valid is under e =
+-- however large the numbers of the view are
+pub step_declared : (model : Parts) (budget : ℕ) (job : Job) (status : Status) (so_far : StepState) → IsTrue (valid_model model) → IsTrue (is_state_of model job.state) → AreCellsOf model job.view →
+    IsUnderWay model job.state → job_step model budget job ≡ Some (status, so_far) → EndsAsDeclared model job.state.kind status
+step_declared model budget job status so_far valid of_model view under e =
     let kind = job.state.kind in
     subst (Declared model valid kind) e
     (steps_declared model valid kind budget _ (starting job.view job.state.locals)
     (record {
-      first = states_begin model job.state valid is.state;
-      cells = is.view;
-      under = begins_under model valid kind job.state.at (body_there model kind job.state.at job.state.locals valid is.state) under;
+      first = states_begin model job.state valid of_model;
+      cells = view;
+      under = begins_under model valid kind job.state.at (body_there model kind job.state.at job.state.locals valid of_model) under;
     }))
+
+pub results_fit : ResultsFit
+results_fit model budget job status so_far valid is under e = step_declared model budget job status so_far valid is.state is.view under e
 
 -- ---- where an activity begins
 

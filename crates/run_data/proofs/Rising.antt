@@ -18,11 +18,11 @@ use Rattle.run_data.specs.declared.tasks.TaskState.{TaskState}
 use Rattle.run_data.specs.declared.runs.Instant.{Instant}
 use Rattle.run_data.specs.declared.runs.Run.{Run}
 use Rattle.run_data.specs.Batches.{Batch, limit, failed, committed, batch}
-use Rattle.run_data.specs.Endings.{after_batch, gone_on, due_doing, back, has_ended, has_come, result_of, with_result}
-use Rattle.run_data.specs.Fold.{Next, more, finished, begins, onward}
-use Rattle.run_data.specs.Fresh.{Standing, start, next, next_by, judged, moved, to_time, to_end, after_outcome, settled, instant_at, least_due, below, Stands}
+use Rattle.run_data.specs.Endings.{after_batch, gone_on, due_phase, back, has_ended, has_come, result_of, with_result}
+use Rattle.run_data.specs.Transitions.{Next, more, finished, begins, onward}
+use Rattle.run_data.specs.Fresh.{SimulationState, start, next, next_by, woken_or_moved, moved, to_time, to_end, after_outcome, settled, instant_at, least_due, below, IsReached}
 use Rattle.run_data.specs.TaskStates.{activity_begun}
-use Rattle.run_data.specs.Tasks.{Doing, anchored, ready, delayed, waiting, calling, over, Table, task_at, on_each, planned, with_directives, with_daemons, children_made, children_in, after_delay, doing_after, task_after, after_frame, after_frames, ready_jobs, woken, woken_doing, rested, rested_doing}
+use Rattle.run_data.specs.Tasks.{TaskPhase, anchored, ready, delayed, waiting, calling, over, Table, task_at, on_each, planned, with_directives, with_daemons, children_made, children_in, after_delay, phase_after, task_after, after_frame, after_frames, ready_jobs, woken, woken_phase, rested, rested_phase}
 use Rattle.run_data.specs.laws.Rising.{RiseAbove, RiseFromStart, AreBefore, InstantsRise, InstantsAreBeforeEnd}
 use Rattle.run_data.proofs.Tables.{Each, each_with, each_changed}
 use Rattle.run_data.proofs.DueTimes.{EndsAfter, StillWaits, EndsNotBefore, IsAfter, least_is_after, none_ends_before, none_ready}
@@ -33,7 +33,7 @@ delay_after : (now by : ℕ) (state : TaskState) → EndsAfter now (after_delay 
 delay_after now zero state = tt
 delay_after now (suc less) state = omega arith
 
-status_after : (now made : ℕ) (ending : Status) → EndsAfter now (doing_after now made ending)
+status_after : (now made : ℕ) (ending : Status) → EndsAfter now (phase_after now made ending)
 status_after now made (status.Delayed by state) = delay_after now (nat_abs by) state
 status_after now made (status.Waiting condition state) = tt
 status_after now made (status.Calling into state) = tt
@@ -47,7 +47,7 @@ frames_after now (frame ∷ rest) table each =
     (each_with (EndsAfter now) table frame.path (task_after now frame.status (children_made (task_at table frame.path) + children_in frame.items)) each
     (status_after now (children_made (task_at table frame.path) + children_in frame.items) frame.status))
 
-back_after : (now : ℕ) (table : Table) (path : List ℕ) (doing : Doing) → EndsAfter now doing → EndsAfter now (back table path doing)
+back_after : (now : ℕ) (table : Table) (path : List ℕ) (phase : TaskPhase) → EndsAfter now phase → EndsAfter now (back table path phase)
 back_after now table path (calling child into state) h = by (has_ended table (child_path path child))
   where
     by : (ended : Bool) → EndsAfter now (if ended then ready (with_result into (result_of (task_at table (child_path path child))) state) else calling child into state)
@@ -59,7 +59,7 @@ back_after now table path (delayed until state) h = h
 back_after now table path (waiting condition state) h = tt
 back_after now table path (over result) h = tt
 
-due_after : (now : ℕ) (table : Table) (doing : Doing) → EndsAfter now doing → EndsAfter now (due_doing table now doing)
+due_after : (now : ℕ) (table : Table) (phase : TaskPhase) → EndsAfter now phase → EndsAfter now (due_phase table now phase)
 due_after now table (anchored to edge start state) h = by (has_come table to edge)
   where
     by : (come : Bool) → EndsAfter now (if come then after_delay now start state else anchored to edge start state)
@@ -75,9 +75,9 @@ pub batch_after : (now : ℕ) (frames : List Frame) (table : Table) → Each (En
 batch_after now frames table each =
     let whole = after_frames now frames table in
     each_changed (EndsAfter now) (EndsAfter now) (gone_on whole now)
-    (λ path task h. due_after now whole (back whole path task.doing) (back_after now whole path task.doing h)) whole (frames_after now frames table each)
+    (λ path task h. due_after now whole (back whole path task.phase) (back_after now whole path task.phase h)) whole (frames_after now frames table each)
 
-woken_after : (now : ℕ) (cells : List CellState) (doing : Doing) → EndsAfter now doing → EndsAfter now (woken_doing cells doing)
+woken_after : (now : ℕ) (cells : List CellState) (phase : TaskPhase) → EndsAfter now phase → EndsAfter now (woken_phase cells phase)
 woken_after now cells (waiting condition state) h = by (holds_on cells condition)
   where
     by : (holds : Bool) → EndsAfter now (if holds then ready state else waiting condition state)
@@ -92,7 +92,7 @@ woken_after now cells (over result) h = tt
 not_equal : (a b : ℕ) → nat_eq a b ≡ false → a ≡ b → ⊥
 not_equal a b e same = grind arith
 
-rested_after : (now : ℕ) (doing : Doing) → EndsNotBefore (Some now) doing → EndsAfter now (rested_doing now doing)
+rested_after : (now : ℕ) (phase : TaskPhase) → EndsNotBefore (Some now) phase → EndsAfter now (rested_phase now phase)
 rested_after now (delayed until state) h = by (nat_eq until now) refl
   where
     by : (same : Bool) → nat_eq until now ≡ same → EndsAfter now (if same then ready state else delayed until state)
@@ -105,7 +105,7 @@ rested_after now (calling child into state) h = tt
 rested_after now (over result) h = tt
 
 all_rested : (now : ℕ) (table : Table) → Each (EndsNotBefore (Some now)) table → Each (EndsAfter now) (on_each (rested now) table)
-all_rested now table = each_changed (EndsNotBefore (Some now)) (EndsAfter now) (rested now) (λ path task h. rested_after now task.doing h) table
+all_rested now table = each_changed (EndsNotBefore (Some now)) (EndsAfter now) (rested now) (λ path task h. rested_after now task.phase h) table
 
 -- ---- at the start
 
@@ -158,7 +158,7 @@ is_start_more time (instant ∷ rest) last = tt
 
 -- ---- where a run stands
 
-pub record StandsWell (plan : Plan) (at : Standing) : Type 0 where
+pub record StandsWell (plan : Plan) (at : SimulationState) : Type 0 where
   pub delays : Each (EndsAfter at.time) at.table
   pub rise : RiseFromStart at.instants
   pub before : AreBefore at.time at.instants
@@ -170,19 +170,19 @@ pub record EndsWell (plan : Plan) (run : Run) : Type 0 where
   pub before : 0 < plan.duration → AreBefore plan.duration run.instants
   pub reach : 0 < plan.duration → run.reach ≤ plan.duration
 
-abbrev pub GoesWell : Plan → Next Standing Run → Type 0
+abbrev pub GoesWell : Plan → Next SimulationState Run → Type 0
 GoesWell plan (more at) = StandsWell plan at
 GoesWell plan (finished run) = EndsWell plan run
 
 module _ (model : Parts) (plan : Plan) (bound : ℕ) where
-  stops_well : (at : Standing) → StandsWell plan at → (run : Run) → run.instants ≡ at.instants → run.reach ≡ at.time → EndsWell plan run
+  stops_well : (at : SimulationState) → StandsWell plan at → (run : Run) → run.instants ≡ at.instants → run.reach ≡ at.time → EndsWell plan run
   stops_well at well run e r = record {
     rise = subst RiseFromStart (sym e) well.rise;
     before = λ some. subst (AreBefore plan.duration) (sym e) (before_later at.time plan.duration at.instants (omega (arith, well.within some)) well.before);
     reach = λ some. omega (arith, well.within some, r);
   }
 
-  settles_well : (at : Standing) → StandsWell plan at → (run : Run) → run.instants ≡ settled model plan bound at → (0 < plan.duration → run.reach ≤ plan.duration) → EndsWell plan run
+  settles_well : (at : SimulationState) → StandsWell plan at → (run : Run) → run.instants ≡ settled model plan bound at → (0 < plan.duration → run.reach ≤ plan.duration) → EndsWell plan run
   settles_well at well run e r = record {
     rise = subst RiseFromStart (sym e) (start_more at.instants (instant_at at) well.rise well.first well.before);
     before = λ some. subst (AreBefore plan.duration) (sym e)
@@ -190,7 +190,7 @@ module _ (model : Parts) (plan : Plan) (bound : ℕ) where
     reach = r;
   }
 
-  outcome_well : (at : Standing) (outcome : Batch) → StandsWell plan at → GoesWell plan (after_outcome model plan bound at outcome)
+  outcome_well : (at : SimulationState) (outcome : Batch) → StandsWell plan at → GoesWell plan (after_outcome model plan bound at outcome)
   outcome_well at limit well = stops_well at well _ refl refl
   outcome_well at (failed who fault) well = stops_well at well _ refl refl
   outcome_well at (committed cells touched frames) well = record {
@@ -210,7 +210,7 @@ module _ (model : Parts) (plan : Plan) (bound : ℕ) where
       by true t e = let same : other ≡ time = cc in (e, omega (arith, ltb-true other horizon t))
       by false t e = absurd (cc)
 
-  time_well : (at : Standing) (time : ℕ) (cells : List CellState) (out : Option ℕ) → StandsWell plan at → at.time < time → time < plan.duration →
+  time_well : (at : SimulationState) (time : ℕ) (cells : List CellState) (out : Option ℕ) → StandsWell plan at → at.time < time → time < plan.duration →
       Each (EndsNotBefore (Some time)) at.table → GoesWell plan (to_time model plan bound at time cells out)
   time_well at time cells (Some cell) well later below none_before =
       settles_well at well _ refl (λ some. omega (arith, well.within some))
@@ -222,11 +222,11 @@ module _ (model : Parts) (plan : Plan) (bound : ℕ) where
     within = λ some. below;
   }
 
-  end_well : (at : Standing) (out : Option ℕ) → StandsWell plan at → GoesWell plan (to_end model plan bound at out)
+  end_well : (at : SimulationState) (out : Option ℕ) → StandsWell plan at → GoesWell plan (to_end model plan bound at out)
   end_well at (Some cell) well = settles_well at well _ refl (λ some. omega (arith, well.within some))
   end_well at None well = settles_well at well _ refl (λ some. omega arith)
 
-  moved_well : (at : Standing) (next_time : Option ℕ) → StandsWell plan at → below plan.duration (least_due at.time plan.duration at.cells at.table) ≡ next_time →
+  moved_well : (at : SimulationState) (next_time : Option ℕ) → StandsWell plan at → below plan.duration (least_due at.time plan.duration at.cells at.table) ≡ next_time →
       Each (StillWaits at.cells) at.table → GoesWell plan (moved model plan bound at next_time)
   moved_well at None well e waits = end_well at (first_out (passed at.cells (plan.duration - at.time))) well
   moved_well at (Some time) well e waits =
@@ -236,22 +236,22 @@ module _ (model : Parts) (plan : Plan) (bound : ℕ) where
       subst (λ o. Each (EndsNotBefore o) at.table) is.0 (none_ends_before at.time plan.duration at.cells at.table) in
       time_well at time (passed at.cells (time - at.time)) (first_out (passed at.cells (time - at.time))) well later is.1 none_before
 
-  judged_well : (at : Standing) (jobs : List (ℕ × Job)) → ready_jobs at.cells (on_each (woken at.cells) at.table) ≡ jobs → StandsWell plan at →
-      GoesWell plan (judged model plan bound at (on_each (woken at.cells) at.table) jobs)
+  judged_well : (at : SimulationState) (jobs : List (ℕ × Job)) → ready_jobs at.cells (on_each (woken at.cells) at.table) ≡ jobs → StandsWell plan at →
+      GoesWell plan (woken_or_moved model plan bound at (on_each (woken at.cells) at.table) jobs)
   judged_well at [] e well = moved_well at (below plan.duration (least_due at.time plan.duration at.cells at.table)) well refl (none_ready at.cells at.table e)
   judged_well at (job ∷ rest) e well = record {
-    delays = each_changed (EndsAfter at.time) (EndsAfter at.time) (woken at.cells) (λ path task h. woken_after at.time at.cells task.doing h) at.table well.delays;
+    delays = each_changed (EndsAfter at.time) (EndsAfter at.time) (woken at.cells) (λ path task h. woken_after at.time at.cells task.phase h) at.table well.delays;
     rise = well.rise;
     before = well.before;
     first = well.first;
     within = well.within;
   }
 
-  next_by_well : (at : Standing) (jobs : List (ℕ × Job)) → StandsWell plan at → GoesWell plan (next_by model plan bound at jobs)
+  next_by_well : (at : SimulationState) (jobs : List (ℕ × Job)) → StandsWell plan at → GoesWell plan (next_by model plan bound at jobs)
   next_by_well at [] well = judged_well at (ready_jobs at.cells (on_each (woken at.cells) at.table)) refl well
   next_by_well at (job ∷ rest) well = outcome_well at (batch model bound at.spent at.cells (job ∷ rest)) well
 
-  pub next_well : (at : Standing) → StandsWell plan at → GoesWell plan (next model plan bound at)
+  pub next_well : (at : SimulationState) → StandsWell plan at → GoesWell plan (next model plan bound at)
   next_well at well = next_by_well at (ready_jobs at.cells at.table) well
 
   pub start_well : StandsWell plan (start model plan)
@@ -263,7 +263,7 @@ module _ (model : Parts) (plan : Plan) (bound : ℕ) where
     within = λ some. some;
   }
 
-  pub stands_well : (place : Next Standing Run) → Stands model plan bound place → GoesWell plan place
+  pub stands_well : (place : Next SimulationState Run) → IsReached model plan bound place → GoesWell plan place
   stands_well (more at) begins = start_well
   stands_well place (onward {place = at} before) = next_well at (stands_well (more at) before)
 

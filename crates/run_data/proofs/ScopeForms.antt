@@ -8,7 +8,8 @@ use Rattle.aerie_base.specs.statements.Recursion.{with_gift, gives-If, gives-Whi
 use Rattle.aerie_base.specs.statements.Places.{Placed, placed, lefts, block_lefts, size, block_size, is_simple, simple_step}
 use Rattle.aerie_base.specs.statements.PlaceForms.{plain_of, size_If, size_While, lefts_If, lefts_While}
 use Rattle.aerie_base.specs.statements.Induction.{AllOf, each, stmt_ind}
-use Rattle.aerie_base.specs.models.Bodies.{Setting, Scope, behind, checked, block_checked}
+use Rattle.aerie_base.specs.models.Bodies.{Setting, checked, block_checked}
+use Rattle.aerie_base.specs.models.Scopes.{Scope, behind}
 use denote.Hole.Carrier.{hidden, shown, roll}
 use Rattle.run_data.specs.Scopes.{Scopes, scope_or, scopes_in, scopes_step, behind_block, stmt_scopes, block_scopes}
 

@@ -4,7 +4,7 @@ use Rattle.std.proofs.lemmas.List.{length-replicate}
 use Rattle.aerie_base.specs.declared.values.Value.{Value}
 use Rattle.aerie_base.specs.expressions.Arithmetic.{value_kind}
 use Rattle.aerie_base.specs.expressions.Typing.{same_kind}
-use Rattle.aerie_base.specs.models.Bodies.{Scope, behind}
+use Rattle.aerie_base.specs.models.Scopes.{Scope, behind}
 use Rattle.run_data.specs.Scopes.{suits}
 
 -- ---- truths that hold together

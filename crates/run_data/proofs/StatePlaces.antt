@@ -6,16 +6,18 @@ use Rattle.aerie_base.specs.declared.statements.Stmt.{Stmt}
 use Rattle.aerie_base.specs.declared.models.Activity.{Activity}
 use Rattle.aerie_base.specs.declared.models.Daemon.{Daemon}
 use Rattle.aerie_base.specs.declared.models.model.Parts.{Parts}
-use Rattle.aerie_base.specs.models.Activities.{activity_setting, parameter_kinds}
-use Rattle.aerie_base.specs.models.Bodies.{Setting, Scope, block_checked, body_depth, has_slots, is_body}
+use Rattle.aerie_base.specs.models.Activities.{activity_setting, daemon_setting}
+use Rattle.aerie_base.specs.models.Signatures.{parameter_kinds, signatures_of}
+use Rattle.aerie_base.specs.models.Bodies.{Setting, block_checked, has_slots, is_body}
+use Rattle.aerie_base.specs.models.Scopes.{Scope}
+use Rattle.aerie_base.specs.models.Depth.{body_depth}
 use Rattle.aerie_base.specs.models.Limits.{statement_limit, depth_limit}
 use Rattle.aerie_base.specs.models.ValidModel.{valid_model}
-use Rattle.aerie_base.specs.statements.Induction.{AllOf, each, stmt_ind}
-use Rattle.aerie_base.specs.statements.PlaceForms.{plain_of, size_If, size_While, count_If, count_While}
-use Rattle.aerie_base.specs.statements.Places.{size, block_size, count, block_count}
+use Rattle.aerie_base.specs.statements.Places.{block_size, block_count}
+use Rattle.aerie_base.specs.statements.Sizes.{block_few}
 use Rattle.run_data.specs.declared.tasks.BodyId.{BodyId}
 use Rattle.run_data.specs.declared.tasks.BodyId.TheVariants as body
-use Rattle.run_data.specs.Jobs.{is_activity_state, is_daemon_state, daemon_setting, is_state_in, is_state_of}
+use Rattle.run_data.specs.Jobs.{is_activity_state, is_daemon_state, is_state_in, is_state_of}
 use Rattle.run_data.specs.Scopes.{scope_or, block_scopes, scope_at}
 use Rattle.run_data.specs.TaskStates.{body_of, activity_body, daemon_body}
 use Rattle.run_data.specs.laws.Places.{StatesStandInBodies, PlacesAreFew}
@@ -46,15 +48,15 @@ place_in setting kinds body at scope e =
 activity_place : (model : Parts) (activity : Option Activity) (at : ℕ) (locals : List Value) → IsTrue (is_activity_state model activity at locals) → at ≤ block_size (activity_body activity)
 activity_place model None at locals h = absurd (cc)
 activity_place model (Some activity) at locals h =
-    let setting = activity_setting model.enums model.cells model.activities activity in
+    let setting = activity_setting model.enums model.cells (signatures_of model.activities) activity in
     let suits = suits_found setting (parameter_kinds activity) activity.slots activity.body at locals h in
     place_in setting (parameter_kinds activity) activity.body at suits.scope suits.scope_is
 
 daemon_place : (model : Parts) (daemon : Option Daemon) (at : ℕ) (locals : List Value) → IsTrue (is_daemon_state model daemon at locals) → at ≤ block_size (daemon_body daemon)
 daemon_place model None at locals h = absurd (cc)
 daemon_place model (Some daemon) at locals h =
-    let suits = suits_found (daemon_setting model) [] daemon.slots daemon.body at locals h in
-    place_in (daemon_setting model) [] daemon.body at suits.scope suits.scope_is
+    let suits = suits_found (daemon_setting model.enums model.cells (signatures_of model.activities)) [] daemon.slots daemon.body at locals h in
+    place_in (daemon_setting model.enums model.cells (signatures_of model.activities)) [] daemon.body at suits.scope suits.scope_is
 
 place_of : (model : Parts) (kind : BodyId) (at : ℕ) (locals : List Value) → IsTrue (is_state_in model kind at locals) → at ≤ block_size (body_of model kind)
 place_of model (body.Activity kind) at locals h = activity_place model (slice_get model.activities kind) at locals h
@@ -66,16 +68,6 @@ states_stand model state h = place_of model state.kind state.at state.locals h
 
 -- ---- few places
 
-block_few : (block : List Stmt) → AllOf (λ stmt. size stmt ≤ 2 * count stmt) block → block_size block ≤ 2 * block_count block
-block_few [] h = omega arith
-block_few (stmt ∷ rest) h = omega (arith, h.0, block_few rest h.1)
-
-stmt_few : (stmt : Stmt) → size stmt ≤ 2 * count stmt
-stmt_few = stmt_ind (λ stmt. size stmt ≤ 2 * count stmt)
-    (λ stmt h. let p = plain_of stmt h in omega (arith, p.size_is, p.count_is))
-    (λ test block other in_block in_other. omega (arith, size_If test block other, count_If test block other, block_few block in_block, block_few other in_other))
-    (λ test block in_block. omega (arith, size_While test block, count_While test block, block_few block in_block))
-
 second : (a b c : Bool) → IsTrue (a && b && c) → IsTrue b
 second a b c h = grind arith
 
@@ -84,7 +76,7 @@ unfolding is_body
 good_few setting kinds slots block good =
     let few = second (has_slots slots (block_checked setting block (map Some kinds))) (nat_le (block_count block) statement_limit) (nat_le (body_depth block) depth_limit) good in
     let most : block_count block ≤ statement_limit = grind arith in
-    omega (arith, most, block_few block (each (λ stmt. size stmt ≤ 2 * count stmt) stmt_few block))
+    omega (arith, most, block_few block)
 
 activity_few : (model : Parts) (kind : ℕ) (activity : Option Activity) → IsTrue (valid_model model) → slice_get model.activities kind ≡ activity → block_size (activity_body activity) ≤ 2 * statement_limit
 activity_few model kind None valid e = omega arith

@@ -1,6 +1,6 @@
 -- A statement that is as it should be is well typed by the values of locals that suit the scope in front of it, and the
 -- locals after it suit the scope behind it.
-use Rattle.std.proofs.Common.{◌≡◌, ℕ, zero, suc, ◌<◌, ◌≤◌, true, ◌&&◌, IsTrue, List, [], ◌∷◌, ◌++◌, Option, Some, None, is_some, length, slice_get, nat_lt, nat_le, refl, sym, ap, ◌∙◌, subst, arith, length-append, lt-ltb, eq-eqb}
+use Rattle.std.proofs.Common.{◌≡◌, ℕ, zero, suc, ◌<◌, ◌≤◌, true, ◌&&◌, IsTrue, List, [], ◌∷◌, ◌++◌, Option, Some, None, is_some, length, map, option_map, slice_get, nat_lt, nat_le, refl, sym, ap, ◌∙◌, subst, arith, length-append, lt-ltb, eq-eqb}
 use Rattle.aerie_base.specs.declared.values.Kind.{Kind}
 use Rattle.aerie_base.specs.declared.values.Kind.TheVariants.{Int, Truth, Enum}
 use Rattle.aerie_base.specs.declared.values.Value.{Value}
@@ -16,7 +16,9 @@ use Rattle.aerie_base.specs.declared.models.Activity.{Activity}
 use Rattle.aerie_base.specs.declared.models.model.Parts.{Parts}
 use Rattle.aerie_base.specs.expressions.Soundness.{Within}
 use Rattle.aerie_base.specs.expressions.Typing.{same_kind, slot_kinds}
-use Rattle.aerie_base.specs.models.Bodies.{Setting, Scope, known, checked, is_in, kind_in, is_kind_there, is_assigned, is_emission, are_arguments, is_invoked, is_returned, result_of, behind_call}
+use Rattle.aerie_base.specs.models.Bodies.{Setting, checked, is_in, kind_in, is_wanted_kind, is_assigned, is_emission, are_arguments, is_invoked, is_returned, behind_call}
+use Rattle.aerie_base.specs.models.Scopes.{Scope, known}
+use Rattle.aerie_base.specs.models.Signatures.{Signature, signature_of, signatures_of, signature_result, result_of, signature_at, result_at}
 use Rattle.aerie_base.specs.models.Cells.{read_kind}
 use Rattle.aerie_base.specs.models.Expressions.{is_kind_of}
 use Rattle.aerie_base.specs.models.Conditions.{is_condition}
@@ -45,11 +47,11 @@ found_kind found of e = subst (λ (k : Option Kind). IsTrue (is_kind_of k of)) (
 found_some : (found : Option Kind) (of : Kind) → found ≡ Some of → IsTrue (is_some found)
 found_some found of e = subst (λ (k : Option Kind). IsTrue (is_some k)) (sym e) refl
 
-found_there : (wanted found : Option Kind) (of : Kind) → wanted ≡ Some of → found ≡ Some of → IsTrue (is_kind_there wanted found)
+found_there : (wanted found : Option Kind) (of : Kind) → wanted ≡ Some of → found ≡ Some of → IsTrue (is_wanted_kind wanted found)
 found_there wanted found of e h =
-    subst (λ (k : Option Kind). IsTrue (is_kind_there k found)) (sym e) (found_kind found of h)
+    subst (λ (k : Option Kind). IsTrue (is_wanted_kind k found)) (sym e) (found_kind found of h)
 
-pub there_is : (wanted found : Option Kind) → IsTrue (is_kind_there wanted found) → (of : Kind) × (wanted ≡ Some of) × (found ≡ Some of)
+pub there_is : (wanted found : Option Kind) → IsTrue (is_wanted_kind wanted found) → (of : Kind) × (wanted ≡ Some of) × (found ≡ Some of)
 there_is None found h = absurd (cc)
 there_is (Some of) found h = (of, refl, kind_is found of h)
 
@@ -115,19 +117,24 @@ module _ (model : Parts) (parameters : ℕ) (result : Option Kind) (scope : Scop
   emission_typed cell (emission.Volume by) h = number_emission (read_kind model.cells (read.Volume cell)) by h
   emission_typed cell (emission.Rate by) h = number_emission (read_kind model.cells (read.Rate cell)) by h
 
-  arguments_typed : (arguments : List Expr) (needed : List Parameter) → IsTrue (are_arguments setting scope arguments needed) → IsTrue (are_typed_arguments model locals arguments needed)
+  arguments_typed : (arguments : List Expr) (needed : List Parameter) → IsTrue (are_arguments setting scope arguments (map (λ parameter. parameter.kind) needed)) → IsTrue (are_typed_arguments model locals arguments needed)
   arguments_typed [] [] h = refl
   arguments_typed [] (parameter ∷ needed) h = absurd (cc)
   arguments_typed (argument ∷ arguments) [] h = absurd (cc)
   arguments_typed (argument ∷ arguments) (parameter ∷ needed) h =
-      let parts = both_hold (is_in setting scope argument parameter.kind) (are_arguments setting scope arguments needed) h in
+      let parts = both_hold (is_in setting scope argument parameter.kind) (are_arguments setting scope arguments (map (λ parameter. parameter.kind) needed)) h in
       and_holds (has_kind locals (read_kind model.cells) argument parameter.kind) (are_typed_arguments model locals arguments needed)
       (found_kind (kind_here locals (read_kind model.cells) argument) parameter.kind (is_kept argument parameter.kind parts.0))
       (arguments_typed arguments needed parts.1)
 
-  child_typed : (found : Option Activity) (arguments : List Expr) → IsTrue (is_invoked setting scope found arguments) → IsTrue (is_typed_child model locals found arguments)
+  child_typed : (found : Option Activity) (arguments : List Expr) → IsTrue (is_invoked setting scope (option_map signature_of found) arguments) → IsTrue (is_typed_child model locals found arguments)
   child_typed None arguments h = absurd (cc)
   child_typed (Some activity) arguments h = arguments_typed arguments activity.parameters h
+
+  -- the signatures of a setting are those of the model's activity types
+  invoked_typed : (kind : ℕ) (arguments : List Expr) → IsTrue (is_invoked setting scope (slice_get (signatures_of model.activities) kind) arguments) → IsTrue (is_typed_child model locals (slice_get model.activities kind) arguments)
+  invoked_typed kind arguments h =
+      child_typed (slice_get model.activities kind) arguments (subst (λ (found : Option Signature). IsTrue (is_invoked setting scope found arguments)) (signature_at model.activities kind) h)
 
   returned_fits : (value : Option Expr) (wanted : Option Kind) (next : Scope) → wanted ≡ result → IsTrue (is_returned setting scope value wanted) → next ≡ scope → Fits {A = Stmt} next (Stmt-F.Return value)
   returned_fits None None next same h e = (sym same, e)
@@ -142,7 +149,7 @@ module _ (model : Parts) (parameters : ℕ) (result : Option Kind) (scope : Scop
       (taken.of, kind_kept value taken.of taken.kind_is, taken.slot_is, taken.next_is)
   layer_fits (Stmt-F.Assign slot value) next e h =
       let good = good_is (is_assigned setting scope slot value) scope next e in
-      let parts = both_hold (nat_le parameters slot) (is_kind_there (known scope slot) (kind_in setting scope value)) good.0 in
+      let parts = both_hold (nat_le parameters slot) (is_wanted_kind (known scope slot) (kind_in setting scope value)) good.0 in
       let found = there_is (known scope slot) (kind_in setting scope value) parts.1 in
       (found.0, found.1, kind_kept value found.0 found.2, good.1)
   layer_fits (Stmt-F.Emit cell what) next e h =
@@ -153,11 +160,12 @@ module _ (model : Parts) (parameters : ℕ) (result : Option Kind) (scope : Scop
       let good = good_is (is_condition model.enums (known scope) (read_kind model.cells) condition) scope next e in
       (condition_within model.enums (known scope) (slot_kinds locals) (read_kind model.cells) within condition good.0, good.1)
   layer_fits (Stmt-F.Spawn kind arguments) next e h =
-      let good = good_is (is_invoked setting scope (slice_get model.activities kind) arguments) scope next e in
-      (child_typed (slice_get model.activities kind) arguments good.0, good.1)
+      let good = good_is (is_invoked setting scope (slice_get (signatures_of model.activities) kind) arguments) scope next e in
+      (invoked_typed kind arguments good.0, good.1)
   layer_fits (Stmt-F.Call kind arguments into) next e h =
-      let good = when_is (is_invoked setting scope (slice_get model.activities kind) arguments) (behind_call into (result_of (slice_get model.activities kind)) scope) (behind_call into (result_of (slice_get model.activities kind)) scope) next refl e in
-      (child_typed (slice_get model.activities kind) arguments good.0, good.1)
+      let after : Option Scope = behind_call into (signature_result (slice_get (signatures_of model.activities) kind)) scope in
+      let good = when_is (is_invoked setting scope (slice_get (signatures_of model.activities) kind) arguments) after after next refl e in
+      (invoked_typed kind arguments good.0, subst (λ (of : Option Kind). behind_call into of scope ≡ Some next) (result_at model.activities kind) good.1)
   layer_fits (Stmt-F.If test block other) next e h = absurd (cc)
   layer_fits (Stmt-F.While test body) next e h = absurd (cc)
   layer_fits (Stmt-F.Return value) next e h =

@@ -13,10 +13,12 @@ use Rattle.aerie_base.specs.declared.statements.Stmt.{Stmt}
 use Rattle.aerie_base.specs.declared.statements.Stmt.TheOpen.{Stmt-F}
 use Rattle.aerie_base.specs.declared.models.model.Parts.{Parts}
 use Rattle.aerie_base.specs.expressions.Arithmetic.{value_kind, number_in}
-use Rattle.aerie_base.specs.expressions.Evaluation.{Noted}
+use Rattle.aerie_base.specs.expressions.Evaluation.{Evaluated}
 use Rattle.aerie_base.specs.expressions.Soundness.{Gives, sound}
 use Rattle.aerie_base.specs.expressions.Typing.{same_kind}
-use Rattle.aerie_base.specs.models.Bodies.{Scope, known, behind_call, result_of}
+use Rattle.aerie_base.specs.models.Scopes.{Scope, known}
+use Rattle.aerie_base.specs.models.Bodies.{behind_call}
+use Rattle.aerie_base.specs.models.Signatures.{result_of}
 use Rattle.aerie_base.specs.models.Cells.{read_kind}
 use Rattle.aerie_base.specs.models.Expressions.{is_kind_of}
 use Rattle.aerie_base.specs.statements.Places.{Placed}
@@ -26,11 +28,11 @@ use Rattle.run_data.specs.declared.tasks.TaskState.{TaskState}
 use Rattle.run_data.specs.declared.frames.Item.{Item}
 use Rattle.run_data.specs.declared.frames.Item.TheVariants as item
 use Rattle.run_data.specs.declared.frames.Status.TheVariants.{Faulted}
-use Rattle.run_data.specs.Courses.{Course, after_item, after_items, seen, valued, noting}
+use Rattle.run_data.specs.StepStates.{StepState, after_item, after_items, seen, valued, with_flags}
 use Rattle.run_data.specs.Endings.{with_result}
 use Rattle.run_data.specs.Jobs.{is_state_of, AreCellsOf}
 use Rattle.run_data.specs.Scopes.{suits}
-use Rattle.run_data.specs.Steps.{Turn, onward, ended, with_noted, valued_all, with_all, act, emission_expr, effect_of, delay_of}
+use Rattle.run_data.specs.Steps.{Turn, onward, ended, with_evaluated, valued_all, with_all, act, emission_expr, effect_of, delay_of}
 use Rattle.run_data.specs.Typed.{AreLeft, kind_here, has_kind, is_typed_emission}
 use Rattle.run_data.specs.laws.Typing.{NextIsOfModel, last_child, or_this, result_kind}
 use Rattle.run_data.specs.laws.ModelSteps.{AreChildrenOf, WaitsWell}
@@ -86,25 +88,25 @@ child_made (item.Child other values ∷ items) kind arguments = ap (λ (later : 
 
 -- ---- what follows a value
 
-pub noted_turn : (P : Turn → Type 0) (course : Course) (result : Noted) (of : Kind) (go : Value → Course → Turn) → Gives of result.0 →
-    ((fault : Fault) (noted : List Bool) → P (ended (Faulted fault) (noting course noted))) →
-    ((value : Value) (noted : List Bool) → value_kind value ≡ of → P (go value (noting course noted))) →
-    P (with_noted course result go)
-noted_turn P course (Ok value, noted) of go given faulted goes = goes value noted given
-noted_turn P course (Err fault, noted) of go given faulted goes = faulted fault noted
+pub noted_turn : (P : Turn → Type 0) (so_far : StepState) (result : Evaluated) (of : Kind) (go : Value → StepState → Turn) → Gives of result.0 →
+    ((fault : Fault) (read_flags : List Bool) → P (ended (Faulted fault) (with_flags so_far read_flags))) →
+    ((value : Value) (read_flags : List Bool) → value_kind value ≡ of → P (go value (with_flags so_far read_flags))) →
+    P (with_evaluated so_far result go)
+noted_turn P so_far (Ok value, read_flags) of go given faulted goes = goes value read_flags given
+noted_turn P so_far (Err fault, read_flags) of go given faulted goes = faulted fault read_flags
 
-pub all_turn : (P : Turn → Type 0) (Q : Result (List Value) Fault → Type 0) (course : Course) (result : Result (List Value) Fault × Course) (go : List Value → Course → Turn) →
-    ((later : List Bool) × (result.1 ≡ noting course later)) → Q result.0 →
-    ((fault : Fault) (noted : List Bool) → P (ended (Faulted fault) (noting course noted))) →
-    ((values : List Value) (noted : List Bool) → Q (Ok values) → P (go values (noting course noted))) →
+pub all_turn : (P : Turn → Type 0) (Q : Result (List Value) Fault → Type 0) (so_far : StepState) (result : Result (List Value) Fault × StepState) (go : List Value → StepState → Turn) →
+    ((later : List Bool) × (result.1 ≡ with_flags so_far later)) → Q result.0 →
+    ((fault : Fault) (read_flags : List Bool) → P (ended (Faulted fault) (with_flags so_far read_flags))) →
+    ((values : List Value) (read_flags : List Bool) → Q (Ok values) → P (go values (with_flags so_far read_flags))) →
     P (with_all result go)
-all_turn P Q course (Err fault, last) go is given faulted goes = subst (λ (c : Course). P (ended (Faulted fault) c)) (sym is.1) (faulted fault is.0)
-all_turn P Q course (Ok values, last) go is given faulted goes = subst (λ (c : Course). P (go values c)) (sym is.1) (goes values is.0 given)
+all_turn P Q so_far (Err fault, last) go is given faulted goes = subst (λ (c : StepState). P (ended (Faulted fault) c)) (sym is.1) (faulted fault is.0)
+all_turn P Q so_far (Ok values, last) go is given faulted goes = subst (λ (c : StepState). P (go values c)) (sym is.1) (goes values is.0 given)
 
 -- ---- effects
 
 -- the type of what an emission evaluates, whose values leave the cells with their types
-emission_leaves : (model : Parts) (locals : List Value) (cells : List CellState) (cell : ℕ) (what : Emission) → AreCellsOf model cells → IsTrue (is_typed_emission model locals cell what) →
+pub emission_leaves : (model : Parts) (locals : List Value) (cells : List CellState) (cell : ℕ) (what : Emission) → AreCellsOf model cells → IsTrue (is_typed_emission model locals cell what) →
     (of : Kind) × (kind_here locals (read_kind model.cells) (emission_expr what) ≡ Some of)
     × ((value : Value) → value_kind value ≡ of → LeavesKinds (effect_of what value) (slice_get cells cell))
 emission_leaves model locals cells cell (emission.Add by) are h =
@@ -123,7 +125,7 @@ emission_leaves model locals cells cell (emission.Rate by) are h =
 -- ---- one statement
 
 -- What is to hold after a statement. Where the children made before it begin in states of the model, all made by then do.
-abbrev pub TurnGoes : Parts → BodyId → List Placed → Course → Turn → Type 0
+abbrev pub TurnGoes : Parts → BodyId → List Placed → StepState → Turn → Type 0
 TurnGoes model kind rest before (onward later) =
     AreLeft model kind rest later.locals × AreCellsOf model (after_items later.view later.items)
     × (AreChildrenOf model before.items → AreChildrenOf model later.items)
@@ -131,34 +133,34 @@ TurnGoes model kind rest before (ended status last) =
     NextIsOfModel model last.items status × AreCellsOf model (after_items last.view last.items)
     × (AreChildrenOf model before.items → AreChildrenOf model last.items) × WaitsWell model status
 
-module _ (model : Parts) (valid : IsTrue (valid_model model)) (kind : BodyId) (is : IsBodyOf model kind) (here : Placed) (rest : List Placed) (scope next : Scope) (course : Course)
-    (count : length course.locals ≡ is.slots) (suit : IsTrue (suits scope course.locals)) (few : length scope ≤ length course.locals) (small : length next ≤ is.slots)
-    (cells : AreCellsOf model (after_items course.view course.items)) where
+module _ (model : Parts) (valid : IsTrue (valid_model model)) (kind : BodyId) (is : IsBodyOf model kind) (here : Placed) (rest : List Placed) (scope next : Scope) (so_far : StepState)
+    (count : length so_far.locals ≡ is.slots) (suit : IsTrue (suits scope so_far.locals)) (few : length scope ≤ length so_far.locals) (small : length next ≤ is.slots)
+    (cells : AreCellsOf model (after_items so_far.view so_far.items)) where
   abbrev Goes : Turn → Type 0
-  Goes = TurnGoes model kind rest course
+  Goes = TurnGoes model kind rest so_far
 
   abbrev FitsHere : Stmt-F Stmt → Type 0
-  FitsHere = Fits model is.parameters is.result scope course.locals few suit next
+  FitsHere = Fits model is.parameters is.result scope so_far.locals few suit next
 
   abbrev OnwardHere : Stmt-F Stmt → Type 0
   OnwardHere = Onward (its_setting model kind is) is.slots (its_scopes model kind is) (its_lefts model kind is) here rest scope next
 
   -- the value of an expression has the expression's type
-  value_has : (expr : Expr) (of : Kind) → kind_here course.locals (read_kind model.cells) expr ≡ Some of → Gives of (valued course expr).0
+  value_has : (expr : Expr) (of : Kind) → kind_here so_far.locals (read_kind model.cells) expr ≡ Some of → Gives of (valued so_far expr).0
   value_has expr of e =
-      sound expr course.locals (read_kind model.cells) (seen course.view course.items) course.noted of (seen_readings model course.view course.items cells) e
+      sound expr so_far.locals (read_kind model.cells) (seen so_far.view so_far.items) so_far.read_flags of (seen_readings model so_far.view so_far.items cells) e
 
-  count_set : (slot : ℕ) (value : Value) → length (slice_set course.locals slot value) ≡ is.slots
-  count_set slot value = length-set course.locals slot value ∙ count
+  count_set : (slot : ℕ) (value : Value) → length (slice_set so_far.locals slot value) ≡ is.slots
+  count_set slot value = length-set so_far.locals slot value ∙ count
 
-  next_suit : next ≡ scope → IsTrue (suits next course.locals)
-  next_suit e = subst (λ (s : Scope). IsTrue (suits s course.locals)) (sym e) suit
+  next_suit : next ≡ scope → IsTrue (suits next so_far.locals)
+  next_suit e = subst (λ (s : Scope). IsTrue (suits s so_far.locals)) (sym e) suit
 
-  next_set : (slot : ℕ) (value : Value) (of : Kind) → slot ≡ length scope → next ≡ scope ++ Some of ∷ [] → value_kind value ≡ of → IsTrue (suits next (slice_set course.locals slot value))
+  next_set : (slot : ℕ) (value : Value) (of : Kind) → slot ≡ length scope → next ≡ scope ++ Some of ∷ [] → value_kind value ≡ of → IsTrue (suits next (slice_set so_far.locals slot value))
   next_set slot value of at e k =
-      let room : length scope < length course.locals = omega (arith, count, small, ap (λ (s : Scope). length s) e, length-append scope (Some of ∷ [])) in
-      subst (λ (s : Scope). IsTrue (suits s (slice_set course.locals slot value))) (sym e)
-      (subst (λ (n : ℕ). IsTrue (suits (scope ++ Some of ∷ []) (slice_set course.locals n value))) (sym at) (set_next scope course.locals value of room suit k))
+      let room : length scope < length so_far.locals = omega (arith, count, small, ap (λ (s : Scope). length s) e, length-append scope (Some of ∷ [])) in
+      subst (λ (s : Scope). IsTrue (suits s (slice_set so_far.locals slot value))) (sym e)
+      (subst (λ (n : ℕ). IsTrue (suits (scope ++ Some of ∷ []) (slice_set so_far.locals n value))) (sym at) (set_next scope so_far.locals value of room suit k))
 
   -- a state behind the statement, with locals that suit the scope behind it
   state_on : (locals : List Value) → Reaches (its_setting model kind is) is.slots (its_scopes model kind is) (its_lefts model kind is) next (here.at + 1) →
@@ -166,7 +168,7 @@ module _ (model : Parts) (valid : IsTrue (valid_model model)) (kind : BodyId) (i
   state_on locals reach = its_state model kind is next (here.at + 1) locals reach
 
   abbrev StateBehind : TaskState
-  StateBehind = record { kind = kind; at = here.at + 1; locals = course.locals }
+  StateBehind = record { kind = kind; at = here.at + 1; locals = so_far.locals }
 
   -- a task that delays goes on from a state of the model
   delay_goes : (by : ℤ) (items : List Item) → IsTrue (is_state_of model StateBehind) → NextIsOfModel model items (delay_of by StateBehind)
@@ -180,79 +182,79 @@ module _ (model : Parts) (valid : IsTrue (valid_model model)) (kind : BodyId) (i
   -- a caller goes on with the result of its callee
   call_goes : (child : ℕ) (values : List Value) (into : Option ℕ) → behind_call into (result_of (slice_get model.activities child)) scope ≡ Some next →
       Reaches (its_setting model kind is) is.slots (its_scopes model kind is) (its_lefts model kind is) next (here.at + 1) → (result : Option Value) →
-      option_map value_kind result ≡ option_and_then (result_kind model) (last_child (course.items ++ item.Child child values ∷ [])) →
+      option_map value_kind result ≡ option_and_then (result_kind model) (last_child (so_far.items ++ item.Child child values ∷ [])) →
       IsTrue (is_state_of model (with_result into result StateBehind))
   call_goes child values None e reach result has =
-      let same : scope ≡ next = cc in state_on course.locals reach count (next_suit (sym same))
+      let same : scope ≡ next = cc in state_on so_far.locals reach count (next_suit (sym same))
   call_goes child values (Some slot) e reach None has =
       let taken = takes slot (result_of (slice_get model.activities child)) scope next e in
       let nothing : ◌≡◌ {A = Option Kind} None (Some taken.of) =
-      has ∙ ap (λ (found : Option ℕ). option_and_then (result_kind model) found) (child_made course.items child values) ∙ taken.kind_is in
+      has ∙ ap (λ (found : Option ℕ). option_and_then (result_kind model) found) (child_made so_far.items child values) ∙ taken.kind_is in
       absurd (cc)
   call_goes child values (Some slot) e reach (Some value) has =
       let taken = takes slot (result_of (slice_get model.activities child)) scope next e in
       let its_kind : Some (value_kind value) ≡ Some taken.of =
-      has ∙ ap (λ (found : Option ℕ). option_and_then (result_kind model) found) (child_made course.items child values) ∙ taken.kind_is in
+      has ∙ ap (λ (found : Option ℕ). option_and_then (result_kind model) found) (child_made so_far.items child values) ∙ taken.kind_is in
       let one : value_kind value ≡ taken.of = cc in
-      state_on (slice_set course.locals slot value) reach (count_set slot value) (next_set slot value taken.of taken.slot_is taken.next_is one)
+      state_on (slice_set so_far.locals slot value) reach (count_set slot value) (next_set slot value taken.of taken.slot_is taken.next_is one)
 
   -- the cells with one item more
-  cells_more : (one : Item) → AreCellsOf model (after_item (after_items course.view course.items) one) → AreCellsOf model (after_items course.view (course.items ++ one ∷ []))
-  cells_more one are = subst (λ (c : List CellState). AreCellsOf model c) (sym (after_more course.view course.items one)) are
+  cells_more : (one : Item) → AreCellsOf model (after_item (after_items so_far.view so_far.items) one) → AreCellsOf model (after_items so_far.view (so_far.items ++ one ∷ []))
+  cells_more one are = subst (λ (c : List CellState). AreCellsOf model c) (sym (after_more so_far.view so_far.items one)) are
 
   -- a fault leaves all as it was
   abbrev Faults : Type 0
-  Faults = (fault : Fault) (noted : List Bool) → Goes (ended (Faulted fault) (noting course noted))
+  Faults = (fault : Fault) (read_flags : List Bool) → Goes (ended (Faulted fault) (with_flags so_far read_flags))
 
   faults : Faults
-  faults fault noted = (tt, cells, (λ all. all), tt)
+  faults fault read_flags = (tt, cells, (λ all. all), tt)
 
-  pub turn_goes : (x : Stmt-F Stmt) → FitsHere x → OnwardHere x → Goes (act kind here.at x course)
+  pub turn_goes : (x : Stmt-F Stmt) → FitsHere x → OnwardHere x → Goes (act kind here.at x so_far)
   turn_goes (Stmt-F.Let slot expr) fit on =
-      noted_turn Goes course (valued course expr) fit.0 _ (value_has expr fit.0 fit.1) faults
-      (λ value noted e. (
-        its_lefts_are model kind is next rest (slice_set course.locals slot value) on.0 (count_set slot value) (next_set slot value fit.0 fit.2 fit.3 e),
+      noted_turn Goes so_far (valued so_far expr) fit.0 _ (value_has expr fit.0 fit.1) faults
+      (λ value read_flags e. (
+        its_lefts_are model kind is next rest (slice_set so_far.locals slot value) on.0 (count_set slot value) (next_set slot value fit.0 fit.2 fit.3 e),
         cells,
         λ all. all,
       ))
   turn_goes (Stmt-F.Assign slot expr) fit on =
-      noted_turn Goes course (valued course expr) fit.0 _ (value_has expr fit.0 fit.2) faults
-      (λ value noted e. (
-        its_lefts_are model kind is next rest (slice_set course.locals slot value) on.0 (count_set slot value)
-            (subst (λ (s : Scope). IsTrue (suits s (slice_set course.locals slot value))) (sym fit.3) (set_known scope course.locals slot value fit.0 fit.1 suit e)),
+      noted_turn Goes so_far (valued so_far expr) fit.0 _ (value_has expr fit.0 fit.2) faults
+      (λ value read_flags e. (
+        its_lefts_are model kind is next rest (slice_set so_far.locals slot value) on.0 (count_set slot value)
+            (subst (λ (s : Scope). IsTrue (suits s (slice_set so_far.locals slot value))) (sym fit.3) (set_known scope so_far.locals slot value fit.0 fit.1 suit e)),
         cells,
         λ all. all,
       ))
   turn_goes (Stmt-F.Emit cell what) fit on =
-      let leaves = emission_leaves model course.locals (after_items course.view course.items) cell what cells fit.0 in
-      noted_turn Goes course (valued course (emission_expr what)) leaves.0 _ (value_has (emission_expr what) leaves.0 leaves.1) faults
-      (λ value noted e. (
-        its_lefts_are model kind is next rest course.locals on.0 count (next_suit fit.1),
-        cells_more (item.Emit cell (effect_of what value)) (cells_emitted model (after_items course.view course.items) cell (effect_of what value) cells (leaves.2 value e)),
-        children_same model course.items cell (effect_of what value),
+      let leaves = emission_leaves model so_far.locals (after_items so_far.view so_far.items) cell what cells fit.0 in
+      noted_turn Goes so_far (valued so_far (emission_expr what)) leaves.0 _ (value_has (emission_expr what) leaves.0 leaves.1) faults
+      (λ value read_flags e. (
+        its_lefts_are model kind is next rest so_far.locals on.0 count (next_suit fit.1),
+        cells_more (item.Emit cell (effect_of what value)) (cells_emitted model (after_items so_far.view so_far.items) cell (effect_of what value) cells (leaves.2 value e)),
+        children_same model so_far.items cell (effect_of what value),
       ))
   turn_goes (Stmt-F.Delay expr) fit on =
-      noted_turn Goes course (valued course expr) Int _ (value_has expr Int fit.0) faults
-      (λ value noted e. (delay_goes (number_in value) course.items (state_on course.locals on.1 count (next_suit fit.1)), cells, (λ all. all), delay_waits (number_in value)))
+      noted_turn Goes so_far (valued so_far expr) Int _ (value_has expr Int fit.0) faults
+      (λ value read_flags e. (delay_goes (number_in value) so_far.items (state_on so_far.locals on.1 count (next_suit fit.1)), cells, (λ all. all), delay_waits (number_in value)))
   turn_goes (Stmt-F.WaitUntil condition) fit on =
-      (state_on course.locals on.1 count (next_suit fit.1), cells, (λ all. all), λ numbers. filled_waited model.enums course.locals (read_kind model.cells) numbers condition fit.0)
+      (state_on so_far.locals on.1 count (next_suit fit.1), cells, (λ all. all), λ numbers. filled_waited model.enums so_far.locals (read_kind model.cells) numbers condition fit.0)
   turn_goes (Stmt-F.Spawn child exprs) fit on =
-      all_turn Goes (ChildBegins model valid child) course (valued_all exprs course) _ (all_notes exprs course) (child_typed_begins model valid child exprs course cells fit.0) faults
-      (λ values noted begins. (
-        its_lefts_are model kind is next rest course.locals on.0 count (next_suit fit.1),
+      all_turn Goes (ChildBegins model valid child) so_far (valued_all exprs so_far) _ (all_notes exprs so_far) (child_typed_begins model valid child exprs so_far cells fit.0) faults
+      (λ values read_flags begins. (
+        its_lefts_are model kind is next rest so_far.locals on.0 count (next_suit fit.1),
         cells_more (item.Child child values) cells,
-        λ all. children_more model course.items child values all begins,
+        λ all. children_more model so_far.items child values all begins,
       ))
   turn_goes (Stmt-F.Call child exprs into) fit on =
-      all_turn Goes (ChildBegins model valid child) course (valued_all exprs course) _ (all_notes exprs course) (child_typed_begins model valid child exprs course cells fit.0) faults
-      (λ values noted begins. (
+      all_turn Goes (ChildBegins model valid child) so_far (valued_all exprs so_far) _ (all_notes exprs so_far) (child_typed_begins model valid child exprs so_far cells fit.0) faults
+      (λ values read_flags begins. (
         (λ result has. call_goes child values into fit.1 on.1 result has),
         cells_more (item.Child child values) cells,
-        (λ all. children_more model course.items child values all begins),
+        (λ all. children_more model so_far.items child values all begins),
         tt,
       ))
   turn_goes (Stmt-F.If test block other) fit on = (tt, cells, (λ all. all), tt)
   turn_goes (Stmt-F.While test body) fit on = (tt, cells, (λ all. all), tt)
   turn_goes (Stmt-F.Return None) fit on = (tt, cells, (λ all. all), tt)
   turn_goes (Stmt-F.Return (Some expr)) fit on =
-      noted_turn Goes course (valued course expr) fit.0 _ (value_has expr fit.0 fit.2) faults (λ value noted e. (tt, cells, (λ all. all), tt))
+      noted_turn Goes so_far (valued so_far expr) fit.0 _ (value_has expr fit.0 fit.2) faults (λ value read_flags e. (tt, cells, (λ all. all), tt))

@@ -23,12 +23,13 @@ use Rattle.aerie_base.specs.conditions.Filling.{filled, filled_side, with_cell, 
 use Rattle.aerie_base.specs.conditions.Holding.{local_value}
 use Rattle.aerie_base.specs.expressions.Arithmetic.{value_kind, number_in}
 use Rattle.aerie_base.specs.expressions.Typing.{slot_kinds}
-use Rattle.aerie_base.specs.models.Conditions.{Reads, operand_kind, is_coefficient, is_term, is_linear, side_kind, is_typed_condition, cond_depth, is_condition}
+use Rattle.aerie_base.specs.models.Conditions.{Reads, is_coefficient, is_term, is_linear, side_kind, is_typed_condition, cond_depth, is_condition}
+use Rattle.aerie_base.specs.expressions.Typing.{operand_kind}
 use Rattle.aerie_base.specs.models.Expressions.{is_kind_of}
 use Rattle.aerie_base.specs.models.Limits.{coefficient_limit, depth_limit, term_limit}
 use Rattle.aerie_base.specs.models.Values.{is_value}
 use denote.Hole.Carrier.{hidden}
-use Rattle.effect_cells.specs.Solvable.{no_locals, constant_limit, is_form_for, side_kind as wait_kind, may_be_solved}
+use Rattle.effect_cells.specs.Solvable.{no_locals, constant_limit, is_form_for, filled_side_kind as wait_kind, may_be_solved}
 use Rattle.run_data.specs.Numbers.{HasNumber}
 use Rattle.run_data.proofs.Scoping.{both_hold, and_holds}
 use Rattle.run_data.proofs.KnownKinds.{kind_is, may_by}

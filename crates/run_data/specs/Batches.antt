@@ -9,7 +9,7 @@ use Rattle.aerie_base.specs.Paths.{path_cmp}
 use Rattle.effect_cells.specs.declared.effects.CellState.{CellState}
 use Rattle.effect_cells.specs.declared.effects.Effect.{Effect}
 use Rattle.effect_cells.specs.declared.trees.Tree.{Tree}
-use Rattle.effect_cells.specs.Cells.{committed as committed_cells, first_out}
+use Rattle.effect_cells.specs.Cells.{committed_cells, first_out}
 use Rattle.effect_cells.specs.Worth.{worth_of}
 use Rattle.run_data.specs.declared.jobs.Job.{Job}
 use Rattle.run_data.specs.declared.frames.Status.{Status}

@@ -3,13 +3,13 @@ use Rattle.std.specs.Prelude.{ℕ, Bool, true, false, not, ◌&&◌, ◌||◌, L
 use Rattle.aerie_base.specs.declared.values.Value.{Value}
 use Rattle.aerie_base.specs.declared.plans.Edge.{Edge}
 use Rattle.aerie_base.specs.declared.plans.Edge.TheVariants.{Start, End}
-use Rattle.aerie_base.specs.Paths.{root, child_path, is_under}
+use Rattle.aerie_base.specs.Paths.{root, child_path, is_prefix}
 use Rattle.run_data.specs.declared.tasks.TaskState.{TaskState}
 use Rattle.run_data.specs.declared.frames.Frame.{Frame}
-use Rattle.run_data.specs.Tasks.{Doing, anchored, ready, delayed, waiting, calling, over, Task, Table, task_at, on_each, after_delay, after_frames}
+use Rattle.run_data.specs.Tasks.{TaskPhase, anchored, ready, delayed, waiting, calling, over, Task, Table, task_at, on_each, after_delay, after_frames}
 
 -- whether a task's body has not ended
-abbrev pub is_open : Doing → Bool
+abbrev pub is_open : TaskPhase → Bool
 is_open (over result) = false
 is_open (anchored to edge start state) = true
 is_open (ready state) = true
@@ -20,21 +20,21 @@ is_open (calling child into state) = true
 -- a task has ended where its body has ended and each of its children has: no open body is its own or under it
 abbrev pub has_ended : Table → List ℕ → Bool
 has_ended [] path = true
-has_ended (entry ∷ rest) path = (not (is_under path entry.0) || not (is_open entry.1.doing)) && has_ended rest path
+has_ended (entry ∷ rest) path = (not (is_prefix path entry.0) || not (is_open entry.1.phase)) && has_ended rest path
 
 -- ---- callers
 
-abbrev pub result_of_doing : Doing → Option Value
-result_of_doing (over result) = result
-result_of_doing (anchored to edge start state) = None
-result_of_doing (ready state) = None
-result_of_doing (delayed until state) = None
-result_of_doing (waiting condition state) = None
-result_of_doing (calling child into state) = None
+abbrev pub result_of_phase : TaskPhase → Option Value
+result_of_phase (over result) = result
+result_of_phase (anchored to edge start state) = None
+result_of_phase (ready state) = None
+result_of_phase (delayed until state) = None
+result_of_phase (waiting condition state) = None
+result_of_phase (calling child into state) = None
 
 abbrev pub result_of : Option Task → Option Value
 result_of None = None
-result_of (Some task) = result_of_doing task.doing
+result_of (Some task) = result_of_phase task.phase
 
 -- the caller's state with the callee's result in the local that takes it
 abbrev pub with_result : Option ℕ → Option Value → TaskState → TaskState
@@ -43,7 +43,7 @@ with_result (Some slot) None state = state
 with_result (Some slot) (Some value) state = record state { locals = slice_set state.locals slot value }
 
 -- a caller is ready once its callee has ended
-abbrev pub back : Table → List ℕ → Doing → Doing
+abbrev pub back : Table → List ℕ → TaskPhase → TaskPhase
 back table path (calling child into state) =
     if has_ended table (child_path path child)
     then ready (with_result into (result_of (task_at table (child_path path child))) state)
@@ -66,19 +66,19 @@ has_come table to Start = has_begun (task_at table (root to))
 has_come table to End = has_ended table (root to)
 
 -- an anchored directive has its due time from the batch on in which its anchor began, or after which it had ended
-abbrev pub due_doing : Table → ℕ → Doing → Doing
-due_doing table now (anchored to edge start state) =
+abbrev pub due_phase : Table → ℕ → TaskPhase → TaskPhase
+due_phase table now (anchored to edge start state) =
     if has_come table to edge then after_delay now start state else anchored to edge start state
-due_doing table now (ready state) = ready state
-due_doing table now (delayed until state) = delayed until state
-due_doing table now (waiting condition state) = waiting condition state
-due_doing table now (calling child into state) = calling child into state
-due_doing table now (over result) = over result
+due_phase table now (ready state) = ready state
+due_phase table now (delayed until state) = delayed until state
+due_phase table now (waiting condition state) = waiting condition state
+due_phase table now (calling child into state) = calling child into state
+due_phase table now (over result) = over result
 
 -- ---- after a batch
 
 abbrev pub gone_on : Table → ℕ → List ℕ → Task → Task
-gone_on table now path task = record task { doing = due_doing table now (back table path task.doing) }
+gone_on table now path task = record task { phase = due_phase table now (back table path task.phase) }
 
 -- the tasks after the frames of a batch, callers and anchored directives being judged on all of them
 abbrev pub after_batch : ℕ → List Frame → Table → Table

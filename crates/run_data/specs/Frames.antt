@@ -15,7 +15,7 @@ use Rattle.run_data.specs.declared.frames.Item.TheVariants as item
 use Rattle.run_data.specs.declared.frames.Status.{Status}
 use Rattle.run_data.specs.declared.frames.Status.TheVariants.{Faulted}
 use Rattle.run_data.specs.declared.frames.Frame.{Frame}
-use Rattle.run_data.specs.Courses.{Course}
+use Rattle.run_data.specs.StepStates.{StepState}
 use Rattle.run_data.specs.Steps.{Stepped, step_of}
 use Rattle.run_data.specs.TaskStates.{body_of, activity_begun}
 
@@ -24,23 +24,32 @@ use Rattle.run_data.specs.TaskStates.{body_of, activity_begun}
 -- the cells that were read, in order of number, each with its state as the step began
 abbrev pub read_from : ℕ → List Bool → List CellState → List (ℕ × CellState)
 read_from cell [] states = []
-read_from cell (noted ∷ rest) [] = []
-read_from cell (noted ∷ rest) (state ∷ states) =
-    if noted then (cell, state) ∷ read_from (cell + 1) rest states else read_from (cell + 1) rest states
+read_from cell (read_flags ∷ rest) [] = []
+read_from cell (read_flags ∷ rest) (state ∷ states) =
+    if read_flags then (cell, state) ∷ read_from (cell + 1) rest states else read_from (cell + 1) rest states
 
 -- the step of a job, which may cost so much
 abbrev pub job_step : Parts → ℕ → Job → Stepped
 job_step model budget job = step_of (body_of model job.state.kind) job.state job.view budget
 
-abbrev pub frame_of : Job → Status → Course → Frame
-frame_of job status course = record {
+abbrev pub frame_of : Job → Status → StepState → Frame
+frame_of job status so_far = record {
   path = job.path;
   before = job.state;
-  reads = read_from 0 course.noted course.view;
-  items = course.items;
+  reads = read_from 0 so_far.read_flags so_far.view;
+  items = so_far.items;
   status = status;
-  cost = course.cost;
+  cost = so_far.cost;
 }
+
+-- the frame of a job whose step gives this
+abbrev pub framed : Job → Stepped → Option Frame
+framed job None = None
+framed job (Some (status, so_far)) = Some (frame_of job status so_far)
+
+-- the frame of a job whose step costs at most so much, without those of its children, or none where it costs more
+abbrev pub job_frame : Parts → ℕ → Job → Option Frame
+job_frame model fuel job = framed job (job_step model fuel job)
 
 -- ---- the frames of a job
 
@@ -95,8 +104,8 @@ too_deep maker child = Some (record {
 
 abbrev pub of_step : Parts → (Job → Making) → Job → ℕ → Stepped → Making
 of_step model of_child job number None = None
-of_step model of_child job number (Some (status, course)) =
-    with_frame (frame_of job status course) (of_items model of_child job.path number job.view course.items)
+of_step model of_child job number (Some (status, so_far)) =
+    with_frame (frame_of job status so_far) (of_items model of_child job.path number job.view so_far.items)
 
 -- what a job makes whose path has room for so many numbers more, and whose task made so many children before
 abbrev pub made_within : Parts → ℕ → ℕ → ℕ → Job → Making

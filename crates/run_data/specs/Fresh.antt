@@ -15,9 +15,9 @@ use Rattle.run_data.specs.declared.runs.Outcome.{Outcome}
 use Rattle.run_data.specs.declared.runs.Outcome.TheVariants.{Completed, Failed, StepLimit}
 use Rattle.run_data.specs.declared.runs.Run.{Run}
 use Rattle.run_data.specs.Batches.{Batch, limit, failed, committed, batch, cost_of}
-use Rattle.run_data.specs.Tasks.{Doing, anchored, ready, delayed, waiting, calling, over, Table, on_each, with_directives, with_daemons, ready_jobs, woken, rested}
+use Rattle.run_data.specs.Tasks.{TaskPhase, anchored, ready, delayed, waiting, calling, over, Table, on_each, with_directives, with_daemons, ready_jobs, woken, rested}
 use Rattle.run_data.specs.Endings.{after_batch}
-use Rattle.run_data.specs.Fold.{Next, more, finished, Comes, turns}
+use Rattle.run_data.specs.Transitions.{Next, more, finished, Reaches, iterate}
 
 -- ---- the next time
 
@@ -26,23 +26,23 @@ earlier None other = other
 earlier (Some time) None = Some time
 earlier (Some time) (Some other) = Some (min time other)
 
-abbrev pub after : ℕ → Option ℕ → Option ℕ
-after now None = None
-after now (Some dt) = Some (now + dt)
+abbrev pub from_now : ℕ → Option ℕ → Option ℕ
+from_now now None = None
+from_now now (Some dt) = Some (now + dt)
 
 -- when a task is to go on by itself: at the end of its delay, at its due time, or when it wakes before the horizon
-abbrev pub due : ℕ → ℕ → List CellState → Doing → Option ℕ
-due now horizon cells (delayed until state) = Some until
-due now horizon cells (waiting condition state) = after now (wake_time cells condition (horizon - now))
-due now horizon cells (anchored to edge start state) = None
-due now horizon cells (ready state) = None
-due now horizon cells (calling child into state) = None
-due now horizon cells (over result) = None
+abbrev pub due_time : ℕ → ℕ → List CellState → TaskPhase → Option ℕ
+due_time now horizon cells (delayed until state) = Some until
+due_time now horizon cells (waiting condition state) = from_now now (wake_time cells condition (horizon - now))
+due_time now horizon cells (anchored to edge start state) = None
+due_time now horizon cells (ready state) = None
+due_time now horizon cells (calling child into state) = None
+due_time now horizon cells (over result) = None
 
 -- the least of these times
 abbrev pub least_due : ℕ → ℕ → List CellState → Table → Option ℕ
 least_due now horizon cells [] = None
-least_due now horizon cells (entry ∷ rest) = earlier (due now horizon cells entry.1.doing) (least_due now horizon cells rest)
+least_due now horizon cells (entry ∷ rest) = earlier (due_time now horizon cells entry.1.phase) (least_due now horizon cells rest)
 
 -- one that is below the horizon
 abbrev pub below : ℕ → Option ℕ → Option ℕ
@@ -51,7 +51,7 @@ below horizon (Some time) = if nat_lt time horizon then Some time else None
 
 -- ---- where a run stands
 
-pub record Standing : Type 0 where
+pub record SimulationState : Type 0 where
   pub time : ℕ
   pub cells : List CellState
   -- the costs of all frames so far
@@ -65,7 +65,7 @@ pub record Standing : Type 0 where
   pub touched : List ℕ
 
 -- at time 0, with the initial cells
-abbrev pub start : Parts → Plan → Standing
+abbrev pub start : Parts → Plan → SimulationState
 start model plan = record {
   time = 0;
   cells = initial model;
@@ -83,7 +83,7 @@ states_from cell touched (state ∷ rest) =
     if list_any (nat_eq cell) touched then (cell, state) ∷ states_from (cell + 1) touched rest else states_from (cell + 1) touched rest
 
 -- the instant, once it is settled
-abbrev pub instant_at : Standing → Instant
+abbrev pub instant_at : SimulationState → Instant
 instant_at at = record { time = at.time; batches = at.batches; changed = states_from 0 at.touched at.cells }
 
 module _ (model : Parts) (plan : Plan) (bound : ℕ) where
@@ -93,10 +93,10 @@ module _ (model : Parts) (plan : Plan) (bound : ℕ) where
   -- ---- a batch
 
   -- where a batch stops, its instant is not part of the run
-  abbrev pub after_stop : Standing → Outcome → Next Standing Run
+  abbrev pub after_stop : SimulationState → Outcome → Next SimulationState Run
   after_stop at outcome = finished (run_of at.instants at.time outcome)
 
-  abbrev pub after_outcome : Standing → Batch → Next Standing Run
+  abbrev pub after_outcome : SimulationState → Batch → Next SimulationState Run
   after_outcome at limit = after_stop at (StepLimit at.time)
   after_outcome at (failed who fault) = after_stop at (Failed at.time who fault)
   after_outcome at (committed cells touched frames) = more (record at {
@@ -109,14 +109,14 @@ module _ (model : Parts) (plan : Plan) (bound : ℕ) where
 
   -- ---- a settled instant
 
-  abbrev pub settled : Standing → List Instant
+  abbrev pub settled : SimulationState → List Instant
   settled at = at.instants ++ instant_at at ∷ []
 
   -- where a cell leaves its range as time passes, the run has failed at the new time
-  abbrev pub out_at : Standing → ℕ → ℕ → Next Standing Run
+  abbrev pub out_at : SimulationState → ℕ → ℕ → Next SimulationState Run
   out_at at time cell = finished (run_of (settled at) at.time (Failed time (who.Cell cell) Range))
 
-  abbrev pub to_time : Standing → ℕ → List CellState → Option ℕ → Next Standing Run
+  abbrev pub to_time : SimulationState → ℕ → List CellState → Option ℕ → Next SimulationState Run
   to_time at time cells (Some cell) = out_at at time cell
   to_time at time cells None = more (record {
     time = time;
@@ -128,38 +128,38 @@ module _ (model : Parts) (plan : Plan) (bound : ℕ) where
     touched = [];
   })
 
-  abbrev pub to_end : Standing → Option ℕ → Next Standing Run
+  abbrev pub to_end : SimulationState → Option ℕ → Next SimulationState Run
   to_end at (Some cell) = out_at at plan.duration cell
   to_end at None = finished (run_of (settled at) plan.duration Completed)
 
   -- to the next time below the plan's end, or to the end
-  abbrev pub moved : Standing → Option ℕ → Next Standing Run
+  abbrev pub moved : SimulationState → Option ℕ → Next SimulationState Run
   moved at (Some time) = let cells = passed at.cells (time - at.time) in to_time at time cells (first_out cells)
   moved at None = to_end at (first_out (passed at.cells (plan.duration - at.time)))
 
   -- ---- the fold
 
   -- no task was ready: those whose condition holds are now, and where there is none the instant is settled
-  abbrev pub judged : Standing → Table → List (ℕ × Job) → Next Standing Run
-  judged at table [] = moved at (below plan.duration (least_due at.time plan.duration at.cells at.table))
-  judged at table (job ∷ rest) = more (record at { table = table })
+  abbrev pub woken_or_moved : SimulationState → Table → List (ℕ × Job) → Next SimulationState Run
+  woken_or_moved at table [] = moved at (below plan.duration (least_due at.time plan.duration at.cells at.table))
+  woken_or_moved at table (job ∷ rest) = more (record at { table = table })
 
-  abbrev pub next_by : Standing → List (ℕ × Job) → Next Standing Run
-  next_by at [] = let table = on_each (woken at.cells) at.table in judged at table (ready_jobs at.cells table)
+  abbrev pub next_by : SimulationState → List (ℕ × Job) → Next SimulationState Run
+  next_by at [] = let table = on_each (woken at.cells) at.table in woken_or_moved at table (ready_jobs at.cells table)
   next_by at (job ∷ rest) = after_outcome at (batch model bound at.spent at.cells (job ∷ rest))
 
   -- the next batch of the ready tasks, or the judging of the waiting ones, or the next time
-  abbrev pub next : Standing → Next Standing Run
+  abbrev pub next : SimulationState → Next SimulationState Run
   next at = next_by at (ready_jobs at.cells at.table)
 
   -- the run stands there at some time
-  abbrev pub Stands : Next Standing Run → Type 0
-  Stands = Comes Standing Run next (start model plan)
+  abbrev pub IsReached : Next SimulationState Run → Type 0
+  IsReached = Reaches SimulationState Run next (start model plan)
 
   -- this is the fresh run of the plan
   abbrev pub IsFresh : Run → Type 0
-  IsFresh run = Stands (finished run)
+  IsFresh run = IsReached (finished run)
 
   -- where the run stands after so many turns
-  abbrev pub after_turns : ℕ → Next Standing Run
-  after_turns count = turns Standing Run next count (more (start model plan))
+  abbrev pub after_turns : ℕ → Next SimulationState Run
+  after_turns count = iterate SimulationState Run next count (more (start model plan))

@@ -7,8 +7,9 @@ use Rattle.aerie_base.specs.declared.operands.CellRead.{CellRead}
 use Rattle.aerie_base.specs.declared.models.Activity.{Activity}
 use Rattle.aerie_base.specs.declared.models.Daemon.{Daemon}
 use Rattle.aerie_base.specs.declared.models.model.Parts.{Parts}
-use Rattle.aerie_base.specs.models.Activities.{activity_setting, parameter_kinds}
-use Rattle.aerie_base.specs.models.Bodies.{Setting, Scope}
+use Rattle.aerie_base.specs.models.Activities.{activity_setting, daemon_setting}
+use Rattle.aerie_base.specs.models.Signatures.{parameter_kinds, signatures_of}
+use Rattle.aerie_base.specs.models.Scopes.{Scope}
 use Rattle.aerie_base.specs.models.Cells.{read_kind}
 use Rattle.effect_cells.specs.declared.effects.CellState.{CellState}
 use Rattle.effect_cells.specs.declared.effects.CellState.TheVariants.{Counter, Register, Volume}
@@ -30,15 +31,12 @@ abbrev pub is_activity_state : Parts → Option Activity → ℕ → List Value 
 is_activity_state model None at locals = false
 is_activity_state model (Some activity) at locals =
     nat_eq (length locals) activity.slots
-    && suits_scope (scope_at (activity_setting model.enums model.cells model.activities activity) (parameter_kinds activity) activity.body at) locals
-
-abbrev pub daemon_setting : Parts → Setting
-daemon_setting model = record { enums = model.enums; cells = model.cells; activities = model.activities; parameters = 0; result = None }
+    && suits_scope (scope_at (activity_setting model.enums model.cells (signatures_of model.activities) activity) (parameter_kinds activity) activity.body at) locals
 
 abbrev pub is_daemon_state : Parts → Option Daemon → ℕ → List Value → Bool
 is_daemon_state model None at locals = false
 is_daemon_state model (Some daemon) at locals =
-    nat_eq (length locals) daemon.slots && suits_scope (scope_at (daemon_setting model) [] daemon.body at) locals
+    nat_eq (length locals) daemon.slots && suits_scope (scope_at (daemon_setting model.enums model.cells (signatures_of model.activities)) [] daemon.body at) locals
 
 abbrev pub is_state_in : Parts → BodyId → ℕ → List Value → Bool
 is_state_in model (body.Activity kind) at locals = is_activity_state model (slice_get model.activities kind) at locals

@@ -4,8 +4,8 @@ use Rattle.aerie_base.specs.declared.models.model.Parts.{Parts}
 use Rattle.aerie_base.specs.declared.plans.Plan.{Plan}
 use Rattle.run_data.specs.declared.runs.Outcome.TheVariants.{Completed}
 use Rattle.run_data.specs.declared.runs.Run.{Run}
-use Rattle.run_data.specs.Fold.{Comes, begins, onward, finished}
-use Rattle.run_data.specs.Fresh.{IsFresh, Standing, start, next}
+use Rattle.run_data.specs.Transitions.{Reaches, begins, onward, finished}
+use Rattle.run_data.specs.Fresh.{IsFresh, SimulationState, start, next}
 
 pub record KeptRun : Type 0 where
   pub model : Parts
@@ -25,4 +25,4 @@ pub idle_is_fresh : (model : Parts) (plan : Plan) (bound : ℕ) → model.cells 
     IsFresh model plan bound (idle_run plan bound)
 idle_is_fresh model plan bound cells daemons directives =
     let ends : next model plan bound (start model plan) ≡ finished (idle_run plan bound) = rw (cells, daemons, directives) refl in
-    subst (Comes Standing Run (next model plan bound) (start model plan)) ends (onward begins)
+    subst (Reaches SimulationState Run (next model plan bound) (start model plan)) ends (onward begins)

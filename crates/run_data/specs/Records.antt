@@ -1,9 +1,10 @@
 -- Stored steps: when one is valid, when it fits a frame, and how much of a run none fits.
 use Rattle.std.specs.Prelude.{◌≡◌, ℕ, ◌+◌, Bool, true, false, ◌&&◌, List, [], ◌∷◌, Option, Some, None, nat_eq, slice_get, if◌then◌else◌}
 use Rattle.std.specs.List.{list_any, Contains}
+use Rattle.std.specs.Ordering.{int_eq}
 use Rattle.aerie_base.specs.declared.values.Value.{Value}
 use Rattle.aerie_base.specs.declared.models.model.Parts.{Parts}
-use Rattle.aerie_base.specs.expressions.Arithmetic.{same_value, same_number, same_truth}
+use Rattle.aerie_base.specs.expressions.Arithmetic.{same_value, same_truth}
 use Rattle.effect_cells.specs.declared.effects.CellState.{CellState}
 use Rattle.effect_cells.specs.declared.effects.CellState.TheVariants.{Counter, Register, Volume}
 use Rattle.run_data.specs.declared.tasks.BodyId.{BodyId}
@@ -32,12 +33,12 @@ record_of frame = record {
 
 abbrev pub stepped_record : TaskState → Stepped → Option Record
 stepped_record before None = None
-stepped_record before (Some (status, course)) = Some (record {
+stepped_record before (Some (status, so_far)) = Some (record {
   before = before;
-  reads = read_from 0 course.noted course.view;
-  items = course.items;
+  reads = read_from 0 so_far.read_flags so_far.view;
+  items = so_far.items;
   status = status;
-  cost = course.cost;
+  cost = so_far.cost;
 })
 
 -- cells agree with reads where each cell that was read has the state that it had then
@@ -69,9 +70,9 @@ abbrev pub same_task : TaskState → TaskState → Bool
 same_task state other = same_body state.kind other.kind && nat_eq state.at other.at && same_locals state.locals other.locals
 
 abbrev pub same_cell : CellState → CellState → Bool
-same_cell (Counter number) (Counter other) = same_number number other
+same_cell (Counter number) (Counter other) = int_eq number other
 same_cell (Register value conflicted) (Register other flag) = same_value value other && same_truth conflicted flag
-same_cell (Volume volume rate) (Volume other flow) = same_number volume other && same_number rate flow
+same_cell (Volume volume rate) (Volume other flow) = int_eq volume other && int_eq rate flow
 same_cell _ _ = false
 
 abbrev pub same_reads : List (ℕ × CellState) → List (ℕ × CellState) → Bool

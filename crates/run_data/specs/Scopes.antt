@@ -7,7 +7,8 @@ use Rattle.aerie_base.specs.declared.statements.Stmt.TheOpen.{Stmt-F}
 use Rattle.aerie_base.specs.expressions.Arithmetic.{value_kind}
 use Rattle.aerie_base.specs.expressions.Typing.{same_kind}
 use Rattle.aerie_base.specs.statements.Recursion.{stmt_gives}
-use Rattle.aerie_base.specs.models.Bodies.{Setting, Scope, checked, block_checked, behind}
+use Rattle.aerie_base.specs.models.Bodies.{Setting, checked, block_checked}
+use Rattle.aerie_base.specs.models.Scopes.{Scope, behind}
 
 -- the scope behind a statement of a valid body
 abbrev pub scope_or : Scope → Option Scope → Scope

@@ -7,7 +7,7 @@ use Rattle.std.specs.declared.cmp.Ordering.TheVariants.{Less, Equal, Greater}
 use Rattle.aerie_base.specs.declared.values.Value.{Value}
 use Rattle.aerie_base.specs.declared.models.Activity.{Activity}
 use Rattle.aerie_base.specs.declared.models.model.Parts.{Parts}
-use Rattle.aerie_base.specs.Paths.{path_cmp, is_under}
+use Rattle.aerie_base.specs.Paths.{path_cmp, is_prefix}
 use Rattle.run_data.specs.declared.tasks.BodyId.{BodyId}
 use Rattle.run_data.specs.declared.tasks.BodyId.TheVariants as body
 use Rattle.run_data.specs.declared.frames.Status.{Status}
@@ -70,12 +70,12 @@ body_ended all path = list_any (λ entry. is_of_path path entry && is_done entry
 
 -- a task has ended where its body and all bodies under it have
 abbrev pub task_ended : List Timed → List ℕ → Bool
-task_ended all path = list_all (λ entry. not (is_under path entry.1.path) || body_ended all entry.1.path) all
+task_ended all path = list_all (λ entry. not (is_prefix path entry.1.path) || body_ended all entry.1.path) all
 
 -- the time of the last frame of a task or of one under it
 abbrev pub last_time : List Timed → List ℕ → ℕ → ℕ
 last_time [] path time = time
-last_time (entry ∷ rest) path time = last_time rest path (if is_under path entry.1.path then entry.0 else time)
+last_time (entry ∷ rest) path time = last_time rest path (if is_prefix path entry.1.path then entry.0 else time)
 
 abbrev pub or_returned : Bool → Option Value → Option Value → Option Value
 or_returned true result rest = result

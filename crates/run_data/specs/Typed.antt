@@ -14,7 +14,8 @@ use Rattle.aerie_base.specs.declared.models.Activity.{Activity}
 use Rattle.aerie_base.specs.declared.models.model.Parts.{Parts}
 use Rattle.aerie_base.specs.expressions.Typing.{kind_of, slot_kinds}
 use Rattle.aerie_base.specs.statements.Places.{Placed, left}
-use Rattle.aerie_base.specs.models.Bodies.{is_kind_there, result_of}
+use Rattle.aerie_base.specs.models.Bodies.{is_wanted_kind}
+use Rattle.aerie_base.specs.models.Signatures.{result_of}
 use Rattle.aerie_base.specs.models.Cells.{read_kind}
 use Rattle.aerie_base.specs.models.Conditions.{is_condition}
 use Rattle.aerie_base.specs.models.Expressions.{is_kind_of}
@@ -47,7 +48,7 @@ abbrev pub is_typed_emission : Parts → List Value → ℕ → Emission → Boo
 is_typed_emission model locals cell (emission.Add by) =
     is_kind_of (read_kind model.cells (read.Counter cell)) Int && has_kind locals (read_kind model.cells) by Int
 is_typed_emission model locals cell (emission.Set to) =
-    is_kind_there (read_kind model.cells (read.Register cell)) (kind_here locals (read_kind model.cells) to)
+    is_wanted_kind (read_kind model.cells (read.Register cell)) (kind_here locals (read_kind model.cells) to)
 is_typed_emission model locals cell (emission.Volume by) =
     is_kind_of (read_kind model.cells (read.Volume cell)) Int && has_kind locals (read_kind model.cells) by Int
 is_typed_emission model locals cell (emission.Rate by) =

@@ -13,8 +13,8 @@ use Rattle.run_data.specs.Steps.{Stepped}
 
 abbrev pub with_step : Job → Stepped → Option (List Frame) → Option (List Frame)
 with_step job None rest = None
-with_step job (Some (status, course)) None = None
-with_step job (Some (status, course)) (Some frames) = Some (frame_of job status course ∷ frames)
+with_step job (Some (status, so_far)) None = None
+with_step job (Some (status, so_far)) (Some frames) = Some (frame_of job status so_far ∷ frames)
 
 -- the frames of jobs in their order, each step of which may cost so much
 abbrev pub frames_of : Parts → ℕ → List Job → Option (List Frame)

@@ -1,10 +1,8 @@
 ghost use Rattle.std.specs.Prelude.{◌≡◌, ◌↔◌, IsTrue, IfOk};
 
-use crate::reads::{copy_cells, same_cells};
 use crate::tasks::TaskState;
 use aerie_base::{
     Cond, Fault, List, Number, OutOfMemory, Path, PlainData, Value, copy_list, same_list,
-    same_values,
 };
 use effect_cells::{CellState, Effect};
 use std::alloc::Global;
@@ -124,7 +122,7 @@ impl Item {
                 Item::Child {
                     kind: other_kind,
                     arguments: others,
-                } => *kind == *other_kind && same_values(arguments.as_slice(), others.as_slice()),
+                } => *kind == *other_kind && same_list(arguments.as_slice(), others.as_slice()),
             },
         }
     }
@@ -211,7 +209,7 @@ impl Frame {
     {
         let path = self.path.copy(alloc)?;
         let before = self.before.copy(alloc)?;
-        let reads = copy_cells(alloc, &self.reads)?;
+        let reads = copy_list(alloc, &self.reads)?;
         let items = copy_list(alloc, &self.items)?;
         let status = self.status.copy(alloc)?;
         Ok(Frame {
@@ -232,7 +230,7 @@ impl Frame {
     {
         self.path.is_same(&other.path)
             && self.before.is_same(&other.before)
-            && same_cells(self.reads.as_slice(), other.reads.as_slice())
+            && same_list(self.reads.as_slice(), other.reads.as_slice())
             && same_list(self.items.as_slice(), other.items.as_slice())
             && self.status.is_same(&other.status)
             && self.cost == other.cost
@@ -255,7 +253,7 @@ impl Record {
         ensures { IsTrue result ↔ (self.now ≡ other.now) }
     {
         self.before.is_same(&other.before)
-            && same_cells(self.reads.as_slice(), other.reads.as_slice())
+            && same_list(self.reads.as_slice(), other.reads.as_slice())
             && same_list(self.items.as_slice(), other.items.as_slice())
             && self.status.is_same(&other.status)
             && self.cost == other.cost
@@ -266,7 +264,7 @@ impl Record {
         ensures { IfOk result (λ copy. copy ≡ self.now) }
     {
         let before = self.before.copy(alloc)?;
-        let reads = copy_cells(alloc, &self.reads)?;
+        let reads = copy_list(alloc, &self.reads)?;
         let items = copy_list(alloc, &self.items)?;
         let status = self.status.copy(alloc)?;
         Ok(Record {
@@ -276,5 +274,15 @@ impl Record {
             status,
             cost: self.cost,
         })
+    }
+}
+
+impl PlainData for Record {
+    fn copied(&self, alloc: Global) -> Result<Record, OutOfMemory> {
+        self.copy(alloc)
+    }
+
+    fn equals(&self, other: &Record) -> bool {
+        self.is_same(other)
     }
 }

@@ -5,7 +5,6 @@ mod frames;
 mod jobs;
 mod kept;
 pub mod laws;
-mod reads;
 mod runs;
 mod simulators;
 mod steppers;

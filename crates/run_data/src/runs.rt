@@ -1,7 +1,6 @@
 ghost use Rattle.std.specs.Prelude.{◌≡◌, IfOk};
 
 use crate::frames::Frame;
-use crate::reads::copy_cells;
 use aerie_base::{Fault, List, OutOfMemory, Path, Plan, Time, copy_list};
 use effect_cells::CellState;
 use std::alloc::Global;
@@ -68,7 +67,7 @@ impl Instant {
         ensures { IfOk result (λ copy. copy ≡ self.now) }
     {
         let batches = copy_batches(alloc, &self.batches)?;
-        let changed = copy_cells(alloc, &self.changed)?;
+        let changed = copy_list(alloc, &self.changed)?;
         Ok(Instant {
             time: self.time,
             batches,

@@ -16,9 +16,10 @@ pub trait Simulator {
     ghost model: { Self → Parts };
     /// What the costs of a run may come to.
     ghost bound: { Self → ℕ };
-    /// What names that which it was lent, and stays so.
+    /// The address of the data that it borrows, which no call changes: by it a caller finds its own data again in a simulator
+    /// that it made over them.
     ghost anchor: { Self → ℕ };
-    /// What it shares between threads may be shared.
+    /// Evidence that what its threads share may be shared between threads; nothing where it starts none.
     ghost shares: { Type 0 };
 
     /// The kept fresh run of the plan. `steps` counts the statements and tests that are run, and `looks` the searches among

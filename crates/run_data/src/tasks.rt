@@ -1,6 +1,6 @@
 ghost use Rattle.std.specs.Prelude.{◌≡◌, ◌↔◌, IsTrue, IfOk};
 
-use aerie_base::{List, OutOfMemory, Value, copy_list, same_values};
+use aerie_base::{List, OutOfMemory, Value, copy_list, same_list};
 use std::alloc::Global;
 
 /// A body of the model.
@@ -41,6 +41,6 @@ impl TaskState {
     {
         self.kind == other.kind
             && self.at == other.at
-            && same_values(self.locals.as_slice(), other.locals.as_slice())
+            && same_list(self.locals.as_slice(), other.locals.as_slice())
     }
 }

@@ -1,6 +1,7 @@
 -- The list of the cells that were read, from the front.
-use Rattle.std.proofs.Common.{◌≡◌, get_or, if◌then◌else◌, ℕ, zero, suc, ◌+◌, ◌<◌, List, [], ◌∷◌, ◌++◌, Bool, true, false, Some, refl, sym, ap, ◌∙◌, arith, length, append_assoc, drop, drop-cons, add-one}
+use Rattle.std.proofs.Common.{◌≡◌, get_or, ◌-◌, ◌*◌, ◌≤◌, min, append-nil, add-zero, if◌then◌else◌, ℕ, zero, suc, ◌+◌, ◌<◌, List, [], ◌∷◌, ◌++◌, Bool, true, false, Some, refl, sym, ap, ◌∙◌, arith, length, append_assoc, drop, drop-cons, add-one}
 use Rattle.std.specs.Prelude.{slice_get}
+use Rattle.std.proofs.lemmas.List.{drop_all}
 use Rattle.effect_cells.specs.declared.effects.CellState.{CellState}
 use Rattle.run_data.specs.Frames.{read_from}
 
@@ -16,31 +17,84 @@ there : {A : Type 0} (xs : List A) (i : ℕ) (x : A) → slice_get xs i ≡ Some
 there xs i x e = rw add-one (there' xs i x e)
 
 -- a cell that was read
-pub read_in : (noted : List Bool) (view : List CellState) (i : ℕ) (state : CellState) (before after after' all : List (ℕ × CellState)) →
-    i < length noted → get_or noted i false ≡ true → slice_get view i ≡ Some state → after' ≡ after → after ≡ before ++ (i, state) ∷ [] →
-    before ++ read_from i (drop i noted) (drop i view) ≡ all → after' ++ read_from (i + 1) (drop (i + 1) noted) (drop (i + 1) view) ≡ all
-read_in noted view i state before after after' all lt is_read at_i e j h =
-    let rest = read_from (i + 1) (drop (i + 1) noted) (drop (i + 1) view) in
+pub read_in : (read_flags : List Bool) (view : List CellState) (i : ℕ) (state : CellState) (before after after' all : List (ℕ × CellState)) →
+    i < length read_flags → get_or read_flags i false ≡ true → slice_get view i ≡ Some state → after' ≡ after → after ≡ before ++ (i, state) ∷ [] →
+    before ++ read_from i (drop i read_flags) (drop i view) ≡ all → after' ++ read_from (i + 1) (drop (i + 1) read_flags) (drop (i + 1) view) ≡ all
+read_in read_flags view i state before after after' all lt is_read at_i e j h =
+    let rest = read_from (i + 1) (drop (i + 1) read_flags) (drop (i + 1) view) in
     ap (λ l. l ++ rest) (e ∙ j)
     ∙ append_assoc before ((i, state) ∷ []) rest
     ∙ sym (ap (λ c. before ++ (if c then (i, state) ∷ rest else rest)) is_read)
-    ∙ sym (λ k. before ++ read_from i (cut noted i false lt k) (there view i state at_i k))
+    ∙ sym (λ k. before ++ read_from i (cut read_flags i false lt k) (there view i state at_i k))
     ∙ h
 
-one_less : (noted : List Bool) (view : List CellState) (i : ℕ) → length noted ≡ length view → i < length noted → get_or noted i false ≡ false →
-    read_from i (drop i noted) (drop i view) ≡ read_from (i + 1) (drop (i + 1) noted) (drop (i + 1) view)
-one_less noted [] i same lt not_read = absurd (omega arith)
-one_less noted (state ∷ view) i same lt not_read =
+one_less : (read_flags : List Bool) (view : List CellState) (i : ℕ) → length read_flags ≡ length view → i < length read_flags → get_or read_flags i false ≡ false →
+    read_from i (drop i read_flags) (drop i view) ≡ read_from (i + 1) (drop (i + 1) read_flags) (drop (i + 1) view)
+one_less read_flags [] i same lt not_read = absurd (omega arith)
+one_less read_flags (state ∷ view) i same lt not_read =
     let all : List CellState = state ∷ view in
-    let rest = read_from (i + 1) (drop (i + 1) noted) (drop (i + 1) all) in
-    (λ k. read_from i (cut noted i false lt k) (cut all i state (omega (arith, same, lt)) k))
+    let rest = read_from (i + 1) (drop (i + 1) read_flags) (drop (i + 1) all) in
+    (λ k. read_from i (cut read_flags i false lt k) (cut all i state (omega (arith, same, lt)) k))
     ∙ ap (λ c. if c then (i, get_or all i state) ∷ rest else rest) not_read
 
 -- a cell that was not read
-pub read_out : (noted : List Bool) (view : List CellState) (i : ℕ) (before after all : List (ℕ × CellState)) →
-    length noted ≡ length view → i < length noted → get_or noted i false ≡ false → after ≡ before →
-    before ++ read_from i (drop i noted) (drop i view) ≡ all → after ++ read_from (i + 1) (drop (i + 1) noted) (drop (i + 1) view) ≡ all
-read_out noted view i before after all same lt not_read e h =
-    ap (λ l. l ++ read_from (i + 1) (drop (i + 1) noted) (drop (i + 1) view)) e
-    ∙ sym (ap (λ l. before ++ l) (one_less noted view i same lt not_read))
+pub read_out : (read_flags : List Bool) (view : List CellState) (i : ℕ) (before after all : List (ℕ × CellState)) →
+    length read_flags ≡ length view → i < length read_flags → get_or read_flags i false ≡ false → after ≡ before →
+    before ++ read_from i (drop i read_flags) (drop i view) ≡ all → after ++ read_from (i + 1) (drop (i + 1) read_flags) (drop (i + 1) view) ≡ all
+read_out read_flags view i before after all same lt not_read e h =
+    ap (λ l. l ++ read_from (i + 1) (drop (i + 1) read_flags) (drop (i + 1) view)) e
+    ∙ sym (ap (λ l. before ++ l) (one_less read_flags view i same lt not_read))
     ∙ h
+
+-- ---- from a cell up to another
+
+-- what is read from a cell on
+abbrev pub rest_from : List Bool → List CellState → ℕ → List (ℕ × CellState)
+rest_from read_flags view from = read_from from (drop from read_flags) (drop from view)
+
+skip_by : (count from : ℕ) (read_flags : List Bool) (view : List CellState) → length read_flags ≡ length view → from + count ≤ length read_flags →
+    ((cell : ℕ) → from ≤ cell → cell < from + count → get_or read_flags cell false ≡ false) → rest_from read_flags view from ≡ rest_from read_flags view (from + count)
+skip_by zero from read_flags view same le none = ap (rest_from read_flags view) (sym (add-zero from))
+skip_by (suc count) from read_flags view same le none =
+    let further : from + 1 + count ≡ from + suc count = omega arith in
+    one_less read_flags view from same (omega arith) (none from (omega arith) (omega arith))
+    ∙ skip_by count (from + 1) read_flags view same (omega arith) (λ cell a b. none cell (omega arith) (omega arith))
+    ∙ ap (rest_from read_flags view) further
+
+-- cells of which none was read
+skip : (from end : ℕ) (read_flags : List Bool) (view : List CellState) → length read_flags ≡ length view → from ≤ end → end ≤ length read_flags →
+    ((cell : ℕ) → from ≤ cell → cell < end → get_or read_flags cell false ≡ false) → rest_from read_flags view from ≡ rest_from read_flags view end
+skip from end read_flags view same le within none =
+    let count : from + (end - from) ≡ end = omega arith in
+    skip_by (end - from) from read_flags view same (omega arith) (λ cell a b. none cell a (omega (arith, b, count))) ∙ ap (rest_from read_flags view) count
+
+-- ---- group by group
+
+-- where a group of 16 cells begins, or the end of the cells
+abbrev pub group_at : ℕ → List Bool → ℕ
+group_at group read_flags = min (group * 16) (length read_flags)
+
+-- a group of which some cells were read
+pub group_read : (read_flags : List Bool) (view : List CellState) (group from end : ℕ) (before after all : List (ℕ × CellState)) →
+    from ≡ group_at group read_flags → end ≡ group_at (group + 1) read_flags → after ++ rest_from read_flags view end ≡ before ++ rest_from read_flags view from →
+    before ++ rest_from read_flags view (group_at group read_flags) ≡ all → after ++ rest_from read_flags view (group_at (group + 1) read_flags) ≡ all
+group_read read_flags view group from end before after all f e h k =
+    ap (λ i. after ++ rest_from read_flags view i) (sym e) ∙ h ∙ ap (λ i. before ++ rest_from read_flags view i) f ∙ k
+
+-- a group of which none was read
+pub group_skipped : (read_flags : List Bool) (view : List CellState) (group : ℕ) (before after all : List (ℕ × CellState)) → length read_flags ≡ length view → after ≡ before →
+    ((cell : ℕ) → group * 16 ≤ cell → cell < group * 16 + 16 → get_or read_flags cell false ≡ false) →
+    before ++ rest_from read_flags view (group_at group read_flags) ≡ all → after ++ rest_from read_flags view (group_at (group + 1) read_flags) ≡ all
+group_skipped read_flags view group before after all same e none h =
+    ap (λ l. l ++ rest_from read_flags view (group_at (group + 1) read_flags)) e
+    ∙ sym (ap (λ l. before ++ l) (skip (group_at group read_flags) (group_at (group + 1) read_flags) read_flags view same (omega arith) (omega arith) (λ cell a b. none cell (omega arith) (omega arith))))
+    ∙ h
+
+-- behind the last group
+pub all_groups_read : (read_flags : List Bool) (view : List CellState) (reads all : List (ℕ × CellState)) → length read_flags ≤ 256 →
+    reads ++ rest_from read_flags view (group_at 16 read_flags) ≡ all → reads ≡ all
+all_groups_read read_flags view reads all few h =
+    let end : group_at 16 read_flags ≡ length read_flags = omega arith in
+    let nothing : rest_from read_flags view (group_at 16 read_flags) ≡ [] =
+    ap (rest_from read_flags view) end ∙ ap (λ l. read_from (length read_flags) l (drop (length read_flags) view)) (drop_all (length read_flags) read_flags (omega arith)) in
+    sym (append-nil reads) ∙ sym (ap (λ l. reads ++ l) nothing) ∙ h

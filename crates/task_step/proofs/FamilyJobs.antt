@@ -6,7 +6,8 @@ use Rattle.aerie_base.specs.declared.statements.Stmt as stmt
 use Rattle.aerie_base.specs.declared.statements.Stmt.TheBlock.{hidden-the_row-Stmt-0, shape-the_row-Stmt-0, shown-the_row-Stmt-0}
 use Rattle.aerie_base.specs.expressions.Typing.{kind_of}
 use Rattle.aerie_base.specs.models.Activities.{is_activity, is_daemon, is_return}
-use Rattle.aerie_base.specs.models.Bodies.{checked, stmt_depth, is_body}
+use Rattle.aerie_base.specs.models.Bodies.{checked, is_body}
+use Rattle.aerie_base.specs.models.Depth.{stmt_depth}
 use Rattle.aerie_base.specs.models.Expressions.{expr_depth, has_literals, typed}
 use Rattle.aerie_base.specs.models.ValidModel.{valid_model, has_good_names, has_good_enums, has_good_cells, has_good_resources, has_good_activities, has_good_daemons}
 use Rattle.aerie_base.specs.statements.Places.{count}

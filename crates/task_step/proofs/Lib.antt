@@ -2,8 +2,10 @@ pub mod CellsRead
 pub mod Doing
 pub mod FamilyJobs
 pub mod Fillings
+pub mod Grouping
 pub mod Landing
 pub mod OneByOne
+pub mod Overlays
 pub mod Places
 pub mod Starting
 pub mod Taking
@@ -11,3 +13,4 @@ pub mod Simple
 pub mod SmallJobs
 pub mod Soundness
 pub mod Validity
+pub mod WrittenPlaces

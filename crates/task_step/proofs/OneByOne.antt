@@ -8,7 +8,7 @@ use Rattle.aerie_base.specs.declared.values.Value.{Value}
 use Rattle.aerie_base.specs.declared.models.Activity.{Activity}
 use Rattle.aerie_base.specs.declared.models.Daemon.{Daemon}
 use Rattle.body_code.specs.ModelCodes.{AreCodesOf}
-use Rattle.body_code.specs.Standing.{IsCodeOf}
+use Rattle.body_code.specs.Denoting.{IsCodeOf}
 use Rattle.body_code.specs.declared.instructions.Instruction.{Instruction}
 use Rattle.run_data.specs.declared.tasks.BodyId.{BodyId}
 use Rattle.run_data.specs.declared.tasks.BodyId.TheVariants as body
@@ -18,8 +18,8 @@ use Rattle.run_data.specs.declared.frames.Frame.{Frame}
 use Rattle.run_data.specs.declared.frames.Status.{Status}
 use Rattle.run_data.specs.declared.steppers.Wave.TheVariants.{Frames, Spent}
 use Rattle.run_data.specs.Batches.{cost_of}
-use Rattle.run_data.specs.Courses.{Course}
-use Rattle.run_data.specs.Frames.{frame_of, job_step}
+use Rattle.run_data.specs.StepStates.{StepState}
+use Rattle.run_data.specs.Frames.{frame_of, job_step, framed, job_frame}
 use Rattle.run_data.specs.Jobs.{is_activity_state, is_daemon_state, is_state_in, is_state_of}
 use Rattle.run_data.specs.Records.{unmatched}
 use Rattle.run_data.specs.Steps.{Stepped}
@@ -27,7 +27,6 @@ use Rattle.run_data.specs.TaskStates.{activity_body, daemon_body, body_of}
 use Rattle.run_data.specs.Waves.{with_step, frames_of, unless_spent, wave_of, last_count, RoseAlike}
 use Rattle.run_data.specs.laws.Budgets.{CostIsWithin, SameWithinCost}
 use Rattle.task_step.specs.Directs.{place_of}
-use Rattle.task_step.specs.JobFrames.{framed, job_frame}
 
 -- ---- codes
 
@@ -121,9 +120,9 @@ in_front_more : (frames : List Frame) (frame : Frame) (rest : Option (List Frame
 in_front_more frames frame None = refl
 in_front_more frames frame (Some rest) = ap Some (append_assoc frames (frame ∷ []) rest)
 
-step_in_front : (job : Job) (status : Status) (course : Course) (rest : Option (List Frame)) → with_step job (Some (status, course)) rest ≡ in_front (frame_of job status course ∷ []) rest
-step_in_front job status course None = refl
-step_in_front job status course (Some rest) = refl
+step_in_front : (job : Job) (status : Status) (so_far : StepState) (rest : Option (List Frame)) → with_step job (Some (status, so_far)) rest ≡ in_front (frame_of job status so_far ∷ []) rest
+step_in_front job status so_far None = refl
+step_in_front job status so_far (Some rest) = refl
 
 next_left : (jobs : List Job) (i : ℕ) (none : Job) → i < length jobs → drop i jobs ≡ get_or jobs i none ∷ drop (i + 1) jobs
 next_left jobs i none within = let next : i + 1 ≡ suc i = omega arith in rw next (drop-cons jobs i none within)
@@ -133,15 +132,15 @@ module _ (least : CostIsWithin) (same : SameWithinCost) (model : Parts) (fuel : 
   fits : (left : ℕ) (job : Job) (stepped : Stepped) → left ≤ fuel → job_step model left job ≡ stepped → (frame : Frame) → framed job stepped ≡ Some frame →
       (frame.cost ≤ left) × ((rest : List Job) → frames_of model fuel (job ∷ rest) ≡ in_front (frame ∷ []) (frames_of model fuel rest))
   fits left job None less e frame is = nothing frame is
-  fits left job (Some (status, course)) less e frame is =
+  fits left job (Some (status, so_far)) less e frame is =
       let body = body_of model job.state.kind in
-      let within = least body job.state job.view left status course e in
-      let whole = same body job.state job.view left fuel status course e (omega (arith, within, less)) in
-      let its = value_is (frame_of job status course) frame is in (
+      let within = least body job.state job.view left status so_far e in
+      let whole = same body job.state job.view left fuel status so_far e (omega (arith, within, less)) in
+      let its = value_is (frame_of job status so_far) frame is in (
         omega (arith, within, ap (λ f. f.cost) its),
         λ rest.
             ap (λ stepped. with_step job stepped (frames_of model fuel rest)) whole
-            ∙ step_in_front job status course (frames_of model fuel rest)
+            ∙ step_in_front job status so_far (frames_of model fuel rest)
             ∙ ap (λ f. in_front (f ∷ []) (frames_of model fuel rest)) its,
       )
 
@@ -168,23 +167,23 @@ module _ (least : CostIsWithin) (same : SameWithinCost) (model : Parts) (fuel : 
       sym (ap (unless_spent fuel) (sym before ∙ ap Some (append-nil frames)) ∙ rw enough refl)
 
   -- a step that may not cost what is left costs more
-  dearer : (left : ℕ) (job : Job) (status : Status) (course : Course) → job_step model fuel job ≡ Some (status, course) → job_frame model left job ≡ None →
-      (test : Bool) → nat_le course.cost left ≡ test → left < course.cost
-  dearer left job status course e is false test = grind (arith, test)
-  dearer left job status course e is true test =
-      let less : course.cost ≤ left = grind (arith, test) in
-      let again = same (body_of model job.state.kind) job.state job.view fuel left status course e less in
-      nothing (frame_of job status course) (sym is ∙ ap (framed job) again)
+  dearer : (left : ℕ) (job : Job) (status : Status) (so_far : StepState) → job_step model fuel job ≡ Some (status, so_far) → job_frame model left job ≡ None →
+      (test : Bool) → nat_le so_far.cost left ≡ test → left < so_far.cost
+  dearer left job status so_far e is false test = grind (arith, test)
+  dearer left job status so_far e is true test =
+      let less : so_far.cost ≤ left = grind (arith, test) in
+      let again = same (body_of model job.state.kind) job.state job.view fuel left status so_far e less in
+      nothing (frame_of job status so_far) (sym is ∙ ap (framed job) again)
 
   -- a job that passes what is left passes the fuel
   passes : (left : ℕ) (job : Job) (frames : List Frame) (stepped : Stepped) (rest : Option (List Frame)) (jobs : List Job) → job_step model fuel job ≡ stepped → left + cost_of frames ≡ fuel →
       job_frame model left job ≡ None → in_front frames (with_step job stepped rest) ≡ frames_of model fuel jobs → Spent ≡ wave_of model fuel jobs
   passes left job frames None rest jobs e costs is before = ap (unless_spent fuel) before
-  passes left job frames (Some (status, course)) None jobs e costs is before = ap (unless_spent fuel) before
-  passes left job frames (Some (status, course)) (Some rest) jobs e costs is before =
-      let all = frames ++ frame_of job status course ∷ rest in
-      let more = dearer left job status course e is (nat_le course.cost left) refl in
-      let total = cost_both frames (frame_of job status course ∷ rest) in
+  passes left job frames (Some (status, so_far)) None jobs e costs is before = ap (unless_spent fuel) before
+  passes left job frames (Some (status, so_far)) (Some rest) jobs e costs is before =
+      let all = frames ++ frame_of job status so_far ∷ rest in
+      let more = dearer left job status so_far e is (nat_le so_far.cost left) refl in
+      let total = cost_both frames (frame_of job status so_far ∷ rest) in
       let too_much : nat_lt fuel (cost_of all) ≡ true = grind (arith, more, total, costs) in
       sym (ap (unless_spent fuel) (sym before) ∙ rw too_much refl)
 

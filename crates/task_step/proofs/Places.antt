@@ -6,7 +6,7 @@ use Rattle.aerie_base.specs.models.Cells.{is_cell}
 use Rattle.aerie_base.specs.models.Limits.{cell_limit}
 use Rattle.aerie_base.specs.models.ValidModel.{valid_model, has_good_cells}
 use Rattle.aerie_base.specs.models.ValidParts.{are_good}
-use Rattle.body_code.specs.Standing.{IsCodeOf}
+use Rattle.body_code.specs.Denoting.{IsCodeOf}
 use Rattle.body_code.specs.declared.instructions.Instruction.{Instruction}
 use Rattle.run_data.specs.declared.tasks.BodyId.{BodyId}
 use Rattle.run_data.specs.declared.tasks.TaskState.{TaskState}

@@ -11,14 +11,15 @@ use Rattle.aerie_base.specs.declared.models.Daemon.{Daemon}
 use Rattle.aerie_base.specs.declared.models.model.Parts.{Parts}
 use Rattle.aerie_base.specs.expressions.Typing.{kind_of}
 use Rattle.aerie_base.specs.models.Activities.{is_daemon}
-use Rattle.aerie_base.specs.models.Bodies.{checked, stmt_depth, is_body}
+use Rattle.aerie_base.specs.models.Bodies.{checked, is_body}
+use Rattle.aerie_base.specs.models.Depth.{stmt_depth}
 use Rattle.aerie_base.specs.models.Cells.{read_kind}
 use Rattle.aerie_base.specs.models.Conditions.{is_typed_condition, cond_depth, is_condition}
 use Rattle.aerie_base.specs.models.Expressions.{expr_depth, has_literals, typed}
 use Rattle.aerie_base.specs.models.ValidModel.{valid_model, has_good_names, has_good_enums, has_good_cells, has_good_resources, has_good_activities, has_good_daemons}
 use Rattle.aerie_base.specs.statements.Places.{count}
 use Rattle.body_code.specs.ModelCodes.{AreCodesOf}
-use Rattle.body_code.specs.Standing.{IsCodeOf}
+use Rattle.body_code.specs.Denoting.{IsCodeOf}
 use Rattle.body_code.specs.declared.instructions.Instruction.{Instruction}
 use Rattle.effect_cells.specs.Cells.{initial}
 use Rattle.effect_cells.specs.Reads.{kind_on}

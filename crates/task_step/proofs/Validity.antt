@@ -3,12 +3,11 @@ use Rattle.std.proofs.Common.{◌≡◌, ℕ, Option, Some, None, refl, ap, subs
 use Rattle.aerie_base.specs.declared.models.model.Parts.{Parts}
 use Rattle.run_data.specs.declared.jobs.Job.{Job}
 use Rattle.run_data.specs.declared.frames.Frame.{Frame}
-use Rattle.run_data.specs.Frames.{job_step}
+use Rattle.run_data.specs.Frames.{job_step, framed, job_frame}
 use Rattle.run_data.specs.Jobs.{AreCellsOf}
 use Rattle.run_data.specs.Records.{IsValid, record_of}
 use Rattle.run_data.specs.Steps.{Stepped}
 use Rattle.run_data.specs.laws.ValidRecords.{FramesAreValid}
-use Rattle.task_step.specs.JobFrames.{framed, job_frame}
 
 abbrev or_else : Frame → Option Frame → Frame
 or_else frame None = frame
@@ -21,5 +20,5 @@ frames_are_valid law model fuel job frame cells h = by_step (job_step model fuel
   where
     by_step : (step : Stepped) → job_step model fuel job ≡ step → framed job step ≡ Some frame → IsValid model (record_of frame)
     by_step None e k = absurd (cc)
-    by_step (Some (status, course)) e k =
-        subst (λ (f : Frame). IsValid model (record_of f)) (ap (or_else frame) k) (law model fuel job status course cells e)
+    by_step (Some (status, so_far)) e k =
+        subst (λ (f : Frame). IsValid model (record_of f)) (ap (or_else frame) k) (law model fuel job status so_far cells.count e)

@@ -21,6 +21,7 @@ use denote.Hole.Carrier.{hidden, shown, out}
 use Rattle.effect_cells.specs.declared.effects.CellState.{CellState}
 use Rattle.effect_cells.specs.declared.effects.CellState.TheVariants as state
 use Rattle.effect_cells.specs.declared.effects.Effect.TheVariants as effect
+use Rattle.run_data.specs.Frames.{job_frame}
 use Rattle.run_data.specs.declared.tasks.BodyId.TheVariants as body
 use Rattle.run_data.specs.declared.tasks.TaskState.{TaskState}
 use Rattle.run_data.specs.declared.jobs.Job.{Job}
@@ -30,7 +31,6 @@ use Rattle.run_data.specs.declared.frames.Status.{Status}
 use Rattle.run_data.specs.declared.frames.Status.TheVariants.{Delayed, Waiting, Calling, Done, Faulted}
 use Rattle.run_data.specs.declared.frames.Frame.{Frame}
 use Rattle.run_data.specs.cases.Missions.{number, local, reading, activity, mission, add, delay, ints}
-use Rattle.task_step.specs.JobFrames.{job_frame}
 
 -- ---- steps of one body
 

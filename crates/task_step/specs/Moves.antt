@@ -5,20 +5,22 @@ use Rattle.aerie_base.specs.declared.faults.Fault.{Fault}
 use Rattle.aerie_base.specs.declared.statements.Stmt.{Stmt}
 use Rattle.body_code.specs.declared.instructions.Instruction.{Instruction}
 use Rattle.body_code.specs.declared.instructions.Instruction.TheVariants.{Do, Test, Jump, End}
-use Rattle.body_code.specs.Standing.{IsCodeOf}
-use Rattle.run_data.specs.declared.frames.Status.{Status}
-use Rattle.run_data.specs.Courses.{Course}
+use Rattle.body_code.specs.Denoting.{IsCodeOf}
+use Rattle.run_data.specs.declared.tasks.BodyId.{BodyId}
+use Rattle.run_data.specs.StepStates.{StepState}
 use Rattle.run_data.specs.Steps.{Turn, onward, ended}
+use Rattle.task_step.specs.declared.ends.End.{End as HowEnded}
+use Rattle.task_step.specs.Ends.{status_of}
 
--- how a statement ends, as the code says it
-abbrev pub turn_of : Option Status → Course → Turn
-turn_of None course = onward course
-turn_of (Some status) course = ended status course
+-- how a statement at a place of a body ends, as the code says it
+abbrev pub turn_of : Option HowEnded → BodyId → ℕ → StepState → Turn
+turn_of None kind at so_far = onward so_far
+turn_of (Some end) kind at so_far = ended (status_of end kind at so_far) so_far
 
 -- values in front of those of further arguments
-abbrev pub with_front : List Value → Result (List Value) Fault × Course → Result (List Value) Fault × Course
-with_front values (Ok rest, course) = (Ok (values ++ rest), course)
-with_front values (Err fault, course) = (Err fault, course)
+abbrev pub with_front : List Value → Result (List Value) Fault × StepState → Result (List Value) Fault × StepState
+with_front values (Ok rest, so_far) = (Ok (values ++ rest), so_far)
+with_front values (Err fault, so_far) = (Err fault, so_far)
 
 -- ---- flat code
 

@@ -1,3 +1,5 @@
+-- A file of lemmas: what it proves need not be read to trust a clause.
+--
 -- Each read of cells has a value of its type.
 use Rattle.std.specs.Prelude.{◌≡◌, List, Option, Some, None, is_some, slice_get}
 use mathlib.Core.Path.{sym, ap}

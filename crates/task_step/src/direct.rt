@@ -43,22 +43,26 @@ impl<'a> Direct<'a> {
 }
 
 impl<'a> Stepper for Direct<'a> {
-    ghost use Rattle.std.specs.Prelude.{[]};
+    ghost use Rattle.std.specs.Prelude.{[], min};
+    ghost use Rattle.std.proofs.Common.{arith};
     ghost use Rattle.std.proofs.lemmas.List.Elements.{All-nil};
     ghost use Rattle.body_code.specs.ModelCodes.{AreCodesOf};
     ghost use Rattle.run_data.specs.Records.{IsValid};
+    ghost use Rattle.run_data.specs.Waves.{last_count};
 
     ghost is_of = { λ direct model. AreCodesOf model direct.codes };
 
     ghost records = { λ direct. [] };
 
-    ghost opened = { λ direct. direct.opened };
+    ghost opened = { λ direct. min direct.opened last_count };
 
     ghost anchor = { λ direct. direct.codes_at };
 
     ghost shares = { Unit {0} };
 
     ghost valid = { λ direct model of. All-nil (IsValid model) };
+
+    ghost counted = { λ direct. Prim.omega arith };
 
     fn wave<L: Ledger, K: Ledger>(
         &mut self,

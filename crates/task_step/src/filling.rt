@@ -8,8 +8,10 @@ ghost use Rattle.aerie_base.specs.models.Conditions.{is_coefficient};
 ghost use Rattle.aerie_base.specs.conditions.Holding.{local_value};
 ghost use Rattle.task_step.specs.Fillable.{IsConditionOfSome, is_modest_sum, is_fillable_by_fold, filled_by_fold};
 
-use crate::values::{number_in, truth_in};
-use aerie_base::{Boxed, Cond, Linear, List, Number, Operand, OutOfMemory, Simple, Term, Value};
+use aerie_base::{
+    Boxed, Cond, Linear, List, Number, Operand, OutOfMemory, Simple, Term, Value, number_in,
+    truth_in,
+};
 use std::alloc::Global;
 
 /// The number 0.

@@ -4,18 +4,20 @@
 mod acting;
 mod arguments;
 mod cells_read;
-mod course;
 mod direct;
+mod ends;
 mod filling;
 mod fresh;
 mod one_by_one;
+mod read_flags;
 mod running;
 mod sight;
 mod statement_parts;
 mod step_end;
+mod step_state;
 #[cfg(test)]
 mod tests;
-mod values;
+mod written_cells;
 
 pub use direct::Direct;
 pub use fresh::Fresh;

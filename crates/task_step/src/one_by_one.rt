@@ -2,12 +2,13 @@
 
 ghost use Rattle.std.specs.Prelude.{◌≡◌, ◌+◌, ◌<◌, ◌≤◌, ◌^◌, min, [], Some, None, IsTrue, IfOk, IfSome, OnErr, length, slice_get};
 ghost use Rattle.std.specs.List.{All};
+ghost use Rattle.aerie_base.specs.Ranges.{step_limit};
 ghost use Rattle.body_code.specs.ModelCodes.{AreCodesOf};
-ghost use Rattle.body_code.specs.Standing.{IsCodeOf};
+ghost use Rattle.body_code.specs.Denoting.{IsCodeOf};
+ghost use Rattle.run_data.specs.Frames.{job_frame};
 ghost use Rattle.run_data.specs.Jobs.{IsJobOf, is_state_of};
 ghost use Rattle.run_data.specs.TaskStates.{body_of};
 ghost use Rattle.run_data.specs.Waves.{wave_of, last_count, IsFrugal, RoseAlike};
-ghost use Rattle.task_step.specs.JobFrames.{job_frame};
 ghost use Rattle.task_step.specs.Directs.{place_of, cost_in};
 
 use crate::running::run_step;
@@ -66,7 +67,7 @@ fn run_job<L: Ledger>(
 ) -> Result<Option<Frame>, OutOfMemory>
     requires codes { AreCodesOf model.now codes.now }
     requires job { IsJobOf model.now job.now }
-    requires fuel { fuel ≤ 100_000_000 }
+    requires fuel { fuel ≤ step_limit }
     requires opened { opened.old ≤ last_count }
     ensures frame { IfOk result (λ frame. job_frame model.now fuel job.now ≡ frame) }
     ensures steps { IfOk result (λ frame. steps.new ≡ steps.old + cost_in frame) }
@@ -97,7 +98,7 @@ pub(crate) fn run_jobs<L: Ledger>(
 ) -> Result<Wave, OutOfMemory>
     requires codes { AreCodesOf model.now codes.now }
     requires jobs { All (IsJobOf model.now) jobs.now }
-    requires fuel { fuel ≤ 100_000_000 }
+    requires fuel { fuel ≤ step_limit }
     requires opened { opened.old ≤ last_count }
     ensures wave { IfOk result (λ wave. wave ≡ wave_of model.now fuel jobs.now) }
     ensures frugal { IfOk result (λ wave. IsFrugal wave [] steps.old steps.new) }

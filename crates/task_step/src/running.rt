@@ -1,30 +1,31 @@
 //! A step: from place to place of the flat code, until a statement ends it.
 
 ghost use Rattle.std.specs.Prelude.{◌≡◌, ◌+◌, ◌<◌, ◌≤◌, ◌^◌, true, false, length, slice_get, IsTrue, IfOk, Err, Some, None};
+ghost use Rattle.aerie_base.specs.Ranges.{step_limit};
 ghost use Rattle.aerie_base.specs.models.ValidModel.{valid_model};
 ghost use Rattle.aerie_base.specs.statements.Places.{left};
-ghost use Rattle.body_code.specs.Standing.{IsCodeOf};
-ghost use Rattle.run_data.specs.Frames.{frame_of};
+ghost use Rattle.body_code.specs.Denoting.{IsCodeOf};
+ghost use Rattle.run_data.specs.Frames.{frame_of, job_frame};
 ghost use Rattle.run_data.specs.Jobs.{AreCellsOf, IsJobOf};
 ghost use Rattle.run_data.specs.Records.{IsValid, record_of};
 ghost use Rattle.run_data.specs.TaskStates.{body_of};
 ghost use Rattle.run_data.specs.Typed.{AreLeft};
 ghost use Rattle.task_step.specs.Doable.{cells_of};
-ghost use Rattle.task_step.specs.JobFrames.{job_frame};
+ghost use Rattle.task_step.specs.Ends.{status_of};
 ghost use Rattle.task_step.specs.Moves.{is_end, is_jump, is_work};
 ghost use Rattle.task_step.specs.OwnCells.{most_items};
 ghost use Rattle.task_step.specs.Ways.{Goes};
 ghost use Rattle.task_step.specs.declared.step_end.StepEnd.TheVariants.{Fuel};
 
 use crate::acting::act;
-use crate::course::Course;
+use crate::ends::End;
 use crate::fresh::Fresh;
 use crate::step_end::StepEnd;
-use crate::values::truth_in;
-use aerie_base::{Model, OutOfMemory, copy_list};
+use crate::step_state::StepState;
+use aerie_base::{Model, OutOfMemory, copy_list, truth_in};
 use body_code::{Code, Instruction};
 use run_data::laws::{statements_are_typed, states_stand_in_bodies, steps_are_valid_records};
-use run_data::{BodyId, Job, Status};
+use run_data::{BodyId, Job};
 use std::alloc::Global;
 
 /// Where a statement or a test leads.
@@ -32,7 +33,7 @@ pub(crate) enum Way {
     /// The step goes on at this place.
     Onward(u32),
     /// The step ends so.
-    Ended(Status),
+    Ended(End),
 }
 
 /// The place to which jumps lead from a place. Jumps cost nothing.
@@ -67,28 +68,28 @@ fn take(
     code: &Code,
     kind: BodyId,
     at: u32,
-    course: &mut Course,
+    so_far: &mut StepState,
 ) -> Result<Way, OutOfMemory>
     requires valid { IsTrue (valid_model model.now) }
     requires code { IsCodeOf (body_of model.now kind) code.now }
     requires place { at < length code.now }
     requires room { length code.now < 2 ^ 32 }
     requires works { is_work (slice_get code.now at) ≡ true }
-    requires left { AreLeft model.now kind (left (body_of model.now kind) at) course.old.locals }
-    requires cells { AreCellsOf model.now (cells_of course.old) }
-    requires few { length course.old.items < most_items }
-    requires cheap { course.old.cost < most_items }
-    ensures { IfOk result (λ way. Goes model.now code.now kind at course.old way course.new) }
+    requires left { AreLeft model.now kind (left (body_of model.now kind) at) so_far.old.locals }
+    requires cells { AreCellsOf model.now (cells_of so_far.old) }
+    requires few { length so_far.old.items < most_items }
+    requires cheap { so_far.old.cost < most_items }
+    ensures { IfOk result (λ way. Goes model.now code.now kind at so_far.old way so_far.new) }
 {
     statements_are_typed();
-    course.pay();
+    so_far.pay();
     match code.next(at) {
-        Instruction::Do(stmt) => match act(alloc, kind, at, stmt, course)? {
+        Instruction::Do(stmt) => match act(alloc, stmt, so_far)? {
             None => Ok(Way::Onward(at + 1)),
-            Some(status) => Ok(Way::Ended(status)),
+            Some(end) => Ok(Way::Ended(end)),
         },
-        Instruction::Test { test, otherwise } => match course.value(test) {
-            Err(fault) => Ok(Way::Ended(Status::Faulted(fault))),
+        Instruction::Test { test, otherwise } => match so_far.value(test) {
+            Err(fault) => Ok(Way::Ended(End::Faulted(fault))),
             Ok(value) => {
                 if truth_in(&value) {
                     Ok(Way::Onward(at + 1))
@@ -101,11 +102,18 @@ fn take(
     }
 }
 
-/// The frame of a step that ends so.
-fn finish(alloc: Global, job: &Job, course: Course, status: Status) -> Result<Fresh, OutOfMemory>
-    ensures { IfOk result (λ fresh. fresh ≡ frame_of job.now status course.entry) }
+/// The frame of a step that ends so at a place.
+fn finish(
+    alloc: Global,
+    job: &Job,
+    at: u32,
+    so_far: StepState,
+    end: End,
+) -> Result<Fresh, OutOfMemory>
+    requires { at + 1 < 2 ^ 32 }
+    ensures { IfOk result (λ fresh. fresh ≡ frame_of job.now (status_of end job.now.state.kind at so_far.entry) so_far.entry) }
 {
-    let frame = course.finish(alloc, job, status)?;
+    let frame = so_far.finish(alloc, job, at, end)?;
     Ok(Fresh::new(frame))
 }
 
@@ -113,7 +121,7 @@ fn finish(alloc: Global, job: &Job, course: Course, status: Status) -> Result<Fr
 fn step(alloc: Global, model: &Model, code: &Code, job: &Job, fuel: u64) -> Result<Fresh, StepEnd>
     requires job { IsJobOf model.now job.now }
     requires code { IsCodeOf (body_of model.now job.now.state.kind) code.now }
-    requires fuel { fuel ≤ 100_000_000 }
+    requires fuel { fuel ≤ step_limit }
     ensures frame { IfOk result (λ fresh. job_frame model.now fuel job.now ≡ Some fresh) }
     ensures fuel { result ≡ Err Fuel → job_frame model.now fuel job.now ≡ None }
 {
@@ -122,27 +130,26 @@ fn step(alloc: Global, model: &Model, code: &Code, job: &Job, fuel: u64) -> Resu
     let kind = job.state.kind;
     let cells = model.cells().len();
     let locals = copy_list(alloc, &job.state.locals)?;
-    let mut course = Course::start(alloc, job.view.get(), cells, locals)?;
+    let mut so_far = StepState::start(alloc, job.view.get(), cells, locals);
     let mut at = job.state.at;
     'places: loop {
         let here = land(model, code, kind, at);
         if is_end(code, here) {
-            return Ok(finish(alloc, job, course, Status::Done(None))?);
+            return Ok(finish(alloc, job, here, so_far, End::Done(None))?);
         }
-        if course.cost() == fuel {
+        if so_far.cost() == fuel {
             return Err(StepEnd::Fuel);
         }
-        match take(alloc, model, code, kind, here, &mut course)? {
+        match take(alloc, model, code, kind, here, &mut so_far)? {
             Way::Onward(to) => at = to,
-            Way::Ended(status) => return Ok(finish(alloc, job, course, status)?),
+            Way::Ended(end) => return Ok(finish(alloc, job, here, so_far, end)?),
         }
     }
 }
 
 /// The step of a job: its frame, or `StepEnd::Fuel` exactly where it costs more than the fuel, which is at most
-/// 100,000,000. The code is that of the job's body. It takes time about linear in the statements that are run and in the
-/// cells of the model, and copies the cells only at the first effect. The frame is a valid record: it is the step of every job
-/// that it fits.
+/// 100,000,000. The code is that of the job's body. It takes time about linear in the statements that are run, and none for
+/// cells that they do not touch. The frame is a valid record: it is the step of every job that it fits.
 #[tactic(auto, using(crate::proofs::Validity::frames_are_valid))]
 pub fn run_step(
     alloc: Global,
@@ -153,7 +160,7 @@ pub fn run_step(
 ) -> Result<Fresh, StepEnd>
     requires job { IsJobOf model.now job.now }
     requires code { IsCodeOf (body_of model.now job.now.state.kind) code.now }
-    requires fuel { fuel ≤ 100_000_000 }
+    requires fuel { fuel ≤ step_limit }
     ensures frame { IfOk result (λ fresh. job_frame model.now fuel job.now ≡ Some fresh) }
     ensures fuel { result ≡ Err Fuel → job_frame model.now fuel job.now ≡ None }
     ensures valid { IfOk result (λ fresh. IsValid model.now (record_of fresh)) }

@@ -1,132 +1,80 @@
 //! The cells as a step sees them: those of its view with its own effects, and which of them it read.
 
-ghost use Rattle.std.specs.Prelude.{◌≡◌, ◌<◌, length, slice_get, IsSome, OnOk, Some};
-ghost use Rattle.aerie_base.specs.expressions.Arithmetic.{ranged};
-ghost use Rattle.aerie_base.specs.expressions.Readings.{also, on_number, rate_ranged, reading};
+ghost use Rattle.std.specs.Prelude.{◌≡◌, ◌<◌, ◌≤◌, [], length, replicate, false, slice_get, IsSome, OnOk, Some};
 ghost use Rattle.effect_cells.specs.Cells.{emitted, IsSmallOn};
-ghost use Rattle.effect_cells.specs.Reads.{state_kind, state_value};
-ghost use Rattle.task_step.specs.OwnCells.{current};
+ghost use Rattle.task_step.specs.Overlays.{overlaid, written_state};
 
-use aerie_base::{CellRead, Fault, List, Look, Number, OutOfMemory, Value};
+use crate::read_flags::ReadFlags;
+use crate::written_cells::WrittenCells;
+use aerie_base::{CellRead, Fault, Look, OutOfMemory, Value};
 use effect_cells::{CellState, Cells, Effect};
-
-/// The greatest number of a counter and the greatest volume.
-const MOST: i128 = 1_000_000_000_000_000_000;
-
-/// The greatest rate.
-const FASTEST: i128 = 1_000_000_000_000;
-
-/// A whole number that is read.
-fn number_read(number: i128) -> Result<Value, Fault>
-    ensures { result ≡ ranged number }
-{
-    if number < -MOST || MOST < number {
-        return Err(Fault::Range);
-    }
-    match Number::new(number as i64) {
-        Some(number) => Ok(Value::Int(number)),
-        None => Err(Fault::Range),
-    }
-}
-
-/// A rate that is read.
-fn rate_read(rate: i128) -> Result<Value, Fault>
-    ensures { result ≡ rate_ranged rate }
-{
-    if rate < -FASTEST || FASTEST < rate {
-        return Err(Fault::Range);
-    }
-    match Number::new(rate as i64) {
-        Some(rate) => Ok(Value::Int(rate)),
-        None => Err(Fault::Range),
-    }
-}
-
-/// The value of a register that is read.
-fn value_read(value: &Value) -> Result<Value, Fault>
-    ensures { result ≡ on_number ranged value.now }
-{
-    match value {
-        Value::Int(number) => number_read(i128::from(number.get())),
-        Value::Truth(_) | Value::Variant { .. } => Ok(*value),
-    }
-}
-
-/// What a read gives of the state of its cell, which is of its kind.
-fn state_read(read: &CellRead, state: &CellState) -> Result<Value, Fault>
-    requires { IsSome (state_kind read.now (Some state.now)) }
-    ensures { result ≡ reading read.now (state_value read.now (Some state.now)) }
-{
-    match (read, state) {
-        (CellRead::Counter(_), CellState::Counter(number)) => number_read(*number),
-        (CellRead::Register(_), CellState::Register { value, .. }) => value_read(value),
-        (CellRead::Conflicted(_), CellState::Register { conflicted, .. }) => {
-            Ok(Value::Truth(*conflicted))
-        }
-        (CellRead::Volume(_), CellState::Volume { volume, .. }) => number_read(*volume),
-        (CellRead::Rate(_), CellState::Volume { rate, .. }) => rate_read(*rate),
-        _ => unreachable!(),
-    }
-}
-
-/// Notes a cell.
-fn note(noted: &mut List<bool>, cell: usize)
-    ensures { noted.new ≡ also cell noted.old }
-{
-    if cell < noted.items.len() {
-        noted.items[cell] = true;
-    }
-}
+use std::alloc::Global;
 
 /// The cells as a step sees them.
 #[derive(Drop)]
 pub(crate) struct Sight<'a> {
     /// The cells as the step began.
     pub view: &'a Cells,
-    /// The cells with the step's own effects, where it has any.
-    pub own: Option<Cells>,
+    /// Those that the step wrote, as they are by now.
+    pub written: WrittenCells,
     /// For each cell, whether it was read.
-    pub noted: List<bool>,
+    pub read_flags: ReadFlags,
 }
 
 impl<'a> Sight<'a> {
-    /// The cells are the step's own from here on. They are copied at its first effect only.
-    pub(crate) fn split(&mut self) -> Result<(), OutOfMemory>
-        ensures view { self.new.view.now ≡ self.old.view.now }
-        ensures noted { self.new.noted ≡ self.old.noted }
-        ensures cells { current self.new.own self.new.view.now ≡ current self.old.own self.old.view.now }
-        ensures own { OnOk result (IsSome self.new.own) }
+    /// A view of so many cells, none of which was written or read yet.
+    pub(crate) fn new(alloc: Global, view: &'a Cells, cells: usize) -> Sight<'a>
+        requires { cells ≤ 256 }
+        ensures view { result.view.now ≡ view.now }
+        ensures written { result.written ≡ [] }
+        ensures read_flags { result.read_flags ≡ replicate cells false }
     {
-        if self.own.is_none() {
-            let copy = self.view.copy()?;
-            self.own = Some(copy);
+        Sight {
+            view,
+            written: WrittenCells::none(alloc),
+            read_flags: ReadFlags::none(cells),
         }
+    }
+
+    /// The state of a cell, as the step wrote it or else as it is in the view.
+    pub(crate) fn state(&self, cell: u16) -> CellState
+        requires { cell < length (overlaid self.now.view.now self.now.written) }
+        ensures { slice_get (overlaid self.now.view.now self.now.written) cell ≡ Some result }
+    {
+        match self.written.state(cell) {
+            Some(state) => state,
+            None => self.view.state(cell),
+        }
+    }
+
+    /// The cell is the step's own from here on. Its state is copied at its first effect only, and no other cell's.
+    pub(crate) fn split(&mut self, cell: u16) -> Result<(), OutOfMemory>
+        requires cell { cell < length (overlaid self.old.view.now self.old.written) }
+        requires few { length self.old.view.now ≤ 256 }
+        ensures view { self.new.view.now ≡ self.old.view.now }
+        ensures read_flags { self.new.read_flags ≡ self.old.read_flags }
+        ensures cells { overlaid self.new.view.now self.new.written ≡ overlaid self.old.view.now self.old.written }
+        ensures written { OnOk result (IsSome (written_state cell self.new.written)) }
+    {
+        if self.written.has(cell) {
+            return Ok(());
+        }
+        let state = self.view.state(cell);
+        self.written.add(cell, state)?;
         Ok(())
     }
 
-    /// An effect on the step's own cells.
+    /// An effect on a cell that is the step's own.
     pub(crate) fn change(&mut self, cell: u16, effect: &Effect)
-        requires own { IsSome self.old.own }
-        requires cell { cell < length (current self.old.own self.old.view.now) }
-        requires small { IsSmallOn (slice_get (current self.old.own self.old.view.now) cell) effect.now }
+        requires written { IsSome (written_state cell self.old.written) }
+        requires cell { cell < length (overlaid self.old.view.now self.old.written) }
+        requires small { IsSmallOn (slice_get (overlaid self.old.view.now self.old.written) cell) effect.now }
         ensures view { self.new.view.now ≡ self.old.view.now }
-        ensures noted { self.new.noted ≡ self.old.noted }
-        ensures cells { current self.new.own self.new.view.now ≡ emitted (current self.old.own self.old.view.now) cell effect.now }
+        ensures read_flags { self.new.read_flags ≡ self.old.read_flags }
+        ensures cells { overlaid self.new.view.now self.new.written ≡ emitted (overlaid self.old.view.now self.old.written) cell effect.now }
     {
-        match &mut self.own {
-            Some(own) => own.emit(cell, effect),
-            None => unreachable!(),
-        }
-    }
-
-    /// The cells with the step's own effects.
-    fn cells(&self) -> &Cells
-        ensures { result.now ≡ current self.now.own self.now.view.now }
-    {
-        match &self.own {
-            None => self.view,
-            Some(own) => own,
-        }
+        let state = self.state(cell).after(effect);
+        self.written.set(cell, state);
     }
 }
 
@@ -134,25 +82,24 @@ impl<'a> Look for Sight<'a> {
     ghost use Rattle.std.specs.Prelude.{List};
     ghost use Rattle.effect_cells.specs.declared.effects.CellState.{CellState};
     ghost use Rattle.effect_cells.specs.Reads.{kind_on, value_on};
-    ghost use Rattle.task_step.specs.OwnCells.{current};
+    ghost use Rattle.task_step.specs.Overlays.{overlaid, written_state};
     ghost use Rattle.task_step.specs.ReadingCells.{are_readings};
 
-    ghost kinds = { λ sight. kind_on (current sight.own sight.view.now) };
+    ghost kinds = { λ sight. kind_on (overlaid sight.view.now sight.written) };
 
-    ghost values = { λ sight. value_on (current sight.own sight.view.now) };
+    ghost values = { λ sight. value_on (overlaid sight.view.now sight.written) };
 
-    ghost noted = { λ sight. sight.noted };
+    ghost read_flags = { λ sight. sight.read_flags };
 
-    ghost Still = { List CellState × List CellState };
+    ghost Unchanged = { List CellState × List CellState };
 
-    ghost still = { λ sight. (sight.view.now, current sight.own sight.view.now) };
+    ghost unchanged = { λ sight. (sight.view.now, overlaid sight.view.now sight.written) };
 
-    ghost readings = { λ sight. are_readings (current sight.own sight.view.now) };
+    ghost readings = { λ sight. are_readings (overlaid sight.view.now sight.written) };
 
     fn look(&mut self, read: CellRead) -> Result<Value, Fault> {
         let cell = read.cell();
-        note(&mut self.noted, usize::from(cell));
-        let state = self.cells().state(cell);
-        state_read(&read, &state)
+        self.read_flags.note(cell);
+        self.state(cell).read(read)
     }
 }

@@ -1,14 +1,12 @@
 //! What statements make of values.
 
 ghost use Rattle.std.specs.Prelude.{◌≡◌, ◌≤◌};
-ghost use Rattle.aerie_base.specs.expressions.Arithmetic.{number_in};
-ghost use Rattle.run_data.specs.Steps.{delay_of, effect_of, emission_expr};
-ghost use Rattle.task_step.specs.OwnCells.{effect_magnitude};
+ghost use Rattle.aerie_base.specs.Ranges.{number_limit};
+ghost use Rattle.run_data.specs.Magnitudes.{effect_magnitude};
+ghost use Rattle.run_data.specs.Steps.{effect_of, emission_expr};
 
-use crate::values::number_in;
-use aerie_base::{Emission, Expr, Fault, Number, Value};
+use aerie_base::{Emission, Expr, Value, number_in};
 use effect_cells::{Change, Effect};
-use run_data::{Status, TaskState};
 
 /// The expression of an emission.
 pub(crate) fn emission_expr(what: &Emission) -> &Expr
@@ -25,7 +23,7 @@ pub(crate) fn emission_expr(what: &Emission) -> &Expr
 /// The effect of an emission, by the value of its expression.
 pub(crate) fn effect_of(what: &Emission, value: &Value) -> Effect
     ensures value { result ≡ effect_of what.now value.now }
-    ensures small { effect_magnitude result ≤ 1_000_000_000_000_000_000 }
+    ensures small { effect_magnitude result ≤ number_limit }
 {
     match what {
         Emission::Add(_) => Effect::Add(i128::from(number_in(value))),
@@ -38,21 +36,5 @@ pub(crate) fn effect_of(what: &Emission, value: &Value) -> Effect
             volume: 0,
             rate: i128::from(number_in(value)),
         },
-    }
-}
-
-/// How a delay by a value ends the step: a negative delay is a fault.
-pub(crate) fn delay_of(value: &Value, next: TaskState) -> Status
-    ensures { result ≡ delay_of (number_in value.now) next }
-{
-    match Number::new(number_in(value)) {
-        Some(by) => {
-            if by.get() < 0 {
-                Status::Faulted(Fault::NegativeDelay)
-            } else {
-                Status::Delayed { by, next }
-            }
-        }
-        None => unreachable!(),
     }
 }

@@ -1,7 +1,7 @@
 pub mod FormLaws
+pub mod Telling
 pub mod Products
 pub mod Signs
-pub mod Standing
 pub mod Steady
 pub mod There
 pub mod WakeLaws

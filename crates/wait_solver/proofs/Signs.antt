@@ -1,15 +1,16 @@
 -- A comparison of two numbers goes by the sign of their difference.
-use Rattle.std.proofs.Common.{◌≡◌, ℕ, zero, suc, ◌*◌, ◌/◌, ◌<◌, ◌≤◌, ℤ, pos, negsuc, ◌+ℤ◌, ◌-ℤ◌, ◌*ℤ◌, ◌<ℤ◌, Bool, true, false, not, Option, Some, None, refl, ap, arith, int_lt, int_le}
-use Rattle.std.specs.Prelude.{⊤, ◌-◌}
+use Rattle.std.proofs.Common.{◌≡◌, ℕ, zero, suc, ◌*◌, ◌/◌, ◌<◌, ◌≤◌, ℤ, pos, negsuc, ◌+ℤ◌, ◌-ℤ◌, ◌*ℤ◌, ◌<ℤ◌, Bool, true, false, not, refl, ap, arith, int_lt, int_le}
+use Rattle.std.specs.Prelude.{◌-◌}
 use Rattle.std.proofs.lemmas.Int.{ints}
 use Rattle.std.proofs.Math.Nat.{div-mul-le_self, mul_comm}
 use Rattle.std.proofs.Math.IntN.{*ℤ-zero, zero-*ℤ, pos-*ℤ-pos, negsuc-*ℤ-pos}
 use Rattle.std.proofs.lemmas.Nat.{mul-le}
-use Rattle.aerie_base.specs.expressions.Arithmetic.{same_number, compares}
+use Rattle.std.specs.Ordering.{int_eq}
+use Rattle.aerie_base.specs.expressions.Arithmetic.{compared}
 use Rattle.aerie_base.specs.declared.expressions.Comparison.{Comparison}
 use Rattle.aerie_base.specs.declared.expressions.Comparison.TheVariants as by
-use Rattle.aerie_base.specs.declared.values.Value.TheVariants.{Int}
 use Rattle.wait_solver.specs.Changes.{until_reached, until_change}
+use Rattle.wait_solver.specs.Outlooks.{IsBefore}
 
 pub data Sign : Type 0 where
   below : Sign
@@ -58,38 +59,30 @@ most a b h = grind (arith, ints)
 not_most : (a b : ℤ) → a <ℤ b → int_le b a ≡ false
 not_most a b h = grind (arith, ints)
 
-same_is : (a b : ℤ) → same_number a b ≡ true → a ≡ b
-same_is (pos a) (pos b) h = let n : a ≡ b = grind arith in ap pos n
-same_is (pos a) (negsuc b) h = absurd (cc)
-same_is (negsuc a) (pos b) h = absurd (cc)
-same_is (negsuc a) (negsuc b) h = let n : a ≡ b = grind arith in ap negsuc n
-
-apart : (a b : ℤ) → (a ≡ b → ⊥) → same_number a b ≡ false
-apart a b other = go (same_number a b) refl
-  where
-    go : (v : Bool) → same_number a b ≡ v → same_number a b ≡ false
-    go true e = absurd (other (same_is a b e))
-    go false e = e
-
-itself : (a : ℤ) → same_number a a ≡ true
-itself (pos a) = grind arith
-itself (negsuc a) = grind arith
-
 not_less_itself : (a : ℤ) → int_lt a a ≡ false
 not_less_itself a = grind (arith, ints)
+
+apart_below : (a b : ℤ) → a <ℤ b → int_eq a b ≡ false
+apart_below a b h = rw (less a b h) refl
+
+apart_above : (a b : ℤ) → b <ℤ a → int_eq a b ≡ false
+apart_above a b h = rw (not_less b a h, less b a h) refl
+
+itself : (a : ℤ) → int_eq a a ≡ true
+itself a = rw (not_less_itself a) refl
 
 most_itself : (a : ℤ) → int_le a a ≡ true
 most_itself a = grind (arith, ints)
 
-answers_below : (how : Comparison) (a b : ℤ) → a <ℤ b → compares how (Int a) (Int b) ≡ answer how below
-answers_below by.Equal a b h = apart a b (λ same. omega (arith, ints, same, h))
-answers_below by.Unequal a b h = ap not (apart a b (λ same. omega (arith, ints, same, h)))
+answers_below : (how : Comparison) (a b : ℤ) → a <ℤ b → compared how a b ≡ answer how below
+answers_below by.Equal a b h = apart_below a b h
+answers_below by.Unequal a b h = ap not (apart_below a b h)
 answers_below by.Less a b h = less a b h
 answers_below by.AtMost a b h = most a b h
 answers_below by.More a b h = not_less a b h
 answers_below by.AtLeast a b h = not_most a b h
 
-answers_at : (how : Comparison) (a : ℤ) → compares how (Int a) (Int a) ≡ answer how at
+answers_at : (how : Comparison) (a : ℤ) → compared how a a ≡ answer how at
 answers_at by.Equal a = itself a
 answers_at by.Unequal a = ap not (itself a)
 answers_at by.Less a = not_less_itself a
@@ -97,19 +90,19 @@ answers_at by.AtMost a = most_itself a
 answers_at by.More a = not_less_itself a
 answers_at by.AtLeast a = most_itself a
 
-answers_above : (how : Comparison) (a b : ℤ) → b <ℤ a → compares how (Int a) (Int b) ≡ answer how above
-answers_above by.Equal a b h = apart a b (λ same. omega (arith, ints, same, h))
-answers_above by.Unequal a b h = ap not (apart a b (λ same. omega (arith, ints, same, h)))
+answers_above : (how : Comparison) (a b : ℤ) → b <ℤ a → compared how a b ≡ answer how above
+answers_above by.Equal a b h = apart_above a b h
+answers_above by.Unequal a b h = ap not (apart_above a b h)
 answers_above by.Less a b h = not_less b a h
 answers_above by.AtMost a b h = not_most b a h
 answers_above by.More a b h = less b a h
 answers_above by.AtLeast a b h = most b a h
 
 -- the answer goes by the sign of the difference alone
-pub compares_by_sign : (how : Comparison) (a b : ℤ) → compares how (Int a) (Int b) ≡ answer how (sign_of (a -ℤ b))
-compares_by_sign how a b = go (a -ℤ b) refl
+pub compared_by_sign : (how : Comparison) (a b : ℤ) → compared how a b ≡ answer how (sign_of (a -ℤ b))
+compared_by_sign how a b = go (a -ℤ b) refl
   where
-    go : (d : ℤ) → a -ℤ b ≡ d → compares how (Int a) (Int b) ≡ answer how (sign_of (a -ℤ b))
+    go : (d : ℤ) → a -ℤ b ≡ d → compared how a b ≡ answer how (sign_of (a -ℤ b))
     go (pos zero) e =
         let same : a ≡ b = omega (arith, ints, e) in
         rw e (rw same (answers_at how b))
@@ -117,10 +110,6 @@ compares_by_sign how a b = go (a -ℤ b) refl
     go (negsuc n) e = rw e (answers_below how a b (omega (arith, ints, e)))
 
 -- ---- how long a number keeps its sign
-
-abbrev pub IsBefore : ℕ → Option ℕ → Type 0
-IsBefore n None = ⊤
-IsBefore n (Some change) = n < change
 
 not_reached : (away nearer n : ℕ) → n < until_reached (suc away) (suc nearer) → suc nearer * n ≤ away
 not_reached away nearer n h =

@@ -1,16 +1,14 @@
--- A condition answers the same until a comparison in it changes.
-use Rattle.std.proofs.Common.{◌≡◌, ℕ, ◌+◌, ℤ, pos, ◌+ℤ◌, ◌-ℤ◌, ◌*ℤ◌, Bool, true, not, ◌&&◌, ◌||◌, List, [], Option, Some, None, slice_get, refl, ap, sym, ◌∙◌, arith, if◌then◌else◌}
+-- What stands while time passes, and a comparison until the difference of its sides changes its sign.
+use Rattle.std.proofs.Common.{◌≡◌, ℕ, ◌+◌, ℤ, pos, ◌+ℤ◌, ◌-ℤ◌, ◌*ℤ◌, Bool, true, not, List, [], Option, Some, None, slice_get, refl, ap, sym, ◌∙◌, arith, if◌then◌else◌}
 use Rattle.std.specs.Prelude.{IsSome}
 use Rattle.std.specs.Option.{option_map}
 use Rattle.std.proofs.lemmas.Int.{ints}
-use Rattle.std.proofs.lemmas.Bool.{and_parts}
 use Rattle.std.proofs.lemmas.Option.{slice_get-map}
 use Rattle.aerie_base.specs.conditions.Holding.{holds, holds_step, operand_value, side_value}
-use Rattle.aerie_base.specs.expressions.Arithmetic.{truth_in, same_value, compares}
+use Rattle.aerie_base.specs.expressions.Arithmetic.{truth_in, same_value, compared}
 use Rattle.aerie_base.specs.expressions.Readings.{cell_of}
 use Rattle.aerie_base.specs.models.Conditions.{may_equal}
 use Rattle.aerie_base.specs.declared.values.Kind.{Kind}
-use Rattle.aerie_base.specs.declared.values.Value.TheVariants.{Int}
 use Rattle.aerie_base.specs.declared.operands.CellRead.{CellRead}
 use Rattle.aerie_base.specs.declared.operands.CellRead.TheVariants as read
 use Rattle.aerie_base.specs.declared.operands.Operand.{Operand}
@@ -19,23 +17,22 @@ use Rattle.aerie_base.specs.declared.linear.Linear.{Linear}
 use Rattle.aerie_base.specs.declared.expressions.Comparison.{Comparison}
 use Rattle.aerie_base.specs.declared.conditions.Simple.{Simple}
 use Rattle.aerie_base.specs.declared.conditions.Simple.TheVariants as simple
-use Rattle.aerie_base.specs.declared.conditions.Cond.{Cond, Literal, Flag, Same, Compare, Not', And', Or', more_of-Cond, end_of-Cond}
+use Rattle.aerie_base.specs.declared.conditions.Cond.{Compare}
 use Rattle.aerie_base.specs.declared.conditions.Cond.TheOpen.{Cond-F}
-use Rattle.aerie_base.specs.declared.conditions.Cond.TheBlock.{hidden-the_row-Cond-0, shape-the_row-Cond-0}
-use denote.Hole.Carrier.{hidden}
 use Rattle.effect_cells.specs.Cells.{passed}
 use Rattle.effect_cells.specs.Reads.{state_value, value_on, kind_on}
-use Rattle.effect_cells.specs.Solvable.{may_be_solved, side_kind}
+use Rattle.effect_cells.specs.Solvable.{filled_side_kind}
 use Rattle.effect_cells.specs.States.{later}
 use Rattle.effect_cells.specs.WakeTimes.{holds_in}
 use Rattle.effect_cells.specs.declared.effects.CellState.{CellState}
 use Rattle.effect_cells.specs.declared.effects.CellState.TheVariants.{Counter, Register, Volume}
 use Rattle.wait_solver.specs.Lines.{value_at, form_line, gap_from}
-use Rattle.wait_solver.specs.Changes.{until_change, earlier, next_change}
+use Rattle.wait_solver.specs.Changes.{until_change}
+use Rattle.wait_solver.specs.Outlooks.{IsBefore, earlier}
 use Rattle.wait_solver.specs.declared.lines.Line.{Line}
 use Rattle.wait_solver.proofs.FormLaws.{form_at}
 use Rattle.wait_solver.proofs.Products.{difference_times}
-use Rattle.wait_solver.proofs.Signs.{IsBefore, answer, sign_of, compares_by_sign, keeps_sign}
+use Rattle.wait_solver.proofs.Signs.{answer, sign_of, compared_by_sign, keeps_sign}
 
 -- ---- what stands while time passes
 
@@ -75,7 +72,7 @@ module _ (cells : List CellState) where
   flag_stands (Local slot) dt = refl
 
   -- a side of an equality is a literal or a register
-  pub side_stands : (side : Simple) (dt : ℕ) → IsSome (side_kind (kind_on cells) side) → side_value (value_on (passed cells dt)) [] side ≡ side_value (value_on cells) [] side
+  pub side_stands : (side : Simple) (dt : ℕ) → IsSome (filled_side_kind (kind_on cells) side) → side_value (value_on (passed cells dt)) [] side ≡ side_value (value_on cells) [] side
   side_stands (simple.Literal value) dt typed = refl
   side_stands (simple.Operand (Read (read.Register cell))) dt typed =
       ap (state_value (read.Register cell)) (slice_get-map (later dt) cells cell) ∙ register_stands cell (slice_get cells cell) dt
@@ -90,20 +87,20 @@ module _ (cells : List CellState) where
 gap_at : (a b : Line) (dt n : ℕ) → value_at a (dt + n) -ℤ value_at b (dt + n) ≡ (gap_from dt a b).value +ℤ (gap_from dt a b).rate *ℤ pos n
 gap_at a b dt n = let spread = difference_times a.rate b.rate n in omega (arith, ints, spread)
 
-compares_alike : (how : Comparison) (a b : Line) (dt n : ℕ) → IsBefore n (until_change (gap_from dt a b)) →
-    compares how (Int (value_at a (dt + n))) (Int (value_at b (dt + n))) ≡ compares how (Int (value_at a dt)) (Int (value_at b dt))
-compares_alike how a b dt n before =
-    compares_by_sign how (value_at a (dt + n)) (value_at b (dt + n))
+compared_alike : (how : Comparison) (a b : Line) (dt n : ℕ) → IsBefore n (until_change (gap_from dt a b)) →
+    compared how (value_at a (dt + n)) (value_at b (dt + n)) ≡ compared how (value_at a dt) (value_at b dt)
+compared_alike how a b dt n before =
+    compared_by_sign how (value_at a (dt + n)) (value_at b (dt + n))
     ∙ ap (λ (d : ℤ). answer how (sign_of d)) (gap_at a b dt n)
     ∙ ap (answer how) (keeps_sign (gap_from dt a b).value (gap_from dt a b).rate n before)
-    ∙ sym (compares_by_sign how (value_at a dt) (value_at b dt))
+    ∙ sym (compared_by_sign how (value_at a dt) (value_at b dt))
 
-before_left : (n : ℕ) (a b : Option ℕ) → IsBefore n (earlier a b) → IsBefore n a
+pub before_left : (n : ℕ) (a b : Option ℕ) → IsBefore n (earlier a b) → IsBefore n a
 before_left n None b h = tt
 before_left n (Some a) None h = h
 before_left n (Some a) (Some b) h = omega (arith, h)
 
-before_right : (n : ℕ) (a b : Option ℕ) → IsBefore n (earlier a b) → IsBefore n b
+pub before_right : (n : ℕ) (a b : Option ℕ) → IsBefore n (earlier a b) → IsBefore n b
 before_right n None b h = h
 before_right n (Some a) None h = tt
 before_right n (Some a) (Some b) h = omega (arith, h)
@@ -120,7 +117,7 @@ typed_right (Some a) None h = absurd (cc)
 typed_right (Some a) (Some b) h = refl
 
 -- an equality answers after a time what it answers now
-pub equality_moves : (cells : List CellState) (left right : Simple) (equal : Bool) (dt : ℕ) → may_equal (side_kind (kind_on cells) left) (side_kind (kind_on cells) right) ≡ true →
+pub equality_moves : (cells : List CellState) (left right : Simple) (equal : Bool) (dt : ℕ) → may_equal (filled_side_kind (kind_on cells) left) (filled_side_kind (kind_on cells) right) ≡ true →
     holds_step (Cond-F.Same left right equal) (value_on (passed cells dt)) [] ≡ holds_step (Cond-F.Same left right equal) (value_on cells) []
 equality_moves cells left right equal dt typed =
     let left_same = side_stands cells left dt (typed_left _ _ typed) in
@@ -128,31 +125,10 @@ equality_moves cells left right equal dt typed =
     λ i. let same = same_value (left_same i) (right_same i) in if equal then same else not same
 
 module _ (cells : List CellState) (dt n : ℕ) where
-  equality_stands : (left right : Simple) (equal : Bool) → may_equal (side_kind (kind_on cells) left) (side_kind (kind_on cells) right) ≡ true →
-      holds_in cells (Same left right equal) (dt + n) ≡ holds_in cells (Same left right equal) dt
-  unfolding holds
-  equality_stands left right equal typed = equality_moves cells left right equal (dt + n) typed ∙ sym (equality_moves cells left right equal dt typed)
-
-  comparison_stands : (left : Linear) (how : Comparison) (right : Linear) → IsBefore n (until_change (gap_from dt (form_line cells left) (form_line cells right))) →
+  pub comparison_stands : (left : Linear) (how : Comparison) (right : Linear) → IsBefore n (until_change (gap_from dt (form_line cells left) (form_line cells right))) →
       holds_in cells (Compare left how right) (dt + n) ≡ holds_in cells (Compare left how right) dt
   unfolding holds
   comparison_stands left how right before =
-      (λ i. compares how (Int (form_at cells (dt + n) left i)) (Int (form_at cells (dt + n) right i)))
-      ∙ compares_alike how (form_line cells left) (form_line cells right) dt n before
-      ∙ sym (λ i. compares how (Int (form_at cells dt left i)) (Int (form_at cells dt right i)))
-
-  -- until a comparison changes, the condition answers the same
-  pub steady : (condition : Cond) → may_be_solved (kind_on cells) condition ≡ true → IsBefore n (next_change cells dt condition) →
-      holds_in cells condition (dt + n) ≡ holds_in cells condition dt
-  unfolding holds next_change may_be_solved hidden-the_row-Cond-0 shape-the_row-Cond-0 hidden
-  steady (Literal truth) solvable before = refl
-  steady (Flag operand) solvable before = flag_stands cells operand (dt + n) ∙ sym (flag_stands cells operand dt)
-  steady (Same left right equal) solvable before = equality_stands left right equal solvable
-  steady (Compare left how right) solvable before = comparison_stands left how right before
-  steady (Not' s (more_of-Cond part end_of-Cond)) solvable before = ap not (steady part solvable before)
-  steady (And' s (more_of-Cond left end_of-Cond) t (more_of-Cond right end_of-Cond)) solvable before =
-      let both = and_parts _ _ solvable in
-      λ i. steady left both.0 (before_left n _ _ before) i && steady right both.1 (before_right n _ _ before) i
-  steady (Or' s (more_of-Cond left end_of-Cond) t (more_of-Cond right end_of-Cond)) solvable before =
-      let both = and_parts _ _ solvable in
-      λ i. steady left both.0 (before_left n _ _ before) i || steady right both.1 (before_right n _ _ before) i
+      (λ i. compared how (form_at cells (dt + n) left i) (form_at cells (dt + n) right i))
+      ∙ compared_alike how (form_line cells left) (form_line cells right) dt n before
+      ∙ sym (λ i. compared how (form_at cells dt left i) (form_at cells dt right i))

@@ -1,3 +1,3 @@
 pub mod Changes
-pub mod Holding
 pub mod Lines
+pub mod Outlooks

@@ -1,10 +1,10 @@
 //! Linear forms as numbers that change at a constant rate.
 
+ghost use Rattle.aerie_base.specs.Ranges.{number_limit, rate_limit};
 ghost use Rattle.std.specs.Prelude.{◌≡◌, ◌^◌, Some, IsTrue, true};
-ghost use Rattle.aerie_base.specs.Ranges.{IsNumber};
-ghost use Rattle.aerie_base.specs.expressions.Arithmetic.{number_in};
 ghost use Rattle.aerie_base.specs.declared.values.Kind.TheVariants.{Int};
-ghost use Rattle.aerie_base.specs.models.Conditions.{operand_kind, is_term};
+ghost use Rattle.aerie_base.specs.expressions.Typing.{operand_kind};
+ghost use Rattle.aerie_base.specs.models.Conditions.{is_term};
 ghost use Rattle.aerie_base.specs.models.Expressions.{is_kind_of};
 ghost use Rattle.effect_cells.specs.Cells.{AreInRange};
 ghost use Rattle.effect_cells.specs.Reads.{kind_on};
@@ -13,29 +13,20 @@ ghost use Rattle.effect_cells.specs.States.{is_in_range};
 ghost use Rattle.wait_solver.specs.Lines.{state_line, operand_line, term_line, form_line, IsWithin};
 
 use crate::lines::Line;
-use aerie_base::{CellRead, Linear, Operand, Term, Value};
+use aerie_base::{CellRead, Linear, Operand, Term, number_in};
 use effect_cells::{CellState, Cells};
-
-/// The whole number that a value is.
-fn number_in(value: &Value) -> i128
-    ensures value { result ≡ number_in value.now }
-    ensures range { IsNumber result }
-{
-    match value {
-        Value::Int(number) => i128::from(number.get()),
-        Value::Truth(_) | Value::Variant { .. } => 0,
-    }
-}
 
 /// What is read of a state that is in range.
 fn state_line(read: CellRead, state: &CellState) -> Line
     requires { is_in_range state.now ≡ true }
     ensures value { result ≡ state_line read (Some state.now) }
-    ensures small { IsWithin 1_000_000_000_000_000_000 1_000_000_000_000 result }
+    ensures small { IsWithin number_limit rate_limit result }
 {
     match (read, state) {
         (CellRead::Counter(_), CellState::Counter(number)) => Line::still(*number),
-        (CellRead::Register(_), CellState::Register { value, .. }) => Line::still(number_in(value)),
+        (CellRead::Register(_), CellState::Register { value, .. }) => {
+            Line::still(i128::from(number_in(value)))
+        }
         (CellRead::Volume(_), CellState::Volume { volume, rate }) => Line {
             value: *volume,
             rate: *rate,
@@ -51,7 +42,7 @@ fn operand_line(operand: Operand, cells: &Cells) -> Line
     requires range { AreInRange cells.now }
     requires kind { IsTrue (is_kind_of (operand_kind no_locals (kind_on cells.now) operand) Int) }
     ensures value { result ≡ operand_line cells.now operand }
-    ensures small { IsWithin 1_000_000_000_000_000_000 1_000_000_000_000 result }
+    ensures small { IsWithin number_limit rate_limit result }
 {
     match operand {
         Operand::Read(read) => state_line(read, &cells.state(read.cell())),

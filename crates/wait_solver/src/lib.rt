@@ -6,9 +6,10 @@ mod changes;
 mod forms;
 mod holding;
 mod lines;
+mod outlooks;
 mod waiting;
 
-pub use waiting::earliest;
+pub use waiting::{earliest, holds_now};
 
 #[cfg(test)]
 mod tests;

@@ -1,7 +1,7 @@
 //! Numbers that change at a constant rate.
 
 ghost use Rattle.std.specs.Prelude.{◌≡◌, ◌≤◌, ◌<◌, ◌+◌, ◌*◌, ◌^◌, ◌-ℤ◌, ◌*ℤ◌, unsigned_abs};
-ghost use Rattle.aerie_base.specs.Ranges.{IsTime};
+ghost use Rattle.aerie_base.specs.Ranges.{IsTime, number_limit, rate_limit};
 ghost use Rattle.wait_solver.specs.Lines.{value_at, still, sum_of, scaled, gap_from, IsWithin};
 
 /// A number that changes at a constant rate.
@@ -41,7 +41,7 @@ impl Line {
     /// So many times the number.
     pub(crate) fn times(self, factor: i64) -> Line
         requires factor { unsigned_abs factor ≤ 1_000_000 }
-        requires small { IsWithin 1_000_000_000_000_000_000 1_000_000_000_000 self }
+        requires small { IsWithin number_limit rate_limit self }
         ensures value { result ≡ scaled factor self }
         ensures small { IsWithin 1_000_000_000_000_000_000_000_000 1_000_000_000_000_000_000 result }
     {
@@ -81,7 +81,7 @@ impl Line {
 #[tactic(auto, using(crate::proofs::Products::product_within))]
 fn product(factor: i128, number: i128) -> i128
     requires factor { unsigned_abs factor ≤ 1_000_000 }
-    requires number { unsigned_abs number ≤ 1_000_000_000_000_000_000 }
+    requires number { unsigned_abs number ≤ number_limit }
     ensures value { result ≡ factor *ℤ number }
     ensures small { unsigned_abs result ≤ 1_000_000 * unsigned_abs number }
 {

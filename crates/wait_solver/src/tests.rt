@@ -2,7 +2,8 @@
 
 ghost use Rattle.std.specs.Prelude.{◌≡◌, ℕ, List as Items, [], Some, IfOk, IsTrue, true, false, length};
 ghost use Rattle.aerie_base.specs.declared.values.Kind.TheVariants.{Int, Truth};
-ghost use Rattle.aerie_base.specs.models.Conditions.{operand_kind, is_term};
+ghost use Rattle.aerie_base.specs.expressions.Typing.{operand_kind};
+ghost use Rattle.aerie_base.specs.models.Conditions.{is_term};
 ghost use Rattle.aerie_base.specs.models.ValidModel.{valid_model};
 ghost use Rattle.aerie_base.specs.models.Expressions.{is_kind_of};
 ghost use Rattle.effect_cells.specs.Cells.{AreInRange};
@@ -10,7 +11,6 @@ ghost use Rattle.effect_cells.specs.Reads.{kind_on, state_kind};
 ghost use Rattle.effect_cells.specs.Solvable.{no_locals, is_form_for, may_be_solved, may_be_solved_by_fold};
 
 use super::*;
-use crate::holding::holds_in;
 use aerie_base::{
     Boxed, CellRead, CellStart, Comparison, Cond, Kind, Linear, List, Model, Name, Number, Operand,
     OutOfMemory, Term, Time, Value,
@@ -118,20 +118,25 @@ fn solved(condition: &Cond, cells: &Cells, limit: i64) -> Result<Option<Time>, F
 }
 
 /// The same by a search over all times, each with cells that have passed so far.
-fn searched(condition: &Cond, cells: &Cells, limit: i64) -> Result<Option<Time>, Fail>
+fn searched(
+    alloc: Global,
+    condition: &Cond,
+    cells: &Cells,
+    limit: i64,
+) -> Result<Option<Time>, Fail>
     requires cells { length cells.now ≡ 1 }
     requires range { AreInRange cells.now }
 {
     for dt in 0..limit {
         let dt = Time::new(dt).ok_or("no time")?;
-        let mut moved = cells.copy()?;
+        let mut moved = cells.copy(alloc)?;
         if moved.passed(dt).is_err() {
             return Err("out of range".into());
         }
         if !is_good(condition, &moved) {
             return Err("not solvable".into());
         }
-        if holds_in(condition, &moved, 0) {
+        if holds_now(condition, &moved) {
             return Ok(Some(dt));
         }
     }
@@ -144,6 +149,7 @@ fn declared(alloc: Global, volume: Number) -> Result<Vec<(Name, CellStart)>, Fai
     ensures valid { IfOk result (λ cells. (name : Items ℕ) → IsTrue (valid_model (record { name = name; enums = []; cells = cells.items; resources = []; activities = []; daemons = [] }))) }
 {
     let tank = Name::new(alloc, "tank")?.ok_or("no name")?;
+    let _in_range = volume.get();
     let start = CellStart::Accumulator { volume, rate: 3 };
     Ok(vec![in alloc; (tank, start)]?)
 }
@@ -221,25 +227,25 @@ const HOWS: [Comparison; 6] = [
 ];
 
 /// Whether the least time is the one that a search finds.
-fn is_agreed(condition: &Cond, cells: &Cells) -> Result<bool, Fail>
+fn is_agreed(alloc: Global, condition: &Cond, cells: &Cells) -> Result<bool, Fail>
     requires one { length cells.now ≡ 1 }
     requires range { AreInRange cells.now }
 {
-    Ok(solved(condition, cells, 12)? == searched(condition, cells, 12)?)
+    Ok(solved(condition, cells, 12)? == searched(alloc, condition, cells, 12)?)
 }
 
 fn agrees_alone(alloc: Global, how: Comparison, constant: i128) -> Result<bool, Fail> {
     let cells = cells_of(alloc, -4)?;
     let rising = compared(alloc, 1, how, constant)?;
     let falling = compared(alloc, -2, how, constant)?;
-    Ok(is_agreed(&rising, &cells)? && is_agreed(&falling, &cells)?)
+    Ok(is_agreed(alloc, &rising, &cells)? && is_agreed(alloc, &falling, &cells)?)
 }
 
 fn agrees_with_two(alloc: Global, how: Comparison, constant: i128) -> Result<bool, Fail> {
     let cells = cells_of(alloc, -4)?;
     let first = not(alloc, compared(alloc, 1, how, constant)?)?;
     let second = compared(alloc, -1, Comparison::Less, -9)?;
-    is_agreed(&both(alloc, first, second)?, &cells)
+    is_agreed(alloc, &both(alloc, first, second)?, &cells)
 }
 
 fn agrees_with_either(alloc: Global, how: Comparison, constant: i128) -> Result<bool, Fail> {
@@ -247,7 +253,7 @@ fn agrees_with_either(alloc: Global, how: Comparison, constant: i128) -> Result<
     let first = compared(alloc, 1, how, constant)?;
     let second = compared(alloc, 3, Comparison::Equal, 15)?;
     let one = either(alloc, first, second)?;
-    is_agreed(&not(alloc, not(alloc, one)?)?, &cells)
+    is_agreed(alloc, &not(alloc, not(alloc, one)?)?, &cells)
 }
 
 #[test]

@@ -5,10 +5,9 @@ ghost use Rattle.aerie_base.specs.Ranges.{IsTime};
 ghost use Rattle.effect_cells.specs.Cells.{AreInRange};
 ghost use Rattle.effect_cells.specs.Reads.{kind_on};
 ghost use Rattle.effect_cells.specs.Solvable.{may_be_solved};
-ghost use Rattle.effect_cells.specs.WakeTimes.{wake_time};
+ghost use Rattle.effect_cells.specs.WakeTimes.{wake_time, holds_on};
 
-use crate::changes::next_change;
-use crate::holding::holds_in;
+use crate::holding::outlook;
 use aerie_base::{Cond, Time};
 use effect_cells::Cells;
 
@@ -33,9 +32,11 @@ fn time_of(micros: u128) -> Option<Time>
 /// each of its linear forms has at most 16 terms, coefficients from -10^6 to 10^6 and a constant below 2^100 in
 /// magnitude. It takes no memory.
 ///
-/// It goes from each change of a comparison to the next one. A comparison changes at most twice, so that this takes at most
-/// twice as many steps as the condition has comparisons and one more, each in the order of the condition's size,
-/// whatever the limit is.
+/// One pass over the condition tells what it answers at a time and how long at least it answers so: of two joined by `&&`
+/// that do not hold the later end of both, of two that hold the earlier one, and the other way round for `||`. So
+/// thousands of bounds joined by `&&`, or by `||`, take two or three passes. At worst, where both are nested in turns, there
+/// is a pass for each change of a comparison, of which each changes at most twice: twice as many passes as the condition
+/// has comparisons and one more, whatever the limit is.
 pub fn earliest(condition: &Cond, cells: &Cells, limit: Time) -> Option<Time>
     requires range { AreInRange cells.now }
     requires condition { IsTrue (may_be_solved (kind_on cells.now) condition.now) }
@@ -44,13 +45,24 @@ pub fn earliest(condition: &Cond, cells: &Cells, limit: Time) -> Option<Time>
     let limit = micros_of(limit);
     let mut dt: u128 = 0;
     while dt < limit {
-        if holds_in(condition, cells, dt) {
+        let now = outlook(condition, cells, dt);
+        if now.holds {
             return time_of(dt);
         }
-        match next_change(condition, cells, dt) {
+        match now.stays {
             Some(change) => dt += change,
             None => return None,
         }
     }
     None
+}
+
+/// Whether the condition holds on the cells as they are. The same is asked of both as for `earliest`, and it takes one
+/// pass.
+pub fn holds_now(condition: &Cond, cells: &Cells) -> bool
+    requires range { AreInRange cells.now }
+    requires condition { IsTrue (may_be_solved (kind_on cells.now) condition.now) }
+    ensures { result ≡ holds_on cells.now condition.now }
+{
+    outlook(condition, cells, 0).holds
 }

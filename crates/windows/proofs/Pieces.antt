@@ -14,7 +14,8 @@ use Rattle.aerie_base.specs.declared.expressions.Comparison.TheVariants.{Equal, 
 use Rattle.windows.specs.Ends.{clipped}
 use Rattle.windows.specs.Times.{Interval, covers, contains}
 use Rattle.windows.specs.Joining.{last_start, Joins}
-use Rattle.windows.specs.Linear.{segment_value, compared, IsSum}
+use Rattle.aerie_base.specs.expressions.Arithmetic.{compared}
+use Rattle.windows.specs.Linear.{segment_value, IsSum}
 use Rattle.windows.specs.declared.segments.Segment.{Segment}
 use Rattle.windows.specs.Crossing.{order_at, meets, JoinsWhere}
 use Rattle.windows.specs.declared.crossing.Crossing.{Crossing}

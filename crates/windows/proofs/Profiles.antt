@@ -6,7 +6,8 @@ use Rattle.std.proofs.lemmas.Grind.{common_steps}
 use Rattle.aerie_base.specs.declared.expressions.Comparison.{Comparison}
 use Rattle.windows.specs.Times.{Interval, covers, contains, AreIntervals}
 use Rattle.windows.specs.Joining.{last_start}
-use Rattle.windows.specs.Linear.{segment_value, value_at, compared, first_start, Follow, AreSegments, IsSum}
+use Rattle.aerie_base.specs.expressions.Arithmetic.{compared}
+use Rattle.windows.specs.Linear.{segment_value, value_at, first_start, Follow, AreSegments, IsSum}
 use Rattle.windows.specs.declared.segments.Segment.{Segment}
 use Rattle.windows.specs.Crossing.{JoinsWhere}
 use Rattle.windows.proofs.Builds.{Builds, builds_all}

@@ -1,9 +1,8 @@
 -- Profiles that rise and fall in straight lines, and the comparison of their values.
-use Rattle.std.specs.Prelude.{◌≡◌, ℕ, ◌-◌, ◌^◌, ◌<◌, ◌≤◌, ℤ, pos, negsuc, ◌+ℤ◌, ◌*ℤ◌, Bool, true, false, not, cond, List, [], ◌∷◌, nat_le, int_lt, int_le, refl}
+use Rattle.std.specs.Prelude.{◌≡◌, ℕ, ◌-◌, ◌^◌, ◌<◌, ◌≤◌, ℤ, pos, negsuc, ◌+ℤ◌, ◌*ℤ◌, true, false, cond, List, [], ◌∷◌, nat_le, refl}
 use Rattle.std.specs.Int.RustNames.{unsigned_abs}
-use Rattle.std.specs.Ordering.{int_eq}
-use Rattle.aerie_base.specs.declared.expressions.Comparison.{Comparison}
-use Rattle.aerie_base.specs.declared.expressions.Comparison.TheVariants.{Equal, Unequal, Less, AtMost, More, AtLeast}
+use Rattle.aerie_base.specs.expressions.Arithmetic.{compared}
+use Rattle.aerie_base.specs.declared.expressions.Comparison.TheVariants.{Equal, Unequal, Less, AtLeast}
 use Rattle.windows.specs.declared.segments.Segment.{Segment}
 
 -- the value of a segment at a time that is not before it
@@ -15,15 +14,6 @@ abbrev pub value_at : List Segment → ℕ → ℤ
 value_at [] t = pos 0
 value_at (segment ∷ []) t = segment_value segment t
 value_at (segment ∷ next ∷ rest) t = cond (nat_le next.from t) (value_at (next ∷ rest) t) (segment_value segment t)
-
--- whether the two are so compared
-abbrev pub compared : Comparison → ℤ → ℤ → Bool
-compared Equal left right = int_eq left right
-compared Unequal left right = not (int_eq left right)
-compared Less left right = int_lt left right
-compared AtMost left right = int_le left right
-compared More left right = int_lt right left
-compared AtLeast left right = int_le right left
 
 -- so far from 0 at most, and not so far: 2^120
 abbrev pub IsSum : ℤ → Type 0

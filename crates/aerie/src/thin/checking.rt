@@ -186,9 +186,9 @@ fn session_in(alloc: Global, text: Text) -> Result<Session, ReadError>
         client.arguments.as_slice(),
         activity.body.as_slice(),
     )?;
-    let resource = resource.name.copy()?;
+    let resource = resource.name.copy(alloc)?;
     let counter_start = counter.start;
-    let activity = activity.name.copy()?;
+    let activity = activity.name.copy(alloc)?;
     Ok(Session {
         client: client.name,
         branch: plan.branch,

@@ -1,8 +1,9 @@
+-- A file of lemmas: what it proves need not be read to trust a clause.
+--
 -- A condition with its locals filled in holds exactly where the condition holds with these locals.
 use Rattle.std.proofs.Common.{◌≡◌, ℤ, ◌+ℤ◌, ◌*ℤ◌, not, ◌&&◌, ◌||◌, List, [], ◌∷◌, refl, ap, arith, if◌then◌else◌}
 use Rattle.std.proofs.lemmas.Int.{ints}
 use Rattle.aerie_base.specs.declared.values.Value.{Value}
-use Rattle.aerie_base.specs.declared.values.Value.TheVariants.{Int}
 use Rattle.aerie_base.specs.declared.operands.Operand.{Operand}
 use Rattle.aerie_base.specs.declared.operands.Operand.TheVariants.{Read, Local}
 use Rattle.aerie_base.specs.declared.linear.Term.{Term}
@@ -14,7 +15,7 @@ use Rattle.aerie_base.specs.declared.conditions.Cond.TheBlock.{hidden-the_row-Co
 use denote.Hole.Carrier.{hidden}
 use Rattle.aerie_base.specs.conditions.Holding.{Readings, holds, operand_value, side_value, terms_value, linear_value}
 use Rattle.aerie_base.specs.conditions.Filling.{filled, filled_side, with_cell, cell_terms, local_part, local_parts, filled_linear}
-use Rattle.aerie_base.specs.expressions.Arithmetic.{number_in, same_value, compares}
+use Rattle.aerie_base.specs.expressions.Arithmetic.{number_in, same_value, compared}
 
 module _ (readings : Readings) (locals : List Value) where
   side_same : (side : Simple) → side_value readings [] (filled_side locals side) ≡ side_value readings locals side
@@ -41,7 +42,7 @@ module _ (readings : Readings) (locals : List Value) where
   filled_holds (Flag (Read read)) = refl
   filled_holds (Flag (Local slot)) = refl
   filled_holds (Same left right equal) = λ i. let same = same_value (side_same left i) (side_same right i) in if equal then same else not same
-  filled_holds (Compare left how right) = λ i. compares how (Int (linear_same left i)) (Int (linear_same right i))
+  filled_holds (Compare left how right) = λ i. compared how (linear_same left i) (linear_same right i)
   filled_holds (Not' s (more_of-Cond part end_of-Cond)) = ap not (filled_holds part)
   filled_holds (And' s (more_of-Cond left end_of-Cond) t (more_of-Cond right end_of-Cond)) = λ i. filled_holds left i && filled_holds right i
   filled_holds (Or' s (more_of-Cond left end_of-Cond) t (more_of-Cond right end_of-Cond)) = λ i. filled_holds left i || filled_holds right i

@@ -1,7 +1,7 @@
 -- Whether a condition holds, by what the cells and the locals have. A condition never faults: its numbers have no limit.
 use Rattle.std.specs.Prelude.{ℕ, ℤ, pos, ◌+ℤ◌, ◌*ℤ◌, Bool, false, not, ◌&&◌, ◌||◌, List, [], ◌∷◌, slice_index_or, if◌then◌else◌}
 use Rattle.aerie_base.specs.declared.values.Value.{Value}
-use Rattle.aerie_base.specs.declared.values.Value.TheVariants.{Int, Truth}
+use Rattle.aerie_base.specs.declared.values.Value.TheVariants.{Int}
 use Rattle.aerie_base.specs.declared.operands.CellRead.{CellRead}
 use Rattle.aerie_base.specs.declared.operands.Operand.{Operand}
 use Rattle.aerie_base.specs.declared.operands.Operand.TheVariants.{Read, Local}
@@ -12,7 +12,7 @@ use Rattle.aerie_base.specs.declared.conditions.Simple.TheVariants as simple
 use Rattle.aerie_base.specs.declared.conditions.Cond.{Cond}
 use Rattle.aerie_base.specs.declared.conditions.Cond.TheOpen.{Cond-F}
 use Rattle.aerie_base.specs.conditions.Recursion.{cond_gives}
-use Rattle.aerie_base.specs.expressions.Arithmetic.{number_in, truth_in, same_value, compares}
+use Rattle.aerie_base.specs.expressions.Arithmetic.{number_in, truth_in, same_value, compared}
 
 -- what each read of a cell has; a number may be out of its range
 abbrev pub Readings : Type 0
@@ -51,7 +51,7 @@ holds_step (Cond-F.Same left right equal) readings locals =
     let same = same_value (side_value readings locals left) (side_value readings locals right) in
     if equal then same else not same
 holds_step (Cond-F.Compare left how right) readings locals =
-    compares how (Int (linear_value readings locals left)) (Int (linear_value readings locals right))
+    compared how (linear_value readings locals left) (linear_value readings locals right)
 holds_step (Cond-F.Not part) readings locals = not (part readings locals)
 holds_step (Cond-F.And left right) readings locals = left readings locals && right readings locals
 holds_step (Cond-F.Or left right) readings locals = left readings locals || right readings locals

@@ -1,5 +1,6 @@
 -- Values, and what the operators make of them.
-use Rattle.std.specs.Prelude.{ℤ, pos, negsuc, ◌+ℤ◌, ◌-ℤ◌, ◌*ℤ◌, neg_ℤ, Bool, true, false, not, ◌&&◌, ◌||◌, nat_eq, Option, Some, None, Result, Ok, Err, if◌then◌else◌}
+use Rattle.std.specs.Prelude.{ℤ, pos, ◌+ℤ◌, ◌-ℤ◌, ◌*ℤ◌, neg_ℤ, Bool, true, false, not, ◌&&◌, ◌||◌, nat_eq, Option, Some, None, Result, Ok, Err, if◌then◌else◌}
+use Rattle.std.specs.Ordering.{int_eq}
 use Rattle.std.specs.Int.RustNames.{int_lt, int_le, int_div, int_rem, unsigned_abs}
 use Rattle.aerie_base.specs.Ranges.{is_number}
 use Rattle.aerie_base.specs.declared.values.Kind.{Kind}
@@ -39,19 +40,23 @@ truth_in (Variant of number) = false
 abbrev pub ranged : ℤ → Outcome
 ranged number = if is_number number then Ok (Int number) else Err Range
 
--- whether two numbers, two truths, two values are equal
-abbrev pub same_number : ℤ → ℤ → Bool
-same_number (pos a) (pos b) = nat_eq a b
-same_number (pos a) (negsuc b) = false
-same_number (negsuc a) (pos b) = false
-same_number (negsuc a) (negsuc b) = nat_eq a b
+-- whether a comparison holds between two whole numbers
+abbrev pub compared : Comparison → ℤ → ℤ → Bool
+compared by.Equal left right = int_eq left right
+compared by.Unequal left right = not (int_eq left right)
+compared by.Less left right = int_lt left right
+compared by.AtMost left right = int_le left right
+compared by.More left right = int_lt right left
+compared by.AtLeast left right = int_le right left
 
+-- whether two truths are equal
 abbrev pub same_truth : Bool → Bool → Bool
 same_truth true b = b
 same_truth false b = not b
 
+-- whether two values are equal
 abbrev pub same_value : Value → Value → Bool
-same_value (Int a) (Int b) = same_number a b
+same_value (Int a) (Int b) = int_eq a b
 same_value (Int a) (Truth b) = false
 same_value (Int a) (Variant of b) = false
 same_value (Truth a) (Int b) = false
@@ -65,10 +70,10 @@ same_value (Variant of a) (Variant other b) = nat_eq of other && nat_eq a b
 abbrev pub compares : Comparison → Value → Value → Bool
 compares by.Equal left right = same_value left right
 compares by.Unequal left right = not (same_value left right)
-compares by.Less left right = int_lt (number_in left) (number_in right)
-compares by.AtMost left right = int_le (number_in left) (number_in right)
-compares by.More left right = int_lt (number_in right) (number_in left)
-compares by.AtLeast left right = int_le (number_in right) (number_in left)
+compares by.Less left right = compared by.Less (number_in left) (number_in right)
+compares by.AtMost left right = compared by.AtMost (number_in left) (number_in right)
+compares by.More left right = compared by.More (number_in left) (number_in right)
+compares by.AtLeast left right = compared by.AtLeast (number_in left) (number_in right)
 
 abbrev pub is_zero : ℤ → Bool
 is_zero number = nat_eq (unsigned_abs number) 0

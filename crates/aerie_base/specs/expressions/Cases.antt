@@ -1,4 +1,4 @@
--- Worked cases of values, faults, types and notes.
+-- Worked cases of values, faults, types and read flags.
 use Rattle.std.specs.Prelude.{◌≡◌, ℕ, ℤ, pos, negsuc, Bool, true, false, List, [], ◌∷◌, map, Option, Some, None, Ok, Err, refl}
 use Rattle.aerie_base.specs.expressions.Arithmetic.{Outcome}
 use Rattle.aerie_base.specs.expressions.Recursion.{node_not, node_negate, node_binary}
@@ -30,14 +30,14 @@ values (Conflicted cell) = Truth false
 values (Volume cell) = Int (pos 1_000_000_000_000_000_001)
 values (Rate cell) = Int (negsuc 1_000_000_000_000)
 
-nothing_noted : List Bool
-nothing_noted = false ∷ false ∷ false ∷ []
+nothing_read : List Bool
+nothing_read = false ∷ false ∷ false ∷ []
 
 abbrev outcome : Expr → Outcome
-outcome expr = (evaluated expr locals values nothing_noted).0
+outcome expr = (evaluated expr locals values nothing_read).0
 
-abbrev noted : Expr → List Bool
-noted expr = (evaluated expr locals values nothing_noted).1
+abbrev read_flags : Expr → List Bool
+read_flags expr = (evaluated expr locals values nothing_read).1
 
 abbrev number : ℤ → Expr
 number value = expressions.Literal (Int value)
@@ -88,7 +88,7 @@ sums : map outcome (
     ∷ node_negate (number (pos 0))
     ∷ []
     ) ≡ Ok (Int (pos 5)) ∷ Ok (Int (pos 9)) ∷ Ok (Int (negsuc 13)) ∷ Ok (Int (pos 6)) ∷ Ok (Int (pos 2)) ∷ Ok (Int (pos 0)) ∷ []
-unfolding evaluated locals values nothing_noted
+unfolding evaluated locals values nothing_read
 sums = refl
 
 -- 7 / 2, -7 / 2, 7 / -2 and -7 / -2: truncated toward zero
@@ -119,7 +119,7 @@ answers truths = map (λ value. Ok (Truth value)) truths
 comparisons : (map outcome (compared (slot 0) (slot 1)) ≡ answers (false ∷ true ∷ false ∷ false ∷ true ∷ true ∷ []))
     × (map outcome (compared (slot 1) (slot 0)) ≡ answers (false ∷ true ∷ true ∷ true ∷ false ∷ false ∷ []))
     × (map outcome (compared (slot 0) (number (pos 7))) ≡ answers (true ∷ false ∷ false ∷ true ∷ false ∷ true ∷ []))
-unfolding evaluated locals values nothing_noted
+unfolding evaluated locals values nothing_read
 comparisons = (refl, refl, refl)
 
 equalities : map outcome (
@@ -130,7 +130,7 @@ equalities : map outcome (
     ∷ binary (operator.Compare by.Unequal) (truth false) (slot 2)
     ∷ []
     ) ≡ answers (true ∷ false ∷ true ∷ true ∷ true ∷ [])
-unfolding evaluated locals values nothing_noted
+unfolding evaluated locals values nothing_read
 equalities = refl
 
 truths : map outcome (
@@ -166,7 +166,7 @@ limits : map outcome (
     ∷ Err Range
     ∷ Err Range
     ∷ []
-unfolding evaluated locals values nothing_noted
+unfolding evaluated locals values nothing_read
 limits = refl
 
 -- ---- the first fault: left side, right side, operation
@@ -192,7 +192,7 @@ first_faults : map outcome (
     ∷ Err Divide
     ∷ Err Divide
     ∷ []
-unfolding evaluated locals values nothing_noted
+unfolding evaluated locals values nothing_read
 first_faults = refl
 
 -- the right side is evaluated only where the left does not decide
@@ -204,12 +204,12 @@ decided_by_the_left : map outcome (
     ∷ binary operator.And no_test (truth false)
     ∷ []
     ) ≡ Ok (Truth false) ∷ Err Divide ∷ Ok (Truth true) ∷ Err Divide ∷ Err Divide ∷ []
-unfolding evaluated locals values nothing_noted
+unfolding evaluated locals values nothing_read
 decided_by_the_left = refl
 
--- ---- which cells are noted
+-- ---- which cells are read
 
-notes : map noted (
+notes : map read_flags (
     number (pos 1)
     ∷ test
     ∷ binary operator.Or (cell (Conflicted 2)) test
@@ -230,7 +230,7 @@ notes : map noted (
     ∷ (true ∷ true ∷ false ∷ [])
     ∷ (false ∷ false ∷ false ∷ [])
     ∷ []
-unfolding evaluated locals values nothing_noted
+unfolding evaluated locals values nothing_read
 notes = refl
 
 -- ---- types

@@ -14,45 +14,45 @@ use Rattle.aerie_base.specs.declared.expressions.Expr.{Expr, fold-Expr}
 use Rattle.aerie_base.specs.declared.expressions.Expr.TheOpen.{Expr-F}
 
 -- the outcome, and for each cell whether it was read so far
-abbrev pub Noted : Type 0
-Noted = Outcome × List Bool
+abbrev pub Evaluated : Type 0
+Evaluated = Outcome × List Bool
 
 -- what an expression means: by the values of the locals, the value of each read (or a number out of its range) and the
 -- cells read before, the outcome and the cells read by then
 abbrev pub Meaning : Type 0
-Meaning = List Value → (CellRead → Value) → List Bool → Noted
+Meaning = List Value → (CellRead → Value) → List Bool → Evaluated
 
 -- a value goes on, and a fault stays
 abbrev pub then_made : (Value → Outcome) → Outcome → Outcome
 then_made f (Ok value) = f value
 then_made f (Err fault) = Err fault
 
-abbrev pub on_value : (Value → Outcome) → Noted → Noted
+abbrev pub on_value : (Value → Outcome) → Evaluated → Evaluated
 on_value f result = (then_made f result.0, result.1)
 
-abbrev pub unless_decided : Option Value → (List Bool → Noted) → List Bool → Noted
-unless_decided None go noted = go noted
-unless_decided (Some value) go noted = (Ok value, noted)
+abbrev pub unless_decided : Option Value → (List Bool → Evaluated) → List Bool → Evaluated
+unless_decided None go read_flags = go read_flags
+unless_decided (Some value) go read_flags = (Ok value, read_flags)
 
 -- the left side, then the right side where the left is no fault and does not decide, then the operation
-abbrev pub in_order : Operator → Noted → (List Bool → Noted) → Noted
-in_order operator (Ok left, noted) go =
-    unless_decided (decided operator left) (λ then_noted. on_value (combined operator left) (go then_noted)) noted
-in_order operator (Err fault, noted) go = (Err fault, noted)
+abbrev pub in_order : Operator → Evaluated → (List Bool → Evaluated) → Evaluated
+in_order operator (Ok left, read_flags) go =
+    unless_decided (decided operator left) (λ then_read. on_value (combined operator left) (go then_read)) read_flags
+in_order operator (Err fault, read_flags) go = (Err fault, read_flags)
 
--- a local gives the value in its slot (where there is none, it would be Int 0), and a read of a cell notes the cell
+-- a local gives the value in its slot (where there is none, it would be Int 0), and a read of a cell sets its flag
 abbrev pub of_operand : Operand → Meaning
-of_operand (Local slot) locals values noted = (Ok (slice_index_or locals slot (Int (pos 0))), noted)
-of_operand (Read read) locals values noted = (reading read (values read), also (cell_of read) noted)
+of_operand (Local slot) locals values read_flags = (Ok (slice_index_or locals slot (Int (pos 0))), read_flags)
+of_operand (Read read) locals values read_flags = (reading read (values read), also (cell_of read) read_flags)
 
 -- the meaning of one layer by the meanings of its parts
 abbrev pub layer : Expr-F Meaning → Meaning
-layer (Expr-F.Literal value) locals values noted = (Ok value, noted)
-layer (Expr-F.Operand operand) locals values noted = of_operand operand locals values noted
-layer (Expr-F.Not inner) locals values noted = on_value denied (inner locals values noted)
-layer (Expr-F.Negate inner) locals values noted = on_value negated (inner locals values noted)
-layer (Expr-F.Binary operator left right) locals values noted =
-    in_order operator (left locals values noted) (right locals values)
+layer (Expr-F.Literal value) locals values read_flags = (Ok value, read_flags)
+layer (Expr-F.Operand operand) locals values read_flags = of_operand operand locals values read_flags
+layer (Expr-F.Not inner) locals values read_flags = on_value denied (inner locals values read_flags)
+layer (Expr-F.Negate inner) locals values read_flags = on_value negated (inner locals values read_flags)
+layer (Expr-F.Binary operator left right) locals values read_flags =
+    in_order operator (left locals values read_flags) (right locals values)
 
 -- the same by the fold, which does not compute
 abbrev pub evaluated_by_fold : Expr → Meaning
@@ -60,7 +60,7 @@ evaluated_by_fold = fold-Expr Meaning layer
 
 -- what is never used: the meaning of a part that is not there
 abbrev pub no_meaning : Meaning
-no_meaning locals values noted = (Err Range, noted)
+no_meaning locals values read_flags = (Err Range, read_flags)
 
 -- the outcome of an expression and the cells read by then
 unfoldable pub evaluated : Expr → Meaning

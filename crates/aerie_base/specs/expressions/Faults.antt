@@ -3,9 +3,9 @@ use Rattle.std.specs.Prelude.{ℤ, ◌+ℤ◌, ◌-ℤ◌, ◌*ℤ◌, neg_ℤ, 
 use Rattle.std.specs.Int.RustNames.{int_div, int_rem}
 use mathlib.Core.Path.{refl}
 use Rattle.aerie_base.specs.expressions.Arithmetic.{Outcome, number_in, ranged, is_zero, combined, decided, negated, denied}
-use Rattle.aerie_base.specs.expressions.Readings.{reading, on_number, rate_ranged, is_rate}
-use Rattle.aerie_base.specs.expressions.Evaluation.{Noted, evaluated, then_made, on_value, unless_decided, in_order}
-use Rattle.aerie_base.specs.Ranges.{is_number}
+use Rattle.aerie_base.specs.expressions.Readings.{reading, on_number, rate_ranged}
+use Rattle.aerie_base.specs.expressions.Evaluation.{Evaluated, evaluated, then_made, on_value, unless_decided, in_order}
+use Rattle.aerie_base.specs.Ranges.{is_number, is_rate}
 use Rattle.aerie_base.specs.declared.values.Value.{Value}
 use Rattle.aerie_base.specs.declared.values.Value.TheVariants.{Int, Truth, Variant}
 use Rattle.aerie_base.specs.declared.faults.Fault.{Fault}
@@ -53,15 +53,15 @@ then_faults : (f : Value → Outcome) (outcome : Outcome) → ((value : Value) �
 then_faults f (Ok value) h k = h value
 then_faults f (Err fault) h k = k
 
-unless_faults : (o : Operator) (left : Value) (d : Option Value) (go : List Bool → Noted) (noted : List Bool) → MayFault (go noted).0 →
-    MayFault (unless_decided d (λ then_noted. on_value (combined o left) (go then_noted)) noted).0
-unless_faults o left None go noted h = then_faults (combined o left) (go noted).0 (combined_faults o left) h
-unless_faults o left (Some value) go noted h = tt
+unless_faults : (o : Operator) (left : Value) (d : Option Value) (go : List Bool → Evaluated) (read_flags : List Bool) → MayFault (go read_flags).0 →
+    MayFault (unless_decided d (λ then_read. on_value (combined o left) (go then_read)) read_flags).0
+unless_faults o left None go read_flags h = then_faults (combined o left) (go read_flags).0 (combined_faults o left) h
+unless_faults o left (Some value) go read_flags h = tt
 
-order_faults : (o : Operator) (left : Noted) (go : List Bool → Noted) → MayFault left.0 → ((noted : List Bool) → MayFault (go noted).0) →
+order_faults : (o : Operator) (left : Evaluated) (go : List Bool → Evaluated) → MayFault left.0 → ((read_flags : List Bool) → MayFault (go read_flags).0) →
     MayFault (in_order o left go).0
-order_faults o (Ok value, noted) go h k = unless_faults o value (decided o value) go noted (k noted)
-order_faults o (Err fault, noted) go h k = h
+order_faults o (Ok value, read_flags) go h k = unless_faults o value (decided o value) go read_flags (k read_flags)
+order_faults o (Err fault, read_flags) go h k = h
 
 on_number_faults : (f : ℤ → Outcome) (value : Value) → ((number : ℤ) → MayFault (f number)) → MayFault (on_number f value)
 on_number_faults f (Int number) h = h number
@@ -76,15 +76,15 @@ reading_faults (read.Volume cell) value = on_number_faults ranged value ranged_f
 reading_faults (read.Rate cell) value = on_number_faults rate_ranged value (λ number. if_in_range_faults (is_rate number) number)
 
 -- an expression has no other fault
-pub faults : (expr : Expr) (locals : List Value) (values : CellRead → Value) (noted : List Bool) → MayFault (evaluated expr locals values noted).0
+pub faults : (expr : Expr) (locals : List Value) (values : CellRead → Value) (read_flags : List Bool) → MayFault (evaluated expr locals values read_flags).0
 unfolding evaluated
-faults (Literal value) locals values noted = tt
-faults (Operand (Local slot)) locals values noted = tt
-faults (Operand (Read what)) locals values noted = reading_faults what (values what)
-faults (Not' s (more_of-Expr inner end_of-Expr)) locals values noted =
-    then_faults denied (evaluated inner locals values noted).0 (λ value. tt) (faults inner locals values noted)
-faults (Negate' s (more_of-Expr inner end_of-Expr)) locals values noted =
-    then_faults negated (evaluated inner locals values noted).0 (λ value. ranged_faults (neg_ℤ (number_in value))) (faults inner locals values noted)
-faults (Binary' o s (more_of-Expr left end_of-Expr) t (more_of-Expr right end_of-Expr)) locals values noted =
-    order_faults o (evaluated left locals values noted) (evaluated right locals values) (faults left locals values noted)
+faults (Literal value) locals values read_flags = tt
+faults (Operand (Local slot)) locals values read_flags = tt
+faults (Operand (Read what)) locals values read_flags = reading_faults what (values what)
+faults (Not' s (more_of-Expr inner end_of-Expr)) locals values read_flags =
+    then_faults denied (evaluated inner locals values read_flags).0 (λ value. tt) (faults inner locals values read_flags)
+faults (Negate' s (more_of-Expr inner end_of-Expr)) locals values read_flags =
+    then_faults negated (evaluated inner locals values read_flags).0 (λ value. ranged_faults (neg_ℤ (number_in value))) (faults inner locals values read_flags)
+faults (Binary' o s (more_of-Expr left end_of-Expr) t (more_of-Expr right end_of-Expr)) locals values read_flags =
+    order_faults o (evaluated left locals values read_flags) (evaluated right locals values) (faults left locals values read_flags)
     (faults right locals values)

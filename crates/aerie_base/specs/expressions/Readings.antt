@@ -1,6 +1,6 @@
 -- What reading a cell gives, and which cells were read.
-use Rattle.std.specs.Prelude.{◌≡◌, ⊤, ℕ, ◌≤◌, ℤ, Bool, true, List, Option, Some, Ok, Err, slice_set, if◌then◌else◌, nat_le}
-use Rattle.std.specs.Int.RustNames.{unsigned_abs}
+use Rattle.std.specs.Prelude.{◌≡◌, ⊤, ℕ, ℤ, Bool, true, List, Option, Some, Ok, Err, slice_set, if◌then◌else◌}
+use Rattle.aerie_base.specs.Ranges.{is_rate}
 use Rattle.aerie_base.specs.expressions.Arithmetic.{Outcome, ranged, value_kind}
 use Rattle.aerie_base.specs.declared.values.Kind.{Kind}
 use Rattle.aerie_base.specs.declared.values.Kind.TheVariants as kind
@@ -17,16 +17,6 @@ cell_of (Register cell) = cell
 cell_of (Conflicted cell) = cell
 cell_of (Volume cell) = cell
 cell_of (Rate cell) = cell
-
--- a rate lies from minus this to this, 10^12
-abbrev pub rate_limit : ℕ
-rate_limit = 1_000_000_000_000
-
-abbrev pub is_rate : ℤ → Bool
-is_rate number = nat_le (unsigned_abs number) rate_limit
-
-abbrev pub IsRate : ℤ → Type 0
-IsRate number = unsigned_abs number ≤ rate_limit
 
 abbrev pub rate_ranged : ℤ → Outcome
 rate_ranged number = if is_rate number then Ok (Int number) else Err Range
@@ -59,4 +49,4 @@ pub record AreReadings (kinds : CellRead → Option Kind) (values : CellRead →
 
 -- the flags by cell of what was read, and one cell more
 abbrev pub also : ℕ → List Bool → List Bool
-also cell noted = slice_set noted cell true
+also cell read_flags = slice_set read_flags cell true

@@ -1,13 +1,15 @@
+-- A file of lemmas: what it proves need not be read to trust a clause.
+--
 -- What the type of an expression says: its value has that type.
 use Rattle.std.specs.Prelude.{◌≡◌, ℕ, ℤ, ◌+ℤ◌, ◌-ℤ◌, ◌*ℤ◌, neg_ℤ, Bool, true, false, ◌&&◌, List, [], ◌∷◌, Option, Some, None, is_some, IsSome, Ok, Err, IfOk, zero, suc, if◌then◌else◌, slice_index_or, pos}
 use Rattle.std.specs.Int.RustNames.{int_div, int_rem}
 use mathlib.Core.Path.{refl, sym, ap, subst, ◌∙◌}
 use mathlib.Core.Bool.{true≢false}
 use Rattle.aerie_base.specs.expressions.Arithmetic.{Outcome, value_kind, number_in, truth_in, ranged, is_zero, combined, decided, negated, denied}
-use Rattle.aerie_base.specs.expressions.Readings.{reading, on_number, rate_ranged, is_rate, AreReadings}
-use Rattle.aerie_base.specs.expressions.Evaluation.{Noted, evaluated, then_made, on_value, unless_decided, in_order}
-use Rattle.aerie_base.specs.expressions.Typing.{kind_of, given, keeps, may_compare, same_kind, combined_kind, of_both, slot_kinds}
-use Rattle.aerie_base.specs.Ranges.{is_number}
+use Rattle.aerie_base.specs.expressions.Readings.{reading, on_number, rate_ranged, AreReadings}
+use Rattle.aerie_base.specs.expressions.Evaluation.{Evaluated, evaluated, then_made, on_value, unless_decided, in_order}
+use Rattle.aerie_base.specs.expressions.Typing.{kind_of, kind_if, same_kind_if, may_compare, same_kind, combined_kind, of_both, slot_kinds}
+use Rattle.aerie_base.specs.Ranges.{is_number, is_rate}
 use Rattle.aerie_base.specs.declared.values.Kind.{Kind}
 use Rattle.aerie_base.specs.declared.values.Kind.TheVariants as kind
 use Rattle.aerie_base.specs.declared.values.Value.{Value}
@@ -92,15 +94,15 @@ decided_gives operator.Times left value e = absurd (nothing value e)
 decided_gives operator.Divide left value e = absurd (nothing value e)
 decided_gives operator.Remainder left value e = absurd (nothing value e)
 
-unless_gives : (o : Operator) (left : Value) (d : Option Value) (go : List Bool → Noted) (noted : List Bool) →
+unless_gives : (o : Operator) (left : Value) (d : Option Value) (go : List Bool → Evaluated) (read_flags : List Bool) →
     ((value : Value) → d ≡ Some value → value_kind value ≡ result_kind o) →
-    Gives (result_kind o) (unless_decided d (λ then_noted. on_value (combined o left) (go then_noted)) noted).0
-unless_gives o left None go noted h = then_gives (result_kind o) (combined o left) (go noted).0 (combined_gives o left)
-unless_gives o left (Some value) go noted h = h value refl
+    Gives (result_kind o) (unless_decided d (λ then_read. on_value (combined o left) (go then_read)) read_flags).0
+unless_gives o left None go read_flags h = then_gives (result_kind o) (combined o left) (go read_flags).0 (combined_gives o left)
+unless_gives o left (Some value) go read_flags h = h value refl
 
-order_gives : (o : Operator) (left : Noted) (go : List Bool → Noted) → Gives (result_kind o) (in_order o left go).0
-order_gives o (Ok value, noted) go = unless_gives o value (decided o value) go noted (decided_gives o value)
-order_gives o (Err fault, noted) go = tt
+order_gives : (o : Operator) (left : Evaluated) (go : List Bool → Evaluated) → Gives (result_kind o) (in_order o left go).0
+order_gives o (Ok value, read_flags) go = unless_gives o value (decided o value) go read_flags (decided_gives o value)
+order_gives o (Err fault, read_flags) go = tt
 
 -- ---- what is read
 
@@ -123,11 +125,11 @@ in_slot (value ∷ values) (suc slot) other of e = in_slot values slot other of 
 
 -- ---- the types
 
-given_is : (b : Bool) (what of : Kind) → given b what ≡ Some of → what ≡ of
+given_is : (b : Bool) (what of : Kind) → kind_if b what ≡ Some of → what ≡ of
 given_is true what of e = the_one what of e
 given_is false what of e = absurd (nothing of e)
 
-kept_is : (what : Kind) (inner : Option Kind) (of : Kind) → keeps what inner ≡ Some of → what ≡ of
+kept_is : (what : Kind) (inner : Option Kind) (of : Kind) → same_kind_if what inner ≡ Some of → what ≡ of
 kept_is what None of e = absurd (nothing of e)
 kept_is what (Some inner) of e = given_is (same_kind inner what) what of e
 
@@ -148,25 +150,25 @@ both_is o (Some left) (Some right) of e = combined_is o left right of e
 
 -- ---- a well-typed expression has a value of its type, or a fault
 
-pub sound : (expr : Expr) (locals : List Value) (kinds : CellRead → Option Kind) (values : CellRead → Value) (noted : List Bool) (of : Kind) →
-    AreReadings kinds values → kind_of expr (slot_kinds locals) kinds ≡ Some of → Gives of (evaluated expr locals values noted).0
+pub sound : (expr : Expr) (locals : List Value) (kinds : CellRead → Option Kind) (values : CellRead → Value) (read_flags : List Bool) (of : Kind) →
+    AreReadings kinds values → kind_of expr (slot_kinds locals) kinds ≡ Some of → Gives of (evaluated expr locals values read_flags).0
 unfolding kind_of evaluated
-sound (Literal value) locals kinds values noted of r e = the_one (value_kind value) of e
-sound (Operand (Local slot)) locals kinds values noted of r e = in_slot locals slot (Int (pos 0)) of e
-sound (Operand (Read what)) locals kinds values noted of r e =
+sound (Literal value) locals kinds values read_flags of r e = the_one (value_kind value) of e
+sound (Operand (Local slot)) locals kinds values read_flags of r e = in_slot locals slot (Int (pos 0)) of e
+sound (Operand (Read what)) locals kinds values read_flags of r e =
     subst (λ k. Gives k (reading what (values what))) (r.of_kind what of e) (reading_gives what (values what))
-sound (Not' s (more_of-Expr inner end_of-Expr)) locals kinds values noted of r e =
-    subst (λ k. Gives k (then_made denied (evaluated inner locals values noted).0))
+sound (Not' s (more_of-Expr inner end_of-Expr)) locals kinds values read_flags of r e =
+    subst (λ k. Gives k (then_made denied (evaluated inner locals values read_flags).0))
     (kept_is kind.Truth (kind_of inner (slot_kinds locals) kinds) of e)
-    (then_gives kind.Truth denied (evaluated inner locals values noted).0 (λ value. refl))
-sound (Negate' s (more_of-Expr inner end_of-Expr)) locals kinds values noted of r e =
-    subst (λ k. Gives k (then_made negated (evaluated inner locals values noted).0))
+    (then_gives kind.Truth denied (evaluated inner locals values read_flags).0 (λ value. refl))
+sound (Negate' s (more_of-Expr inner end_of-Expr)) locals kinds values read_flags of r e =
+    subst (λ k. Gives k (then_made negated (evaluated inner locals values read_flags).0))
     (kept_is kind.Int (kind_of inner (slot_kinds locals) kinds) of e)
-    (then_gives kind.Int negated (evaluated inner locals values noted).0 (λ value. ranged_gives (neg_ℤ (number_in value))))
-sound (Binary' o s (more_of-Expr left end_of-Expr) t (more_of-Expr right end_of-Expr)) locals kinds values noted of r e =
-    subst (λ k. Gives k (in_order o (evaluated left locals values noted) (evaluated right locals values)).0)
+    (then_gives kind.Int negated (evaluated inner locals values read_flags).0 (λ value. ranged_gives (neg_ℤ (number_in value))))
+sound (Binary' o s (more_of-Expr left end_of-Expr) t (more_of-Expr right end_of-Expr)) locals kinds values read_flags of r e =
+    subst (λ k. Gives k (in_order o (evaluated left locals values read_flags) (evaluated right locals values)).0)
     (both_is o (kind_of left (slot_kinds locals) kinds) (kind_of right (slot_kinds locals) kinds) of e)
-    (order_gives o (evaluated left locals values noted) (evaluated right locals values))
+    (order_gives o (evaluated left locals values read_flags) (evaluated right locals values))
 
 -- ---- more slots and more reads
 
@@ -175,9 +177,9 @@ abbrev pub Within : {A : Type 0} → (A → Option Kind) → (A → Option Kind)
 Within {A} some more = (what : A) (of : Kind) → some what ≡ Some of → more what ≡ Some of
 
 kept_within : (what : Kind) (inner other : Option Kind) (of : Kind) → ((k : Kind) → inner ≡ Some k → other ≡ Some k) →
-    keeps what inner ≡ Some of → keeps what other ≡ Some of
+    same_kind_if what inner ≡ Some of → same_kind_if what other ≡ Some of
 kept_within what None other of h e = absurd (nothing of e)
-kept_within what (Some inner) other of h e = ap (keeps what) (h inner refl) ∙ e
+kept_within what (Some inner) other of h e = ap (same_kind_if what) (h inner refl) ∙ e
 
 both_within : (o : Operator) (left right left_other right_other : Option Kind) (of : Kind) →
     ((k : Kind) → left ≡ Some k → left_other ≡ Some k) → ((k : Kind) → right ≡ Some k → right_other ≡ Some k) →
@@ -209,13 +211,13 @@ typed_as (Ok value) known of e h = e ∙ ap Some (sym h)
 typed_as (Err fault) known of e h = tt
 
 -- the value of a well-typed expression has the expression's type
-pub typed : (expr : Expr) (locals : List Value) (kinds : CellRead → Option Kind) (values : CellRead → Value) (noted : List Bool) →
+pub value_has_kind : (expr : Expr) (locals : List Value) (kinds : CellRead → Option Kind) (values : CellRead → Value) (read_flags : List Bool) →
     AreReadings kinds values → IsSome (kind_of expr (slot_kinds locals) kinds) →
-    IfOk (evaluated expr locals values noted).0 (λ value. kind_of expr (slot_kinds locals) kinds ≡ Some (value_kind value))
-typed expr locals kinds values noted r s = go (kind_of expr (slot_kinds locals) kinds) refl s where
+    IfOk (evaluated expr locals values read_flags).0 (λ value. kind_of expr (slot_kinds locals) kinds ≡ Some (value_kind value))
+value_has_kind expr locals kinds values read_flags r s = go (kind_of expr (slot_kinds locals) kinds) refl s where
   go : (known : Option Kind) → kind_of expr (slot_kinds locals) kinds ≡ known → IsSome known →
-      IfOk (evaluated expr locals values noted).0 (λ value. kind_of expr (slot_kinds locals) kinds ≡ Some (value_kind value))
+      IfOk (evaluated expr locals values read_flags).0 (λ value. kind_of expr (slot_kinds locals) kinds ≡ Some (value_kind value))
   go None e h = absurd (true≢false (sym h))
   go (Some of) e h =
-      typed_as (evaluated expr locals values noted).0 (kind_of expr (slot_kinds locals) kinds) of e
-      (sound expr locals kinds values noted of r e)
+      typed_as (evaluated expr locals values read_flags).0 (kind_of expr (slot_kinds locals) kinds) of e
+      (sound expr locals kinds values read_flags of r e)

@@ -27,15 +27,15 @@ same_kind (Enum a) Int = false
 same_kind (Enum a) Truth = false
 same_kind (Enum a) (Enum b) = nat_eq a b
 
--- the type of a result, where the operands are as they should
-abbrev pub given : Bool → Kind → Option Kind
-given true of = Some of
-given false of = None
+-- a type, where something holds
+abbrev pub kind_if : Bool → Kind → Option Kind
+kind_if true of = Some of
+kind_if false of = None
 
--- an operator of one side takes this type and gives it
-abbrev pub keeps : Kind → Option Kind → Option Kind
-keeps of None = None
-keeps of (Some inner) = given (same_kind inner of) of
+-- the type of an operator of one side that takes this type and gives it, by the type of that side
+abbrev pub same_kind_if : Kind → Option Kind → Option Kind
+same_kind_if of None = None
+same_kind_if of (Some inner) = kind_if (same_kind inner of) of
 
 -- `==` and `!=` take two values of one type, the orders two whole numbers
 abbrev pub may_compare : Comparison → Kind → Kind → Bool
@@ -48,14 +48,14 @@ may_compare by.AtLeast left right = same_kind left Int && same_kind right Int
 
 -- which types an operator takes on its sides, and which it gives
 abbrev pub combined_kind : Operator → Kind → Kind → Option Kind
-combined_kind operator.Or left right = given (same_kind left Truth && same_kind right Truth) Truth
-combined_kind operator.And left right = given (same_kind left Truth && same_kind right Truth) Truth
-combined_kind (operator.Compare how) left right = given (may_compare how left right) Truth
-combined_kind operator.Plus left right = given (same_kind left Int && same_kind right Int) Int
-combined_kind operator.Minus left right = given (same_kind left Int && same_kind right Int) Int
-combined_kind operator.Times left right = given (same_kind left Int && same_kind right Int) Int
-combined_kind operator.Divide left right = given (same_kind left Int && same_kind right Int) Int
-combined_kind operator.Remainder left right = given (same_kind left Int && same_kind right Int) Int
+combined_kind operator.Or left right = kind_if (same_kind left Truth && same_kind right Truth) Truth
+combined_kind operator.And left right = kind_if (same_kind left Truth && same_kind right Truth) Truth
+combined_kind (operator.Compare how) left right = kind_if (may_compare how left right) Truth
+combined_kind operator.Plus left right = kind_if (same_kind left Int && same_kind right Int) Int
+combined_kind operator.Minus left right = kind_if (same_kind left Int && same_kind right Int) Int
+combined_kind operator.Times left right = kind_if (same_kind left Int && same_kind right Int) Int
+combined_kind operator.Divide left right = kind_if (same_kind left Int && same_kind right Int) Int
+combined_kind operator.Remainder left right = kind_if (same_kind left Int && same_kind right Int) Int
 
 abbrev pub of_both : Operator → Option Kind → Option Kind → Option Kind
 of_both operator None right = None
@@ -67,16 +67,16 @@ of_both operator (Some left) (Some right) = combined_kind operator left right
 abbrev pub Typing : Type 0
 Typing = (ℕ → Option Kind) → (CellRead → Option Kind) → Option Kind
 
-abbrev pub operand_kind : Operand → Typing
-operand_kind (Local slot) slots reads = slots slot
-operand_kind (Read read) slots reads = reads read
+abbrev pub operand_kind : (ℕ → Option Kind) → (CellRead → Option Kind) → Operand → Option Kind
+operand_kind slots reads (Local slot) = slots slot
+operand_kind slots reads (Read read) = reads read
 
 -- the type of one layer by the types of its parts
 abbrev pub layer_kind : Expr-F Typing → Typing
 layer_kind (Expr-F.Literal value) slots reads = Some (value_kind value)
-layer_kind (Expr-F.Operand operand) slots reads = operand_kind operand slots reads
-layer_kind (Expr-F.Not inner) slots reads = keeps Truth (inner slots reads)
-layer_kind (Expr-F.Negate inner) slots reads = keeps Int (inner slots reads)
+layer_kind (Expr-F.Operand operand) slots reads = operand_kind slots reads operand
+layer_kind (Expr-F.Not inner) slots reads = same_kind_if Truth (inner slots reads)
+layer_kind (Expr-F.Negate inner) slots reads = same_kind_if Int (inner slots reads)
 layer_kind (Expr-F.Binary operator left right) slots reads = of_both operator (left slots reads) (right slots reads)
 
 -- the same by the fold, which does not compute

@@ -16,6 +16,7 @@ use Rattle.aerie_base.specs.models.Cells.{NamedCells}
 use Rattle.aerie_base.specs.models.Expressions.{typed, is_kind_of}
 use Rattle.aerie_base.specs.models.Limits.{parameter_limit, require_limit}
 use Rattle.aerie_base.specs.models.Names.{is_among, are_distinct}
+use Rattle.aerie_base.specs.models.Signatures.{Signature, parameter_kinds}
 use Rattle.aerie_base.specs.models.Values.{is_kind, is_value_of}
 
 -- ---- parameters
@@ -27,10 +28,6 @@ is_default enums kind (Some value) = is_value_of enums kind value
 -- a type of the model, and a default of that type, where there is one
 abbrev pub is_parameter : List EnumType → Parameter → Bool
 is_parameter enums parameter = is_kind enums parameter.kind && is_default enums parameter.kind parameter.default
-
--- the types of the parameters, in their order
-abbrev pub parameter_kinds : Activity → List Kind
-parameter_kinds activity = map (λ parameter. parameter.kind) activity.parameters
 
 abbrev pub parameter_names : Activity → List (List ℕ)
 parameter_names activity = map (λ parameter. parameter.name) activity.parameters
@@ -74,25 +71,29 @@ abbrev pub is_result : List EnumType → Option Kind → List Stmt → Bool
 is_result enums None body = true
 is_result enums (Some kind) body = is_kind enums kind && ends_in_return body
 
-abbrev pub activity_setting : List EnumType → NamedCells → List Activity → Activity → Setting
-activity_setting enums cells activities activity = record {
+abbrev pub activity_setting : List EnumType → NamedCells → List Signature → Activity → Setting
+activity_setting enums cells signatures activity = record {
   enums = enums;
   cells = cells;
-  activities = activities;
+  signatures = signatures;
   parameters = length activity.parameters;
   result = activity.result;
 }
 
--- whether an activity type is as it should be, by the names of the cells and enumerations
-unfoldable pub is_activity : List EnumType → NamedCells → List Activity → List (List ℕ) → Activity → Bool
-is_activity enums cells activities taken activity =
+-- whether an activity type is as it should be, by the signatures of all of them and the names of the cells and
+-- enumerations
+unfoldable pub is_activity : List EnumType → NamedCells → List Signature → List (List ℕ) → Activity → Bool
+is_activity enums cells signatures taken activity =
     are_parameters enums taken activity
     && are_requires enums activity
     && is_result enums activity.result activity.body
-    && is_body (activity_setting enums cells activities activity) (parameter_kinds activity) activity.slots activity.body
+    && is_body (activity_setting enums cells signatures activity) (parameter_kinds activity) activity.slots activity.body
 
 -- a daemon has no parameters and no result
-unfoldable pub is_daemon : List EnumType → NamedCells → List Activity → Daemon → Bool
-is_daemon enums cells activities daemon =
-    is_body (record { enums = enums; cells = cells; activities = activities; parameters = 0; result = None })
-    [] daemon.slots daemon.body
+abbrev pub daemon_setting : List EnumType → NamedCells → List Signature → Setting
+daemon_setting enums cells signatures =
+    record { enums = enums; cells = cells; signatures = signatures; parameters = 0; result = None }
+
+-- whether a daemon is as it should be
+unfoldable pub is_daemon : List EnumType → NamedCells → List Signature → Daemon → Bool
+is_daemon enums cells signatures daemon = is_body (daemon_setting enums cells signatures) [] daemon.slots daemon.body

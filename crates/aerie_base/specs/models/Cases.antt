@@ -19,7 +19,8 @@ use Rattle.aerie_base.specs.declared.models.model.Parts.{Parts}
 use Rattle.aerie_base.specs.expressions.Typing.{kind_of}
 use Rattle.aerie_base.specs.statements.Places.{count}
 use Rattle.aerie_base.specs.models.Activities.{is_activity, is_return}
-use Rattle.aerie_base.specs.models.Bodies.{checked, stmt_depth, is_body}
+use Rattle.aerie_base.specs.models.Bodies.{checked, is_body}
+use Rattle.aerie_base.specs.models.Depth.{stmt_depth}
 use Rattle.aerie_base.specs.models.Expressions.{typed, has_literals, expr_depth}
 use Rattle.aerie_base.specs.models.ValidModel.{valid_model, has_good_names, has_good_enums, has_good_cells, has_good_resources, has_good_activities, has_good_daemons}
 use denote.Hole.Carrier.{hidden}
@@ -121,6 +122,14 @@ no_result_to_take = refl
 pub nothing_to_return : has_body 1 (Return (Some counter) ∷ []) ≡ false
 unfolding valid_model has_good_names has_good_enums has_good_cells has_good_resources has_good_activities has_good_daemons is_activity is_body is_return checked count stmt_depth typed has_literals expr_depth kind_of
 nothing_to_return = refl
+
+pub the_greatest_literal : has_body 1 (add (number 1_000_000_000_000_000_000) ∷ []) ≡ true
+unfolding valid_model has_good_names has_good_enums has_good_cells has_good_resources has_good_activities has_good_daemons is_activity is_body is_return checked count stmt_depth typed has_literals expr_depth kind_of
+the_greatest_literal = refl
+
+pub a_literal_out_of_range : has_body 1 (add (number 10_000_000_000_000_000_000_000_000_000_000_000_000_000) ∷ []) ≡ false
+unfolding valid_model has_good_names has_good_enums has_good_cells has_good_resources has_good_activities has_good_daemons is_activity is_body is_return checked count stmt_depth typed has_literals expr_depth kind_of
+a_literal_out_of_range = refl
 
 pub as_many_statements_as_can_be : has_body 1 (replicate 4096 (add (local 0))) ≡ true
 unfolding valid_model has_good_names has_good_enums has_good_cells has_good_resources has_good_activities has_good_daemons is_activity is_body is_return checked count stmt_depth typed has_literals expr_depth kind_of

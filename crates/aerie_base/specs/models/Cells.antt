@@ -1,5 +1,5 @@
 -- The cells of a model: how each begins, and what each read of them has.
-use Rattle.std.specs.Prelude.{ℕ, ◌&&◌, Bool, true, List, Option, Some, None, option_map, slice_get}
+use Rattle.std.specs.Prelude.{ℕ, ◌&&◌, Bool, List, Option, Some, None, option_map, slice_get}
 use Rattle.aerie_base.specs.declared.names.Name.{Name}
 use Rattle.aerie_base.specs.declared.values.Kind.{Kind}
 use Rattle.aerie_base.specs.declared.values.Kind.TheVariants.{Int, Truth}
@@ -8,7 +8,7 @@ use Rattle.aerie_base.specs.declared.operands.CellRead.TheVariants as read
 use Rattle.aerie_base.specs.declared.models.CellStart.{CellStart}
 use Rattle.aerie_base.specs.declared.models.CellStart.TheVariants.{Counter, Register, Accumulator}
 use Rattle.aerie_base.specs.declared.models.EnumType.{EnumType}
-use Rattle.aerie_base.specs.expressions.Readings.{is_rate}
+use Rattle.aerie_base.specs.Ranges.{is_number, is_rate}
 use Rattle.aerie_base.specs.models.Values.{is_kind, is_value_of}
 
 abbrev pub NamedCells : Type 0
@@ -54,8 +54,8 @@ read_kind cells (read.Conflicted cell) = flag_kind (cell_at cells cell)
 read_kind cells (read.Volume cell) = flow_kind (cell_at cells cell)
 read_kind cells (read.Rate cell) = flow_kind (cell_at cells cell)
 
--- a register begins with a value of its type, an accumulator with a rate within its range
+-- a counter begins with a number, a register with a value of its type, an accumulator with a number and a rate
 abbrev pub is_cell : List EnumType → CellStart → Bool
-is_cell enums (Counter number) = true
+is_cell enums (Counter number) = is_number number
 is_cell enums (Register kind value) = is_kind enums kind && is_value_of enums kind value
-is_cell enums (Accumulator volume rate) = is_rate rate
+is_cell enums (Accumulator volume rate) = is_number volume && is_rate rate

@@ -5,12 +5,11 @@ use Rattle.std.specs.Int.RustNames.{unsigned_abs}
 use Rattle.aerie_base.specs.Ranges.{number_limit}
 use Rattle.aerie_base.specs.conditions.Recursion.{cond_gives}
 use Rattle.aerie_base.specs.expressions.Arithmetic.{value_kind}
-use Rattle.aerie_base.specs.expressions.Typing.{same_kind}
+use Rattle.aerie_base.specs.expressions.Typing.{operand_kind, same_kind}
 use Rattle.aerie_base.specs.declared.values.Kind.{Kind}
 use Rattle.aerie_base.specs.declared.values.Kind.TheVariants.{Int, Truth}
 use Rattle.aerie_base.specs.declared.operands.CellRead.{CellRead}
 use Rattle.aerie_base.specs.declared.operands.CellRead.TheVariants as read
-use Rattle.aerie_base.specs.declared.operands.Operand.{Operand}
 use Rattle.aerie_base.specs.declared.operands.Operand.TheVariants.{Read, Local}
 use Rattle.aerie_base.specs.declared.linear.Term.{Term}
 use Rattle.aerie_base.specs.declared.linear.Linear.{Linear}
@@ -29,10 +28,6 @@ Locals = ℕ → Option Kind
 
 abbrev pub Reads : Type 0
 Reads = CellRead → Option Kind
-
-abbrev pub operand_kind : Locals → Reads → Operand → Option Kind
-operand_kind locals reads (Local slot) = locals slot
-operand_kind locals reads (Read read) = reads read
 
 -- ---- linear forms
 
@@ -92,18 +87,18 @@ condition_step enums (Cond-F.Or left right) locals reads = left locals reads && 
 unfoldable pub is_typed_condition : List EnumType → Cond → Checking
 is_typed_condition enums = cond_gives Checking (λ locals reads. false) (condition_step enums)
 
-abbrev pub depth_step : Cond-F ℕ → ℕ
-depth_step (Cond-F.Literal truth) = 0
-depth_step (Cond-F.Flag operand) = 0
-depth_step (Cond-F.Same left right equal) = 1
-depth_step (Cond-F.Compare left how right) = 1
-depth_step (Cond-F.Not part) = 1 + part
-depth_step (Cond-F.And left right) = 1 + max left right
-depth_step (Cond-F.Or left right) = 1 + max left right
+abbrev pub cond_depth_step : Cond-F ℕ → ℕ
+cond_depth_step (Cond-F.Literal truth) = 0
+cond_depth_step (Cond-F.Flag operand) = 0
+cond_depth_step (Cond-F.Same left right equal) = 1
+cond_depth_step (Cond-F.Compare left how right) = 1
+cond_depth_step (Cond-F.Not part) = 1 + part
+cond_depth_step (Cond-F.And left right) = 1 + max left right
+cond_depth_step (Cond-F.Or left right) = 1 + max left right
 
 -- how deep operators nest
 unfoldable pub cond_depth : Cond → ℕ
-cond_depth = cond_gives ℕ 0 depth_step
+cond_depth = cond_gives ℕ 0 cond_depth_step
 
 -- whether this is a condition of the model
 unfoldable pub is_condition : List EnumType → Locals → Reads → Cond → Bool

@@ -10,16 +10,16 @@ use Rattle.aerie_base.specs.declared.models.EnumType.{EnumType}
 use Rattle.aerie_base.specs.models.Limits.{depth_limit}
 use Rattle.aerie_base.specs.models.Values.{is_value}
 
-abbrev pub depth_step : Expr-F ℕ → ℕ
-depth_step (Expr-F.Literal value) = 0
-depth_step (Expr-F.Operand operand) = 0
-depth_step (Expr-F.Not inner) = 1 + inner
-depth_step (Expr-F.Negate inner) = 1 + inner
-depth_step (Expr-F.Binary operator left right) = 1 + max left right
+abbrev pub expr_depth_step : Expr-F ℕ → ℕ
+expr_depth_step (Expr-F.Literal value) = 0
+expr_depth_step (Expr-F.Operand operand) = 0
+expr_depth_step (Expr-F.Not inner) = 1 + inner
+expr_depth_step (Expr-F.Negate inner) = 1 + inner
+expr_depth_step (Expr-F.Binary operator left right) = 1 + max left right
 
 -- how deep operators nest; in a chain of one operator each opens a level
 unfoldable pub expr_depth : Expr → ℕ
-expr_depth = expr_gives ℕ 0 depth_step
+expr_depth = expr_gives ℕ 0 expr_depth_step
 
 abbrev pub literals_step : List EnumType → Expr-F Bool → Bool
 literals_step enums (Expr-F.Literal value) = is_value enums value

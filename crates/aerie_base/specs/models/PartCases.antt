@@ -56,6 +56,21 @@ another_type = refl
 pub no_such_enumeration : is_cell (color ∷ []) (cell.Register (kind.Enum 1) (value.Variant 1 0)) ≡ false
 no_such_enumeration = refl
 
+pub the_greatest_number : is_value_of [] kind.Int (value.Int (pos 1_000_000_000_000_000_000)) ≡ true
+the_greatest_number = refl
+
+pub one_number_below_the_least : is_value_of [] kind.Int (value.Int (negsuc 1_000_000_000_000_000_000)) ≡ false
+one_number_below_the_least = refl
+
+pub a_counter_out_of_range : is_cell [] (cell.Counter (pos 1_000_000_000_000_000_001)) ≡ false
+a_counter_out_of_range = refl
+
+pub a_register_out_of_range : is_cell [] (cell.Register kind.Int (value.Int (pos 1_000_000_000_000_000_001))) ≡ false
+a_register_out_of_range = refl
+
+pub a_volume_out_of_range : is_cell [] (cell.Accumulator (pos 1_000_000_000_000_000_001) (pos 3)) ≡ false
+a_volume_out_of_range = refl
+
 pub the_greatest_rate : is_cell [] (cell.Accumulator (pos 0) (pos 1_000_000_000_000)) ≡ true
 the_greatest_rate = refl
 
@@ -81,6 +96,9 @@ a_rate_is_shown = refl
 
 pub a_volume_is_not_discrete : is_resource cells (resource.Discrete (read.Volume 3)) ≡ false
 a_volume_is_not_discrete = refl
+
+pub no_term_at_all : is_resource cells (resource.Linear (sum [] 0)) ≡ false
+no_term_at_all = refl
 
 pub sixteen_terms : is_resource cells (resource.Linear (sum (replicate 16 (one 0)) 0)) ≡ true
 sixteen_terms = refl

@@ -34,10 +34,11 @@ is_summed cells (Local slot) = false
 abbrev pub is_summand : NamedCells → Term → Bool
 is_summand cells term = is_coefficient term && is_summed cells term.operand
 
--- at most 16 terms and no literal
+-- 1 to 16 terms and no literal
 abbrev pub is_sum : NamedCells → Linear → Bool
 is_sum cells form =
-    nat_le (length form.terms) term_limit
+    nat_le 1 (length form.terms)
+    && nat_le (length form.terms) term_limit
     && list_all (is_summand cells) form.terms
     && nat_eq (unsigned_abs form.constant) 0
 

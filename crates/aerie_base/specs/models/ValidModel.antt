@@ -8,6 +8,7 @@ use Rattle.aerie_base.specs.models.Cells.{is_cell}
 use Rattle.aerie_base.specs.models.Limits.{cell_limit, type_limit, enum_limit, variant_limit, resource_limit, daemon_limit}
 use Rattle.aerie_base.specs.models.Names.{are_distinct}
 use Rattle.aerie_base.specs.models.Resources.{is_resource}
+use Rattle.aerie_base.specs.models.Signatures.{signatures_of}
 
 -- ---- names
 
@@ -50,12 +51,12 @@ has_good_resources model =
 unfoldable pub has_good_activities : Parts → Bool
 has_good_activities model =
     nat_le (length model.activities) type_limit
-    && list_all (is_activity model.enums model.cells model.activities (enum_names model ++ cell_names model)) model.activities
+    && list_all (is_activity model.enums model.cells (signatures_of model.activities) (enum_names model ++ cell_names model)) model.activities
 
 unfoldable pub has_good_daemons : Parts → Bool
 has_good_daemons model =
     nat_le (length model.daemons) daemon_limit
-    && list_all (is_daemon model.enums model.cells model.activities) model.daemons
+    && list_all (is_daemon model.enums model.cells (signatures_of model.activities)) model.daemons
 
 -- ---- models
 

@@ -1,3 +1,5 @@
+-- A file of lemmas: what it proves need not be read to trust a clause.
+--
 -- What is known of each part of a valid model.
 use Rattle.std.proofs.Common.{◌≡◌, refl, [], ◌&&◌, Bool, IsTrue, arith}
 use Rattle.aerie_base.specs.declared.models.model.Parts.{Parts}

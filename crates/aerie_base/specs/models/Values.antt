@@ -1,5 +1,6 @@
--- The types and the values that a model has. Numbers keep their range by their type.
+-- The types and the values that a model has.
 use Rattle.std.specs.Prelude.{ℕ, ◌&&◌, Bool, true, List, Option, Some, None, nat_lt, length, slice_get}
+use Rattle.aerie_base.specs.Ranges.{is_number}
 use Rattle.aerie_base.specs.expressions.Arithmetic.{value_kind}
 use Rattle.aerie_base.specs.expressions.Typing.{same_kind}
 use Rattle.aerie_base.specs.declared.values.Kind.{Kind}
@@ -22,9 +23,9 @@ variants_of (Some enum) = length enum.variants
 abbrev pub variant_count : List EnumType → ℕ → ℕ
 variant_count enums kind = variants_of (slice_get enums kind)
 
--- whether a variant is one of the model's
+-- whether this is a value of the model: a number within the range, a truth, or a variant of one of its enumerations
 abbrev pub is_value : List EnumType → Value → Bool
-is_value enums (value.Int number) = true
+is_value enums (value.Int number) = is_number number
 is_value enums (value.Truth truth) = true
 is_value enums (value.Variant kind number) = nat_lt number (variant_count enums kind)
 

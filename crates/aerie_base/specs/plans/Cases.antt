@@ -1,9 +1,11 @@
--- Worked cases of a plan's ids and anchors.
-use Rattle.std.specs.Prelude.{◌≡◌, ℕ, true, false, List, [], ◌∷◌, Option, Some, None, refl}
+-- Worked cases of a plan's ids, arguments and anchors.
+use Rattle.std.specs.Prelude.{◌≡◌, ℕ, pos, true, false, List, [], ◌∷◌, Option, Some, None, refl}
 use Rattle.aerie_base.specs.declared.plans.Anchor.{Anchor}
 use Rattle.aerie_base.specs.declared.plans.Edge.TheVariants.{Start, End}
 use Rattle.aerie_base.specs.declared.plans.Directive.{Directive}
-use Rattle.aerie_base.specs.plans.OfModel.{rise_to, followed, is_there}
+use Rattle.aerie_base.specs.declared.values.Kind.TheVariants as kind
+use Rattle.aerie_base.specs.declared.values.Value.TheVariants as value
+use Rattle.aerie_base.specs.plans.OfModel.{are_values_of, rise_to, followed, is_there}
 
 pub ids_that_rise : rise_to 10 0 (1 ∷ 3 ∷ 9 ∷ []) ≡ true
 ids_that_rise = refl
@@ -16,6 +18,12 @@ no_id_twice = refl
 
 pub no_id_of_zero : rise_to 10 0 (0 ∷ []) ≡ false
 no_id_of_zero = refl
+
+pub an_argument_in_range : are_values_of [] (kind.Int ∷ []) (value.Int (pos 1_000_000_000_000_000_000) ∷ []) ≡ true
+an_argument_in_range = refl
+
+pub an_argument_out_of_range : are_values_of [] (kind.Int ∷ []) (value.Int (pos 1_000_000_000_000_000_001) ∷ []) ≡ false
+an_argument_out_of_range = refl
 
 -- ---- directive 1 by itself, 2 behind its end, 3 with the start of 2
 

@@ -8,7 +8,7 @@ use Rattle.aerie_base.specs.declared.models.Activity.{Activity}
 use Rattle.aerie_base.specs.declared.models.model.Parts.{Parts}
 use Rattle.aerie_base.specs.declared.plans.Directive.{Directive}
 use Rattle.aerie_base.specs.declared.plans.Plan.{Plan}
-use Rattle.aerie_base.specs.models.Activities.{parameter_kinds}
+use Rattle.aerie_base.specs.models.Signatures.{parameter_kinds}
 use Rattle.aerie_base.specs.models.Values.{is_value_of}
 
 -- the most directives of a branch

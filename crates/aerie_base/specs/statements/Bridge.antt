@@ -1,3 +1,5 @@
+-- A file of lemmas: what it proves need not be read to trust a clause.
+--
 -- The recursion that computes gives what the statement's own recursion gives, which does not compute.
 use Rattle.std.proofs.Common.{◌≡◌, List, [], ◌∷◌, true, map, refl, sym, ap, ◌∙◌, subst}
 use denote.Hole.Carrier.{hidden, shown, roll}

@@ -1,3 +1,5 @@
+-- A file of lemmas: what it proves need not be read to trust a clause.
+--
 -- Induction over statements: what holds of each statement without blocks, and of an `if` and a `while` where it holds of
 -- all statements in their blocks, holds of every statement.
 use Rattle.std.proofs.Common.{◌≡◌, List, [], ◌∷◌, true, false, map, sym, ap, ◌∙◌, subst}

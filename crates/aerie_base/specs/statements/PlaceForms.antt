@@ -1,3 +1,5 @@
+-- A file of lemmas: what it proves need not be read to trust a clause.
+--
 -- What sizes, counts and the statements left are at each form of statement.
 use Rattle.std.proofs.Common.{◌≡◌, ℕ, ◌+◌, List, [], ◌∷◌, ◌++◌, true, map, refl, ap, ◌∙◌, subst}
 use denote.Hole.Carrier.{hidden, shown, roll}

@@ -1,4 +1,4 @@
-ghost use Rattle.std.specs.Prelude.{◌≡◌, IfOk};
+ghost use Rattle.std.specs.Prelude.{◌≡◌, IfOk, IfSome};
 
 use crate::memory::OutOfMemory;
 use std::alloc::Global;
@@ -35,6 +35,14 @@ impl<T> Shared<T> {
     {
         let content = Arc::try_clone(&self.content)?;
         Ok(Shared { content })
+    }
+
+    /// Takes the value out again where this is its last owner; otherwise this owner is dropped.
+    pub fn into_inner(self) -> Option<T>
+        ensures { IfSome result (λ value. value ≡ self) }
+    {
+        let Shared { content } = self;
+        Arc::into_inner(content)
     }
 }
 

@@ -88,4 +88,7 @@ fn shares_a_list_among_owners(rt: HostRuntime) {
     let other = shared.share().expect(&rt, "memory");
     assert_eq!(&rt; other.get().len(), 1);
     assert_eq!(&rt; shared.get().len(), 1);
+    assert!(&rt; shared.into_inner().is_none());
+    let shapes = other.into_inner().expect(&rt, "the last owner");
+    assert_eq!(&rt; shapes.len(), 1);
 }

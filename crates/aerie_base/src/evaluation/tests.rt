@@ -1,7 +1,7 @@
 ghost use Rattle.std.specs.Prelude.{◌≡◌};
 ghost use Rattle.aerie_base.specs.expressions.PlainReads.{plain_kinds, plain_value};
 ghost use Rattle.aerie_base.specs.expressions.Readings.{reading};
-ghost use Rattle.aerie_base.specs.expressions.Typing.{combined_kind, given, keeps, kind_by_fold, kind_of, may_compare, operand_kind, same_kind, slot_kinds};
+ghost use Rattle.aerie_base.specs.expressions.Typing.{combined_kind, kind_if, same_kind_if, kind_by_fold, kind_of, may_compare, operand_kind, same_kind, slot_kinds};
 ghost use Rattle.aerie_base.specs.expressions.Arithmetic.{value_kind};
 
 use crate::containers::{Boxed, List};
@@ -18,7 +18,7 @@ use std::alloc::Global;
 #[derive(Drop)]
 struct Numbers<'a> {
     numbers: &'a [i64],
-    noted: List<bool>,
+    read_flags: List<bool>,
 }
 
 impl<'a> Look for Numbers<'a> {
@@ -29,18 +29,18 @@ impl<'a> Look for Numbers<'a> {
 
     ghost values = { λ look. plain_values look.numbers.now };
 
-    ghost noted = { λ look. look.noted };
+    ghost read_flags = { λ look. look.read_flags };
 
-    ghost Still = { List ℤ };
+    ghost Unchanged = { List ℤ };
 
-    ghost still = { λ look. look.numbers.now };
+    ghost unchanged = { λ look. look.numbers.now };
 
     ghost readings = { λ look. plain_readings look.numbers.now };
 
     fn look(&mut self, read: CellRead) -> Result<Value, Fault> {
         let cell = usize::from(read.cell());
-        if cell < self.noted.items.len() {
-            self.noted.items[cell] = true;
+        if cell < self.read_flags.items.len() {
+            self.read_flags.items[cell] = true;
         }
         match self.numbers.get(cell) {
             Some(number) => value_read(read, *number),
@@ -84,16 +84,16 @@ fn same_kind(left: Kind, right: Kind) -> bool
     }
 }
 
-fn given(right: bool, kind: Kind) -> Option<Kind>
-    ensures { result ≡ given right kind }
+fn kind_if(right: bool, kind: Kind) -> Option<Kind>
+    ensures { result ≡ kind_if right kind }
 {
     if right { Some(kind) } else { None }
 }
 
-fn keeps(kind: Kind, inner: Option<Kind>) -> Option<Kind>
-    ensures { result ≡ keeps kind inner }
+fn same_kind_if(kind: Kind, inner: Option<Kind>) -> Option<Kind>
+    ensures { result ≡ same_kind_if kind inner }
 {
-    given(same_kind(inner?, kind), kind)
+    kind_if(same_kind(inner?, kind), kind)
 }
 
 fn may_compare(how: Comparison, left: Kind, right: Kind) -> bool
@@ -110,13 +110,13 @@ fn combined_kind(operator: Operator, left: Kind, right: Kind) -> Option<Kind>
 {
     match operator {
         Operator::Or | Operator::And => {
-            given(
+            kind_if(
                 same_kind(left, Kind::Truth) && same_kind(right, Kind::Truth),
                 Kind::Truth,
             )
         }
-        Operator::Compare(how) => given(may_compare(how, left, right), Kind::Truth),
-        _ => given(
+        Operator::Compare(how) => kind_if(may_compare(how, left, right), Kind::Truth),
+        _ => kind_if(
             same_kind(left, Kind::Int) && same_kind(right, Kind::Int),
             Kind::Int,
         ),
@@ -124,7 +124,7 @@ fn combined_kind(operator: Operator, left: Kind, right: Kind) -> Option<Kind>
 }
 
 fn operand_kind(operand: Operand, locals: &[Value]) -> Option<Kind>
-    ensures { result ≡ operand_kind operand (slot_kinds locals.now) plain_kinds }
+    ensures { result ≡ operand_kind (slot_kinds locals.now) plain_kinds operand }
 {
     match operand {
         Operand::Local(slot) => match locals.get(usize::from(slot)) {
@@ -143,8 +143,8 @@ fn kind_by_fold(expr: &Expr, locals: &[Value]) -> Option<Kind>
     match expr {
         Expr::Literal(value) => Some(value_kind(value)),
         Expr::Operand(operand) => operand_kind(*operand, locals),
-        Expr::Not(inner) => keeps(Kind::Truth, kind_by_fold(inner.get(), locals)),
-        Expr::Negate(inner) => keeps(Kind::Int, kind_by_fold(inner.get(), locals)),
+        Expr::Not(inner) => same_kind_if(Kind::Truth, kind_by_fold(inner.get(), locals)),
+        Expr::Negate(inner) => same_kind_if(Kind::Int, kind_by_fold(inner.get(), locals)),
         Expr::Binary(operator, left, right) => {
             let left = kind_by_fold(left.get(), locals)?;
             let right = kind_by_fold(right.get(), locals)?;
@@ -213,17 +213,24 @@ fn answer(alloc: Global, expr: Option<Expr>) -> Option<(Result<Value, Fault>, [b
         Value::Variant { kind: 0, number: 1 },
     ];
     kind_of(&expr, &locals)?;
-    let mut noted = List::new(alloc);
-    noted.push(false).ok()?;
-    noted.push(false).ok()?;
-    noted.push(false).ok()?;
+    let mut read_flags = List::new(alloc);
+    read_flags.push(false).ok()?;
+    read_flags.push(false).ok()?;
+    read_flags.push(false).ok()?;
     let mut cells = Numbers {
         numbers: &[5, 1_000_000_000_000_000_001, 0],
-        noted,
+        read_flags,
     };
     let outcome = eval(&expr, &locals, &mut cells);
-    let noted = cells.noted.as_slice();
-    Some((outcome, [*noted.get(0)?, *noted.get(1)?, *noted.get(2)?]))
+    let read_flags = cells.read_flags.as_slice();
+    Some((
+        outcome,
+        [
+            *read_flags.get(0)?,
+            *read_flags.get(1)?,
+            *read_flags.get(2)?,
+        ],
+    ))
 }
 
 const NONE: [bool; 3] = [false, false, false];

@@ -138,7 +138,7 @@ impl Parts {
     fn copy(&self, alloc: Global) -> Result<Parts, OutOfMemory>
         ensures { IfOk result (λ copy. copy ≡ self.now) }
     {
-        let name = self.name.copy()?;
+        let name = self.name.copy(alloc)?;
         let enums = copy_list(alloc, &self.enums)?;
         let cells = copy_list(alloc, &self.cells)?;
         let resources = copy_list(alloc, &self.resources)?;

@@ -1,14 +1,12 @@
 ghost use Rattle.std.specs.Prelude.{◌≡◌};
 ghost use Rattle.aerie_base.specs.Ranges.{IsNumber, number_of};
 
+use crate::ranges::NUMBER_LIMIT;
 use std::marker::Model;
-
-/// The greatest number, and the least without its sign.
-const GREATEST: i64 = 1_000_000_000_000_000_000;
 
 /// A whole number of a model, from -10^18 to 10^18. What it counts (watts, bytes, degrees) is the model's matter.
 /// Contracts see its value.
-#[derive(Clone, Copy, Debug, PartialEq, Eq, PartialOrd, Ord)]
+#[derive(Clone, Copy, Debug, PartialEq, Eq, PartialOrd, Ord, Hash)]
 pub struct Number {
     value: i64,
 }
@@ -34,7 +32,7 @@ impl Number {
     pub fn new(value: i64) -> Option<Number>
         ensures { result ≡ number_of value }
     {
-        if value < -GREATEST || GREATEST < value {
+        if value < -NUMBER_LIMIT || NUMBER_LIMIT < value {
             return None;
         }
         Some(Number { value })

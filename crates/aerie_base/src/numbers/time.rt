@@ -1,14 +1,12 @@
 ghost use Rattle.std.specs.Prelude.{◌≡◌, pos};
 ghost use Rattle.aerie_base.specs.Ranges.{IsTime, time_of_signed};
 
+use crate::ranges::TIME_LIMIT;
 use std::marker::Model;
-
-/// The last time, in microseconds.
-const LAST: i64 = 1_000_000_000_000_000;
 
 /// A time since the start of a plan, or a duration, in microseconds, from 0 to 10^15. Contracts see how many
 /// microseconds it is, a natural number.
-#[derive(Clone, Copy, Debug, PartialEq, Eq, PartialOrd, Ord)]
+#[derive(Clone, Copy, Debug, PartialEq, Eq, PartialOrd, Ord, Hash)]
 pub struct Time {
     micros: i64,
 }
@@ -16,6 +14,7 @@ pub struct Time {
 impl Model for Time {
     ghost use Rattle.std.specs.Prelude.{ℕ, pos, nat_abs, ◌≤ℤ◌};
     ghost use Rattle.std.specs.Coded.{coded_ℕ};
+    ghost use Rattle.aerie_base.specs.Ranges.{time_limit};
     ghost use Rattle.aerie_base.specs.TimeForms.{same_field};
 
     ghost Value = { ℕ };
@@ -24,7 +23,7 @@ impl Model for Time {
 
     ghost view = { λ time. nat_abs time.micros };
 
-    ghost invariant = { λ time. (pos 0 ≤ℤ time.micros) × (time.micros ≤ℤ pos 1_000_000_000_000_000) };
+    ghost invariant = { λ time. (pos 0 ≤ℤ time.micros) × (time.micros ≤ℤ pos time_limit) };
 
     ghost inverse = { λ micros. record { micros = pos micros } };
 
@@ -36,7 +35,7 @@ impl Time {
     pub fn new(value: i64) -> Option<Time>
         ensures { result ≡ time_of_signed value }
     {
-        if value < 0 || LAST < value {
+        if value < 0 || TIME_LIMIT < value {
             return None;
         }
         Some(Time { micros: value })

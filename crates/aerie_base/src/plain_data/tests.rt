@@ -1,4 +1,4 @@
-use super::{PlainData, copy_list, same_list, same_values};
+use super::{PlainData, copy_list, same_list};
 use crate::arguments::{RawArgument, RawValue};
 use crate::conditions::{Cond, Simple};
 use crate::containers::{Boxed, List};
@@ -202,13 +202,13 @@ fn copies_and_compares_emissions(rt: HostRuntime) {
 
 fn enumeration(alloc: Global, name: &Name) -> Result<EnumType, OutOfMemory> {
     let mut variants = List::new(alloc);
-    variants.push(name.copy()?)?;
-    let name = name.copy()?;
+    variants.push(name.copy(alloc)?)?;
+    let name = name.copy(alloc)?;
     Ok(EnumType { name, variants })
 }
 
-fn parameter(name: &Name, default: Option<Value>) -> Result<Parameter, OutOfMemory> {
-    let name = name.copy()?;
+fn parameter(alloc: Global, name: &Name, default: Option<Value>) -> Result<Parameter, OutOfMemory> {
+    let name = name.copy(alloc)?;
     let kind = Kind::Truth;
     Ok(Parameter {
         name,
@@ -224,9 +224,9 @@ fn daemon(alloc: Global) -> Result<Daemon, OutOfMemory> {
 
 fn activity(alloc: Global, name: &Name) -> Result<Activity, OutOfMemory> {
     let mut parameters = List::new(alloc);
-    parameters.push(parameter(name, Some(TRUTH))?)?;
+    parameters.push(parameter(alloc, name, Some(TRUTH))?)?;
     Ok(Activity {
-        name: name.copy()?,
+        name: name.copy(alloc)?,
         parameters,
         result: Some(Kind::Int),
         requires_: expressions(alloc)?,
@@ -251,9 +251,9 @@ fn copies_parts(alloc: Global, name: &Name) -> Result<bool, OutOfMemory> {
 fn resources(alloc: Global, name: &Name) -> Result<List<(Name, Resource)>, OutOfMemory> {
     let mut list = List::new(alloc);
     let read = Resource::Discrete(CellRead::Conflicted(1));
-    list.push((name.copy()?, read))?;
+    list.push((name.copy(alloc)?, read))?;
     let sum = Resource::Linear(linear(alloc, 7)?);
-    list.push((name.copy()?, sum))?;
+    list.push((name.copy(alloc)?, sum))?;
     Ok(list)
 }
 
@@ -264,8 +264,8 @@ fn copies_and_compares_parts_of_a_model(rt: HostRuntime) {
         .expect(&rt, "memory")
         .expect(&rt, "a name");
     assert_eq!(&rt; copies_parts(alloc, &name), Ok(true));
-    let given = parameter(&name, Some(TRUTH)).expect(&rt, "memory");
-    let wanted = parameter(&name, None).expect(&rt, "memory");
+    let given = parameter(alloc, &name, Some(TRUTH)).expect(&rt, "memory");
+    let wanted = parameter(alloc, &name, None).expect(&rt, "memory");
     assert!(&rt; !given.is_same(&wanted));
 }
 
@@ -283,6 +283,17 @@ fn copies_and_compares_named_resources(rt: HostRuntime) {
         _ => false,
     };
     assert!(&rt; differ);
+}
+
+#[test]
+fn copies_and_compares_slots(rt: HostRuntime) {
+    let alloc = rt.alloc();
+    let mut list = List::new(alloc);
+    list.push(3_u16).expect(&rt, "memory");
+    list.push(5_u16).expect(&rt, "memory");
+    let copies = copy_list(alloc, &list).expect(&rt, "memory");
+    assert!(&rt; same_list(list.as_slice(), copies.as_slice()));
+    assert!(&rt; !same_list(list.as_slice(), &[3, 6]));
 }
 
 /// A directive with this anchor.
@@ -326,8 +337,8 @@ fn copies_and_compares_plans(rt: HostRuntime) {
     assert_eq!(&rt; copy.directives.len(), 2);
     if let [free, anchored] = copy.directives.as_slice() {
         assert!(&rt; !free.is_same(anchored));
-        assert!(&rt; same_values(free.arguments.as_slice(), anchored.arguments.as_slice()));
-        assert!(&rt; !same_values(free.arguments.as_slice(), &[]));
+        assert!(&rt; same_list(free.arguments.as_slice(), anchored.arguments.as_slice()));
+        assert!(&rt; !same_list(free.arguments.as_slice(), &[]));
     }
 }
 

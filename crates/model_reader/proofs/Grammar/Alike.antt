@@ -1,16 +1,17 @@
 -- The grammar of models as it is written and the factored one read the same tokens. In both the form of the rule `read` is put
 -- wherever the rule is named, since a primary may begin as a read does. The two grammars that this gives have the same
 -- expansions, rule by rule.
-use Rattle.std.proofs.Common.{◌≡◌, ℕ, zero, suc, List, [], ◌∷◌, refl, false}
-use Rattle.aerie_text.specs.declared.marks.Mark.{Mark}
+use Rattle.std.proofs.Common.{◌≡◌, ℕ, zero, suc, List, [], ◌∷◌, ◌++◌, refl, false}
+use Rattle.readers.specs.Marks.{Mark}
+use Rattle.readers.specs.Parsed.{is_of}
 use Rattle.aerie_text.specs.declared.sorts.Sort.{Sort}
-use Rattle.aerie_text.specs.grammar.Forms.{Form, rule, Grammar}
-use Rattle.aerie_text.specs.grammar.Alternatives.{SameExpansions}
-use Rattle.aerie_text.specs.grammar.Alike.{AreAlike, rewritten, is_rule, StandsFor, named, inlined}
-use Rattle.aerie_text.proofs.Grammars.Alternatives.{same_form, same_alternatives}
-use Rattle.aerie_text.proofs.Grammars.Alike.{alike_forms, alike_named, alike_turned, alike_chained}
+use Rattle.readers.specs.grammar.Forms.{Form, rule, Grammar}
+use Rattle.readers.specs.grammar.Alternatives.{SameExpansions}
+use Rattle.readers.specs.grammar.Alike.{AreAlike, rewritten, is_rule, StandsFor, named, inlined}
+use Rattle.readers.proofs.Grammars.Alternatives.{same_form, same_alternatives}
+use Rattle.readers.proofs.Grammars.Alike.{alike_forms, alike_named, alike_turned, alike_chained}
 use Rattle.model_reader.specs.grammar.Rules.{Rule, model_rule, item_rule, param_rule, type_rule, int_rule, literal_rule, read_rule, stmt_rule, block_rule, invoke_rule, expr_rule, and_rule, compare_rule, sum_rule, product_rule, unary_rule, primary_rule}
-use Rattle.model_reader.specs.grammar.Written.{written, fits}
+use Rattle.model_reader.specs.grammar.Written.{written}
 use Rattle.model_reader.specs.grammar.Factored.{factored, read_form}
 
 -- a read is its form, each other rule is itself
@@ -35,9 +36,9 @@ without_read primary_rule = rule primary_rule
 
 -- a grammar with the form of a read wherever a read is named
 abbrev pub put_in : Grammar Rule Sort Mark → Grammar Rule Sort Mark
-put_in g = record { fits = fits; form = λ r. rewritten without_read (g.form r) }
+put_in g = record { fits = is_of; form = λ r. rewritten without_read (g.form r) }
 
-module _ (g : Grammar Rule Sort Mark) (same_fits : (t : Sort) (k : Mark) → g.fits t k ≡ fits t k) (read : without_read read_rule ≡ rewritten without_read (g.form read_rule)) (no_rule : is_rule (g.form read_rule) ≡ false) where
+module _ (g : Grammar Rule Sort Mark) (same_fits : (t : Sort) (k : Mark) → g.fits t k ≡ is_of t k) (read : without_read read_rule ≡ rewritten without_read (g.form read_rule)) (no_rule : is_rule (g.form read_rule) ≡ false) where
   stands : (r : Rule) → StandsFor g (put_in g) without_read r
   stands model_rule = named model_rule refl refl
   stands item_rule = named item_rule refl refl
@@ -76,7 +77,7 @@ same literal_rule =
     same_alternatives ((put_in written).form literal_rule) ((put_in factored).form literal_rule) (record { in_second = 0 ∷ 2 ∷ 1 ∷ places 3 4; in_first = 0 ∷ 2 ∷ 1 ∷ places 3 4; onward = refl; back = refl })
 same read_rule = same_form ((put_in written).form read_rule)
 same stmt_rule =
-    same_alternatives ((put_in written).form stmt_rule) ((put_in factored).form stmt_rule) (record { in_second = 1 ∷ 0 ∷ places 2 14; in_first = 1 ∷ 0 ∷ places 2 14; onward = refl; back = refl })
+    same_alternatives ((put_in written).form stmt_rule) ((put_in factored).form stmt_rule) (record { in_second = 4 ∷ 3 ∷ places 5 9 ++ (0 ∷ 1 ∷ 2 ∷ 14 ∷ 15 ∷ []); in_first = 11 ∷ 12 ∷ 13 ∷ 1 ∷ 0 ∷ places 2 9 ++ (14 ∷ 15 ∷ []); onward = refl; back = refl })
 same block_rule = same_form ((put_in written).form block_rule)
 same invoke_rule =
     same_alternatives ((put_in written).form invoke_rule) ((put_in factored).form invoke_rule) (record { in_second = places 0 2; in_first = places 0 2; onward = refl; back = refl })

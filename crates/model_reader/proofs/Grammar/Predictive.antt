@@ -1,13 +1,12 @@
 -- In the factored grammar of models one token of lookahead decides.
 use Rattle.std.proofs.Common.{IsTrue, refl}
 use Rattle.aerie_text.specs.Sorts.{number_of}
-use Rattle.aerie_text.specs.grammar.Forms.{rule}
-use Rattle.aerie_text.specs.grammar.Predictive.{IsPredictive, shallow}
-use Rattle.aerie_text.specs.grammar.Tables.{look_by_number, decides, are_right}
-use Rattle.aerie_text.proofs.Grammars.Classes.{predictive_by_class}
-use Rattle.aerie_text.proofs.Grammars.Tables.{predictive_by_tables}
+use Rattle.readers.specs.grammar.Forms.{rule}
+use Rattle.readers.specs.grammar.Predictive.{IsPredictive, shallow}
+use Rattle.readers.specs.grammar.Tables.{look_by_number, decides, are_right}
+use Rattle.readers.proofs.Judged.{predictive_of}
 use Rattle.model_reader.specs.grammar.Rules.{Rule, model_rule, item_rule, param_rule, type_rule, int_rule, literal_rule, read_rule, stmt_rule, block_rule, invoke_rule, expr_rule, and_rule, compare_rule, sum_rule, product_rule, unary_rule, primary_rule}
-use Rattle.model_reader.specs.grammar.Factored.{tables, number_of_mark, look}
+use Rattle.model_reader.specs.grammar.Factored.{tables, look}
 
 right : (r : Rule) → IsTrue (are_right number_of tables r)
 right model_rule = refl
@@ -28,7 +27,7 @@ right product_rule = refl
 right unary_rule = refl
 right primary_rule = refl
 
-decided : (r : Rule) → IsTrue (decides number_of tables (tables.form r) (tables.follows r))
+decided : (r : Rule) → IsTrue (decides number_of tables (tables.form r) (tables.follow r))
 decided model_rule = refl
 decided item_rule = refl
 decided param_rule = refl
@@ -67,5 +66,4 @@ shallow_rule unary_rule = refl
 shallow_rule primary_rule = refl
 
 pub predictive : IsPredictive look
-predictive =
-    predictive_by_class number_of_mark (look_by_number number_of tables) (predictive_by_tables number_of tables (record { right = right; decided = decided; shallow_rule = shallow_rule }))
+predictive = predictive_of tables (record { right = right; decided = decided; shallow_rule = shallow_rule })

@@ -1,11 +1,11 @@
 -- What is so by the factored grammar of models is so by the grammar as it is written.
 use Rattle.std.specs.Prelude.{List, [], ◌∷◌}
-use Rattle.aerie_text.specs.declared.marks.Mark.{Mark}
-use Rattle.aerie_text.specs.grammar.Forms.{rule}
-use Rattle.aerie_text.specs.grammar.Lookahead.{Answer, answer}
-use Rattle.aerie_text.specs.grammar.Verdicts.{Tells}
-use Rattle.aerie_text.proofs.Grammars.Alike.{alike_turned, alike_tells}
-use Rattle.aerie_text.proofs.Grammars.Verdicts.{tells}
+use Rattle.readers.specs.Marks.{Mark}
+use Rattle.readers.specs.grammar.Forms.{rule}
+use Rattle.readers.specs.grammar.Lookahead.{Answer, answer}
+use Rattle.readers.specs.grammar.Tells.{Tells}
+use Rattle.readers.proofs.Grammars.Alike.{alike_turned, alike_tells}
+use Rattle.readers.proofs.Grammars.Verdicts.{tells}
 use Rattle.model_reader.proofs.Grammar.Alike.{alike}
 use Rattle.model_reader.proofs.Grammar.Predictive.{predictive}
 use Rattle.model_reader.specs.grammar.Factored.{look, factored}

@@ -1,15 +1,14 @@
 -- The grammar of models in which the next token decides each choice. It reads what the grammar as it is written reads. A form
 -- with a name of its own is what one part of the reader reads.
-use Rattle.std.specs.Prelude.{ℕ, false, List, [], ◌∷◌}
-use Rattle.aerie_text.specs.declared.marks.Mark.{Mark}
+use Rattle.std.specs.Prelude.{false, List, [], ◌∷◌}
+use Rattle.readers.specs.Marks.{Mark}
 use Rattle.aerie_text.specs.declared.sorts.Sort.{Sort}
 use Rattle.aerie_text.specs.declared.sorts.Sort.TheVariants as sort
-use Rattle.aerie_text.specs.Sorts.{number_of}
-use Rattle.aerie_text.specs.grammar.Forms.{Form, token, rule, many, option, separated, Grammar}
-use Rattle.aerie_text.specs.grammar.Lookahead.{Lookahead}
-use Rattle.aerie_text.specs.grammar.Classes.{look_by_class}
-use Rattle.aerie_text.specs.grammar.Tables.{Tables, look_by_number}
-use Rattle.model_reader.specs.grammar.Notation.{◌then◌, ◌or◌}
+use Rattle.readers.specs.grammar.Forms.{Form, token, rule, many, option, separated, Grammar}
+use Rattle.readers.specs.grammar.Lookahead.{Lookahead}
+use Rattle.readers.specs.grammar.MarkTables.{look_of}
+use Rattle.readers.specs.grammar.Tables.{Tables}
+use Rattle.readers.specs.grammar.Notation.{◌then◌, ◌or◌}
 use Rattle.model_reader.specs.grammar.Rules.{Rule, model_rule, item_rule, param_rule, type_rule, int_rule, literal_rule, read_rule, stmt_rule, block_rule, invoke_rule, expr_rule, and_rule, compare_rule, sum_rule, product_rule, unary_rule, primary_rule}
 
 -- model = "model" NAME "{" { item } "}"
@@ -176,7 +175,7 @@ part_change_form = token sort.Dot then changed_part_form then token sort.PlusAss
 
 -- what a statement does to the NAME that it begins with: "=" | "+=" | ":=" | "." ( "volume" | "rate" ) "+="
 abbrev pub change_sign_form : Form Rule Sort
-change_sign_form = token sort.Assign or token sort.PlusAssign or token sort.ColonAssign or part_change_form
+change_sign_form = (token sort.Assign or token sort.PlusAssign or token sort.ColonAssign) or part_change_form
 
 -- NAME ( "=" | "+=" | ":=" | "." ( "volume" | "rate" ) "+=" ) expr ";"
 abbrev pub change_form : Form Rule Sort
@@ -218,9 +217,13 @@ while_form = token sort.While then rule expr_rule then rule block_rule
 abbrev pub return_form : Form Rule Sort
 return_form = token sort.Return then option (rule expr_rule) then token sort.Semicolon
 
--- stmt is one of these eight
+-- a statement without blocks
+abbrev pub simple_form : Form Rule Sort
+simple_form = let_form or change_form or delay_form or wait_form or start_form or return_form
+
+-- stmt, of which there are eight
 abbrev pub stmt_form : Form Rule Sort
-stmt_form = let_form or change_form or delay_form or wait_form or start_form or if_form or while_form or return_form
+stmt_form = if_form or while_form or simple_form
 
 -- block = "{" { stmt } "}"
 abbrev pub block_form : Form Rule Sort
@@ -351,87 +354,83 @@ form_of primary_rule = primary_form
 
 -- ---- with which sorts of tokens a rule begins
 
-abbrev pub item_begins : List Sort
-item_begins = sort.Enum ∷ sort.Counter ∷ sort.Register ∷ sort.Accumulator ∷ sort.Discrete ∷ sort.Linear ∷ sort.Activity ∷ sort.Daemon ∷ []
+abbrev pub item_first : List Sort
+item_first = sort.Enum ∷ sort.Counter ∷ sort.Register ∷ sort.Accumulator ∷ sort.Discrete ∷ sort.Linear ∷ sort.Activity ∷ sort.Daemon ∷ []
 
-abbrev pub stmt_begins : List Sort
-stmt_begins = sort.Let ∷ sort.Name ∷ sort.Delay ∷ sort.Wait ∷ sort.Spawn ∷ sort.Call ∷ sort.If ∷ sort.While ∷ sort.Return ∷ []
+abbrev pub stmt_first : List Sort
+stmt_first = sort.Let ∷ sort.Name ∷ sort.Delay ∷ sort.Wait ∷ sort.Spawn ∷ sort.Call ∷ sort.If ∷ sort.While ∷ sort.Return ∷ []
 
-abbrev pub primary_begins : List Sort
-primary_begins = sort.Number ∷ sort.Time ∷ sort.True ∷ sort.False ∷ sort.Name ∷ sort.OpenParenthesis ∷ []
+abbrev pub primary_first : List Sort
+primary_first = sort.Number ∷ sort.Time ∷ sort.True ∷ sort.False ∷ sort.Name ∷ sort.OpenParenthesis ∷ []
 
-abbrev pub expr_begins : List Sort
-expr_begins = sort.Minus ∷ sort.Exclamation ∷ primary_begins
+abbrev pub expr_first : List Sort
+expr_first = sort.Minus ∷ sort.Exclamation ∷ primary_first
 
-abbrev pub rule_begins : Rule → List Sort
-rule_begins model_rule = sort.Model ∷ []
-rule_begins item_rule = item_begins
-rule_begins param_rule = sort.Name ∷ []
-rule_begins type_rule = sort.Int ∷ sort.Duration ∷ sort.Truth ∷ sort.Name ∷ []
-rule_begins int_rule = sort.Minus ∷ sort.Number ∷ []
-rule_begins literal_rule = sort.Minus ∷ sort.Number ∷ sort.Time ∷ sort.True ∷ sort.False ∷ sort.Name ∷ []
-rule_begins read_rule = sort.Name ∷ []
-rule_begins stmt_rule = stmt_begins
-rule_begins block_rule = sort.OpenBrace ∷ []
-rule_begins invoke_rule = sort.Name ∷ []
-rule_begins expr_rule = expr_begins
-rule_begins and_rule = expr_begins
-rule_begins compare_rule = expr_begins
-rule_begins sum_rule = expr_begins
-rule_begins product_rule = expr_begins
-rule_begins unary_rule = expr_begins
-rule_begins primary_rule = primary_begins
+abbrev pub rule_first : Rule → List Sort
+rule_first model_rule = sort.Model ∷ []
+rule_first item_rule = item_first
+rule_first param_rule = sort.Name ∷ []
+rule_first type_rule = sort.Int ∷ sort.Duration ∷ sort.Truth ∷ sort.Name ∷ []
+rule_first int_rule = sort.Minus ∷ sort.Number ∷ []
+rule_first literal_rule = sort.Minus ∷ sort.Number ∷ sort.Time ∷ sort.True ∷ sort.False ∷ sort.Name ∷ []
+rule_first read_rule = sort.Name ∷ []
+rule_first stmt_rule = stmt_first
+rule_first block_rule = sort.OpenBrace ∷ []
+rule_first invoke_rule = sort.Name ∷ []
+rule_first expr_rule = expr_first
+rule_first and_rule = expr_first
+rule_first compare_rule = expr_first
+rule_first sum_rule = expr_first
+rule_first product_rule = expr_first
+rule_first unary_rule = expr_first
+rule_first primary_rule = primary_first
 
 -- ---- which sorts of tokens may follow a rule inside a model
 
-abbrev pub expr_follows : List Sort
-expr_follows = sort.Semicolon ∷ sort.Comma ∷ sort.CloseParenthesis ∷ sort.OpenBrace ∷ []
+abbrev pub expr_follow : List Sort
+expr_follow = sort.Semicolon ∷ sort.Comma ∷ sort.CloseParenthesis ∷ sort.OpenBrace ∷ []
 
-abbrev pub and_follows : List Sort
-and_follows = sort.DoubleBar ∷ expr_follows
+abbrev pub and_follow : List Sort
+and_follow = sort.DoubleBar ∷ expr_follow
 
-abbrev pub compare_follows : List Sort
-compare_follows = sort.DoubleAmpersand ∷ and_follows
+abbrev pub compare_follow : List Sort
+compare_follow = sort.DoubleAmpersand ∷ and_follow
 
-abbrev pub sum_follows : List Sort
-sum_follows = sort.DoubleEqual ∷ sort.NotEqual ∷ sort.Less ∷ sort.LessEqual ∷ sort.Greater ∷ sort.GreaterEqual ∷ compare_follows
+abbrev pub sum_follow : List Sort
+sum_follow = sort.DoubleEqual ∷ sort.NotEqual ∷ sort.Less ∷ sort.LessEqual ∷ sort.Greater ∷ sort.GreaterEqual ∷ compare_follow
 
-abbrev pub product_follows : List Sort
-product_follows = sort.Plus ∷ sort.Minus ∷ sum_follows
+abbrev pub product_follow : List Sort
+product_follow = sort.Plus ∷ sort.Minus ∷ sum_follow
 
-abbrev pub unary_follows : List Sort
-unary_follows = sort.Star ∷ sort.Slash ∷ sort.Percent ∷ product_follows
+abbrev pub unary_follow : List Sort
+unary_follow = sort.Star ∷ sort.Slash ∷ sort.Percent ∷ product_follow
 
-abbrev pub rule_follows : Rule → List Sort
-rule_follows model_rule = []
-rule_follows item_rule = sort.CloseBrace ∷ item_begins
-rule_follows param_rule = sort.Comma ∷ sort.CloseParenthesis ∷ []
-rule_follows type_rule = sort.Assign ∷ sort.Comma ∷ sort.CloseParenthesis ∷ sort.OpenBrace ∷ []
-rule_follows int_rule = sort.Rate ∷ sort.Semicolon ∷ []
-rule_follows literal_rule = sort.Comma ∷ sort.CloseParenthesis ∷ sort.Semicolon ∷ []
-rule_follows read_rule = sort.Semicolon ∷ []
-rule_follows stmt_rule = sort.CloseBrace ∷ stmt_begins
-rule_follows block_rule = sort.Else ∷ sort.CloseBrace ∷ stmt_begins
-rule_follows invoke_rule = sort.Semicolon ∷ []
-rule_follows expr_rule = expr_follows
-rule_follows and_rule = and_follows
-rule_follows compare_rule = compare_follows
-rule_follows sum_rule = sum_follows
-rule_follows product_rule = product_follows
-rule_follows unary_rule = unary_follows
-rule_follows primary_rule = unary_follows
+abbrev pub rule_follow : Rule → List Sort
+rule_follow model_rule = []
+rule_follow item_rule = sort.CloseBrace ∷ item_first
+rule_follow param_rule = sort.Comma ∷ sort.CloseParenthesis ∷ []
+rule_follow type_rule = sort.Assign ∷ sort.Comma ∷ sort.CloseParenthesis ∷ sort.OpenBrace ∷ []
+rule_follow int_rule = sort.Rate ∷ sort.Semicolon ∷ []
+rule_follow literal_rule = sort.Comma ∷ sort.CloseParenthesis ∷ sort.Semicolon ∷ []
+rule_follow read_rule = sort.Semicolon ∷ []
+rule_follow stmt_rule = sort.CloseBrace ∷ stmt_first
+rule_follow block_rule = sort.Else ∷ sort.CloseBrace ∷ stmt_first
+rule_follow invoke_rule = sort.Semicolon ∷ []
+rule_follow expr_rule = expr_follow
+rule_follow and_rule = and_follow
+rule_follow compare_rule = compare_follow
+rule_follow sum_rule = sum_follow
+rule_follow product_rule = product_follow
+rule_follow unary_rule = unary_follow
+rule_follow primary_rule = unary_follow
 
 -- ---- the reader that looks one token ahead
 
 abbrev pub tables : Tables Rule Sort
-tables = record { form = form_of; empty = λ r. false; begins = rule_begins; follows = rule_follows; openings = 7 }
-
--- the number of a mark's sort
-abbrev pub number_of_mark : Mark → ℕ
-number_of_mark mark = number_of mark.sort
+tables = record { form = form_of; nullable = λ r. false; first = rule_first; follow = rule_follow; openings = 7 }
 
 abbrev pub look : Lookahead Rule Sort Mark
-look = look_by_class number_of_mark (look_by_number number_of tables)
+look = look_of tables
 
 abbrev pub factored : Grammar Rule Sort Mark
 factored = look.grammar

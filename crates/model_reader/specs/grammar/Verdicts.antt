@@ -1,9 +1,9 @@
 -- What a reader that looks one mark ahead says of the marks of a model.
 use Rattle.std.specs.Prelude.{List, [], ◌∷◌}
-use Rattle.aerie_text.specs.declared.marks.Mark.{Mark}
-use Rattle.aerie_text.specs.grammar.Forms.{rule}
-use Rattle.aerie_text.specs.grammar.Lookahead.{answer}
-use Rattle.aerie_text.specs.grammar.Verdicts.{Tells}
+use Rattle.readers.specs.Marks.{Mark}
+use Rattle.readers.specs.grammar.Forms.{rule}
+use Rattle.readers.specs.grammar.Lookahead.{answer}
+use Rattle.readers.specs.grammar.Tells.{Tells}
 use Rattle.model_reader.specs.grammar.Factored.{look}
 use Rattle.model_reader.specs.grammar.Rules.{model_rule}
 use Rattle.model_reader.specs.grammar.Written.{written}

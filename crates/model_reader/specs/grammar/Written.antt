@@ -1,12 +1,11 @@
 -- The grammar of models as it is written. INT, NAME, NUMBER and DURATION of the comments are a whole number, and tokens of
 -- the sorts Name, Number and Time.
-use Rattle.std.specs.Prelude.{Bool}
-use Rattle.aerie_text.specs.declared.marks.Mark.{Mark}
+use Rattle.readers.specs.Marks.{Mark}
 use Rattle.aerie_text.specs.declared.sorts.Sort.{Sort}
 use Rattle.aerie_text.specs.declared.sorts.Sort.TheVariants as sort
-use Rattle.aerie_text.specs.Sorts.{same_sort}
-use Rattle.aerie_text.specs.grammar.Forms.{Form, token, rule, many, option, separated, Grammar}
-use Rattle.model_reader.specs.grammar.Notation.{◌then◌, ◌or◌}
+use Rattle.readers.specs.grammar.Forms.{Form, token, rule, many, option, separated, Grammar}
+use Rattle.readers.specs.grammar.MarkTables.{grammar_of}
+use Rattle.readers.specs.grammar.Notation.{◌then◌, ◌or◌}
 use Rattle.model_reader.specs.grammar.Rules.{Rule, model_rule, item_rule, param_rule, type_rule, int_rule, literal_rule, read_rule, stmt_rule, block_rule, invoke_rule, expr_rule, and_rule, compare_rule, sum_rule, product_rule, unary_rule, primary_rule}
 
 -- model = "model" NAME "{" { item } "}"
@@ -190,9 +189,5 @@ form_of product_rule = product_form
 form_of unary_rule = unary_form
 form_of primary_rule = primary_form
 
--- a mark is read as a token of its own sort
-abbrev pub fits : Sort → Mark → Bool
-fits sort mark = same_sort sort mark.sort
-
 abbrev pub written : Grammar Rule Sort Mark
-written = record { fits = fits; form = form_of }
+written = grammar_of form_of

@@ -15,10 +15,10 @@ pub struct RawName {
 
 impl RawName {
     /// An equal name at the same place.
-    pub fn copy(&self, _alloc: Global) -> Result<RawName, OutOfMemory>
+    pub fn copy(&self, alloc: Global) -> Result<RawName, OutOfMemory>
         ensures { IfOk result (λ copy. copy ≡ self.now) }
     {
-        let name = self.name.copy()?;
+        let name = self.name.copy(alloc)?;
         Ok(RawName { at: self.at, name })
     }
 }

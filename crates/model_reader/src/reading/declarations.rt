@@ -17,3 +17,15 @@ pub struct Declarations {
     /// Daemons.
     pub daemons: usize,
 }
+
+/// A kind of item whose number is limited.
+#[derive(Clone, Copy, Debug)]
+pub enum ItemKind {
+    Enum,
+    /// A counter, a register or an accumulator.
+    Cell,
+    /// A discrete or a linear resource.
+    Resource,
+    Activity,
+    Daemon,
+}

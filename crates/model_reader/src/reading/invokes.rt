@@ -1,16 +1,16 @@
 //! Activities with arguments. The time is linear in their marks.
 
-ghost use Rattle.std.specs.Prelude.{◌≡◌, ◌<◌, ◌≤◌, IfOk, [], length};
-ghost use Rattle.aerie_text.specs.declared.sorts.Sort.TheVariants.{Comma, Name};
-ghost use Rattle.aerie_text.specs.reading.Gives.{Gives};
-ghost use Rattle.aerie_text.specs.reading.Read.{got, next_is, chosen, behind_at};
-ghost use Rattle.model_reader.specs.reading.Statements.{argument_at, some_arguments_at, arguments_at, invoke_at};
+ghost use Rattle.aerie_text.specs.declared.sorts.Sort.TheVariants.{Comma};
+ghost use Rattle.readers.specs.Implements.{Consumes, MayConsume};
+ghost use Rattle.readers.specs.Parsed.{behind_at};
+ghost use Rattle.model_reader.specs.reading.Statements.{argument_at, some_arguments_at, optional_arguments_at, arguments_at, invoke_at};
 
 use crate::raw::{RawExpr, RawInvoke, RawName};
 use crate::reading::expressions::expr;
 use crate::reading::names::raw_name;
-use aerie_base::List;
-use aerie_text::{Reader, Refusal, Sort};
+use aerie_base::{List, Name};
+use aerie_text::Sort;
+use readers::{Reader, Refusal};
 use std::alloc::Global;
 
 /// Reads an argument, and puts it behind those so far.
@@ -18,16 +18,14 @@ use std::alloc::Global;
 fn argument(
     alloc: Global,
     reader: &mut Reader,
-    text: &str,
     so_far: List<(RawName, RawExpr)>,
 ) -> Result<List<(RawName, RawExpr)>, Refusal>
-    ensures read { Gives reader.new.rest.now result (argument_at text.now so_far reader.old.rest.now) }
-    ensures shorter { IfOk result (λ _. length reader.new.rest.now < length reader.old.rest.now) }
+    ensures { Consumes (argument_at so_far) reader.old reader.new result }
 {
     let mut arguments = so_far;
-    let name = raw_name(alloc, reader, text)?;
+    let name = raw_name(alloc, reader)?;
     reader.take(Sort::Assign)?;
-    let value = expr(alloc, reader, text)?;
+    let value = expr(alloc, reader)?;
     arguments.push((name, value))?;
     Ok(arguments)
 }
@@ -36,44 +34,36 @@ fn argument(
 fn next_argument(
     alloc: Global,
     reader: &mut Reader,
-    text: &str,
     so_far: List<(RawName, RawExpr)>,
 ) -> Result<List<(RawName, RawExpr)>, Refusal>
-    ensures read { Gives reader.new.rest.now result (behind_at Comma (argument_at text.now) so_far reader.old.rest.now) }
-    ensures shorter { IfOk result (λ _. length reader.new.rest.now < length reader.old.rest.now) }
+    ensures { Consumes (behind_at Comma argument_at so_far) reader.old reader.new result }
 {
     reader.take(Sort::Comma)?;
-    argument(alloc, reader, text, so_far)
+    argument(alloc, reader, so_far)
 }
 
 /// Reads an argument or more, with commas between them.
 #[tactic(auto, unfolding(crate::specs::reading::Statements::some_arguments_at))]
-fn some_arguments(
-    alloc: Global,
-    reader: &mut Reader,
-    text: &str,
-) -> Result<List<(RawName, RawExpr)>, Refusal>
-    ensures read { Gives reader.new.rest.now result (some_arguments_at text.now reader.old.rest.now) }
-    ensures shorter { IfOk result (λ _. length reader.new.rest.now < length reader.old.rest.now) }
+fn some_arguments(alloc: Global, reader: &mut Reader) -> Result<List<(RawName, RawExpr)>, Refusal>
+    ensures { Consumes some_arguments_at reader.old reader.new result }
 {
-    let mut arguments = argument(alloc, reader, text, List::new(alloc))?;
+    let mut arguments = argument(alloc, reader, List::new(alloc))?;
     while reader.next_is(Sort::Comma) {
-        arguments = next_argument(alloc, reader, text, arguments)?;
+        arguments = next_argument(alloc, reader, arguments)?;
     }
     Ok(arguments)
 }
 
 /// Reads what stands between the parentheses.
-fn inner_arguments(
+#[tactic(auto, unfolding(crate::specs::reading::Statements::optional_arguments_at))]
+fn optional_arguments(
     alloc: Global,
     reader: &mut Reader,
-    text: &str,
 ) -> Result<List<(RawName, RawExpr)>, Refusal>
-    ensures read { Gives reader.new.rest.now result (chosen (next_is Name reader.old.rest.now) (some_arguments_at text.now) (got []) reader.old.rest.now) }
-    ensures no_longer { IfOk result (λ _. length reader.new.rest.now ≤ length reader.old.rest.now) }
+    ensures { MayConsume optional_arguments_at reader.old reader.new result }
 {
     if reader.next_is(Sort::Name) {
-        some_arguments(alloc, reader, text)
+        some_arguments(alloc, reader)
     } else {
         Ok(List::new(alloc))
     }
@@ -81,27 +71,21 @@ fn inner_arguments(
 
 /// Reads arguments in parentheses.
 #[tactic(auto, unfolding(crate::specs::reading::Statements::arguments_at))]
-fn arguments(
-    alloc: Global,
-    reader: &mut Reader,
-    text: &str,
-) -> Result<List<(RawName, RawExpr)>, Refusal>
-    ensures read { Gives reader.new.rest.now result (arguments_at text.now reader.old.rest.now) }
-    ensures shorter { IfOk result (λ _. length reader.new.rest.now < length reader.old.rest.now) }
+fn arguments(alloc: Global, reader: &mut Reader) -> Result<List<(RawName, RawExpr)>, Refusal>
+    ensures { Consumes arguments_at reader.old reader.new result }
 {
     reader.take(Sort::OpenParenthesis)?;
-    let arguments = inner_arguments(alloc, reader, text)?;
+    let arguments = optional_arguments(alloc, reader)?;
     reader.take(Sort::CloseParenthesis)?;
     Ok(arguments)
 }
 
 /// Reads the name of an activity type and its arguments.
 #[tactic(auto, unfolding(crate::specs::reading::Statements::invoke_at))]
-pub fn invoke(alloc: Global, reader: &mut Reader, text: &str) -> Result<RawInvoke, Refusal>
-    ensures read { Gives reader.new.rest.now result (invoke_at text.now reader.old.rest.now) }
-    ensures shorter { IfOk result (λ _. length reader.new.rest.now < length reader.old.rest.now) }
+pub fn invoke(alloc: Global, reader: &mut Reader) -> Result<RawInvoke, Refusal>
+    ensures { Consumes invoke_at reader.old reader.new result }
 {
-    let name = raw_name(alloc, reader, text)?;
-    let arguments = arguments(alloc, reader, text)?;
+    let name = raw_name(alloc, reader)?;
+    let arguments = arguments(alloc, reader)?;
     Ok(RawInvoke { name, arguments })
 }

@@ -1,25 +1,24 @@
 //! Whole numbers and literals.
 
-ghost use Rattle.std.specs.Prelude.{◌≡◌, ◌<◌, ◌≤◌, neg_ℤ, IfOk, length};
-ghost use Rattle.aerie_text.specs.reading.Gives.{Gives};
-ghost use Rattle.aerie_text.specs.reading.Read.{next_fits};
-ghost use Rattle.model_reader.specs.reading.Literals.{sign_at, signed, int_at, amount_at, amount_literal_at, truth_literal_at, variant_literal_at, begins_amount, literal_at};
+ghost use Rattle.std.specs.Prelude.{◌≡◌, neg_ℤ};
+ghost use Rattle.readers.specs.Implements.{Consumes, MayConsume};
+ghost use Rattle.model_reader.specs.reading.Literals.{sign_at, signed, int_at, amount_at, amount_literal_at, truth_literal_at, variant_literal_at, literal_at};
 
 use crate::raw::{RawLiteral, RawLiteralKind};
 use crate::reading::names::raw_name;
 use aerie_base::{Number, Place};
-use aerie_text::{Mark, Reader, Refusal, Sort};
+use aerie_text::Sort;
+use readers::{Reader, Refusal};
 use std::alloc::Global;
 
 /// Reads a minus, where there is one, and gives its place.
 #[tactic(auto, unfolding(crate::specs::reading::Literals::sign_at, crate::specs::reading::Literals::minus_at))]
 fn sign(reader: &mut Reader) -> Result<Option<Place>, Refusal>
-    ensures read { Gives reader.new.rest.now result (sign_at reader.old.rest.now) }
-    ensures no_longer { IfOk result (λ _. length reader.new.rest.now ≤ length reader.old.rest.now) }
+    ensures { MayConsume sign_at reader.old reader.new result }
 {
     if reader.next_is(Sort::Minus) {
         let minus = reader.take(Sort::Minus)?;
-        Ok(Some(minus.at))
+        Ok(Some(minus))
     } else {
         Ok(None)
     }
@@ -31,44 +30,41 @@ fn negated(number: Number) -> Number
     Number::new(-number.get()).unwrap()
 }
 
-/// The number that a mark counts, behind the minus that has this place, and the place where it begins.
-fn signed(minus: Option<Place>, mark: Mark) -> (Place, Number)
-    ensures { result ≡ signed minus mark }
+/// The number behind the minus that has this place, and the place where it begins.
+fn signed(minus: Option<Place>, number: (Place, Number)) -> (Place, Number)
+    ensures { result ≡ signed minus number }
 {
     match minus {
-        Some(at) => (at, negated(mark.number)),
-        None => (mark.at, mark.number),
+        Some(at) => (at, negated(number.1)),
+        None => number,
     }
 }
 
 /// Reads a whole number, and gives the place where it begins too.
 #[tactic(auto, unfolding(crate::specs::reading::Literals::int_at))]
 pub fn int(reader: &mut Reader) -> Result<(Place, Number), Refusal>
-    ensures read { Gives reader.new.rest.now result (int_at reader.old.rest.now) }
-    ensures shorter { IfOk result (λ _. length reader.new.rest.now < length reader.old.rest.now) }
+    ensures { Consumes int_at reader.old reader.new result }
 {
     let minus = sign(reader)?;
-    let number = reader.take(Sort::Number)?;
+    let number = reader.number(Sort::Number)?;
     Ok(signed(minus, number))
 }
 
 /// Reads a number or a duration without a sign.
 #[tactic(auto, unfolding(crate::specs::reading::Literals::amount_at))]
-pub fn amount(reader: &mut Reader) -> Result<Mark, Refusal>
-    ensures read { Gives reader.new.rest.now result (amount_at reader.old.rest.now) }
-    ensures shorter { IfOk result (λ _. length reader.new.rest.now < length reader.old.rest.now) }
+pub fn amount(reader: &mut Reader) -> Result<(Place, Number), Refusal>
+    ensures { Consumes amount_at reader.old reader.new result }
 {
     if reader.next_is(Sort::Number) {
-        reader.take(Sort::Number)
+        reader.number(Sort::Number)
     } else {
-        reader.take(Sort::Time)
+        reader.number(Sort::Time)
     }
 }
 
 #[tactic(auto, unfolding(crate::specs::reading::Literals::amount_literal_at))]
 fn amount_literal(reader: &mut Reader) -> Result<RawLiteral, Refusal>
-    ensures read { Gives reader.new.rest.now result (amount_literal_at reader.old.rest.now) }
-    ensures shorter { IfOk result (λ _. length reader.new.rest.now < length reader.old.rest.now) }
+    ensures { Consumes amount_literal_at reader.old reader.new result }
 {
     let minus = sign(reader)?;
     let amount = amount(reader)?;
@@ -81,54 +77,39 @@ fn amount_literal(reader: &mut Reader) -> Result<RawLiteral, Refusal>
 
 #[tactic(auto, unfolding(crate::specs::reading::Literals::truth_literal_at))]
 fn truth_literal(reader: &mut Reader, sort: Sort, truth: bool) -> Result<RawLiteral, Refusal>
-    ensures read { Gives reader.new.rest.now result (truth_literal_at sort truth reader.old.rest.now) }
-    ensures shorter { IfOk result (λ _. length reader.new.rest.now < length reader.old.rest.now) }
+    ensures { Consumes (truth_literal_at sort truth) reader.old reader.new result }
 {
-    let word = reader.take(sort)?;
+    let at = reader.take(sort)?;
     Ok(RawLiteral {
-        at: word.at,
+        at,
         what: RawLiteralKind::Truth(truth),
     })
 }
 
 #[tactic(auto, unfolding(crate::specs::reading::Literals::variant_literal_at))]
-fn variant_literal(alloc: Global, reader: &mut Reader, text: &str) -> Result<RawLiteral, Refusal>
-    ensures read { Gives reader.new.rest.now result (variant_literal_at text.now reader.old.rest.now) }
-    ensures shorter { IfOk result (λ _. length reader.new.rest.now < length reader.old.rest.now) }
+fn variant_literal(alloc: Global, reader: &mut Reader) -> Result<RawLiteral, Refusal>
+    ensures { Consumes variant_literal_at reader.old reader.new result }
 {
-    let kind = raw_name(alloc, reader, text)?;
+    let kind = raw_name(alloc, reader)?;
     reader.take(Sort::Dot)?;
-    let variant = raw_name(alloc, reader, text)?;
+    let variant = raw_name(alloc, reader)?;
     Ok(RawLiteral {
         at: kind.at,
         what: RawLiteralKind::Variant { kind, variant },
     })
 }
 
-/// Whether the next mark begins a number or a duration, or is the sign of one.
-fn begins_amount(reader: &Reader) -> bool
-    ensures { result ≡ next_fits begins_amount reader.now.rest.now }
-{
-    match reader.next() {
-        Some(mark) => {
-            Sort::Minus.is(mark.sort) || Sort::Number.is(mark.sort) || Sort::Time.is(mark.sort)
-        }
-        None => false,
-    }
-}
-
 #[tactic(auto, unfolding(crate::specs::reading::Literals::literal_at))]
-pub fn literal(alloc: Global, reader: &mut Reader, text: &str) -> Result<RawLiteral, Refusal>
-    ensures read { Gives reader.new.rest.now result (literal_at text.now reader.old.rest.now) }
-    ensures shorter { IfOk result (λ _. length reader.new.rest.now < length reader.old.rest.now) }
+pub fn literal(alloc: Global, reader: &mut Reader) -> Result<RawLiteral, Refusal>
+    ensures { Consumes literal_at reader.old reader.new result }
 {
-    if begins_amount(reader) {
+    if reader.next_is_one_of(&[Sort::Minus, Sort::Number, Sort::Time]) {
         amount_literal(reader)
     } else if reader.next_is(Sort::True) {
         truth_literal(reader, Sort::True, true)
     } else if reader.next_is(Sort::False) {
         truth_literal(reader, Sort::False, false)
     } else {
-        variant_literal(alloc, reader, text)
+        variant_literal(alloc, reader)
     }
 }

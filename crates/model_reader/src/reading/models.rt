@@ -1,24 +1,25 @@
 //! Models.
 
-ghost use Rattle.std.specs.Prelude.{◌≡◌, ◌<◌, IfOk, length};
-ghost use Rattle.aerie_text.specs.reading.Gives.{Gives};
+ghost use Rattle.readers.specs.Implements.{Consumes};
 ghost use Rattle.model_reader.specs.reading.Models.{model_at};
 
 use crate::raw::RawModel;
 use crate::reading::items::items;
 use crate::reading::names::raw_name;
-use aerie_text::{Reader, Refusal, Sort};
+use aerie_text::Sort;
+use readers::{Reader, Refusal};
 use std::alloc::Global;
 
+/// Reads a model where the reader stands, and leaves the reader at the token behind it; a refusal is of the token where it
+/// stands then.
 #[tactic(auto, unfolding(crate::specs::reading::Models::model_at))]
-pub fn model(alloc: Global, reader: &mut Reader, text: &str) -> Result<RawModel, Refusal>
-    ensures read { Gives reader.new.rest.now result (model_at text.now reader.old.rest.now) }
-    ensures shorter { IfOk result (λ _. length reader.new.rest.now < length reader.old.rest.now) }
+pub fn model(alloc: Global, reader: &mut Reader) -> Result<RawModel, Refusal>
+    ensures { Consumes model_at reader.old reader.new result }
 {
     reader.take(Sort::Model)?;
-    let name = raw_name(alloc, reader, text)?;
+    let name = raw_name(alloc, reader)?;
     reader.take(Sort::OpenBrace)?;
-    let items = items(alloc, reader, text)?;
+    let items = items(alloc, reader)?;
     reader.take(Sort::CloseBrace)?;
     Ok(RawModel { name, items })
 }

@@ -7,22 +7,18 @@ mod returns;
 mod simple;
 mod waits;
 
-ghost use Rattle.std.specs.Prelude.{◌≡◌, ◌<◌, ◌≤◌, ◌||◌, IfOk, length};
-ghost use Rattle.aerie_text.specs.Sorts.{same_sort};
-ghost use Rattle.aerie_text.specs.declared.sorts.Sort.TheVariants.{Spawn, Call, If, While, Return};
-ghost use Rattle.aerie_text.specs.reading.Gives.{Gives};
-ghost use Rattle.aerie_text.specs.reading.Read.{next_fits};
+ghost use Rattle.std.specs.Prelude.{◌≡◌, ◌<◌};
+ghost use Rattle.readers.specs.Implements.{Consumes, MayConsume};
+ghost use Rattle.readers.specs.Parsed.{next_fits};
 ghost use Rattle.model_reader.specs.reading.Statements.{opened_block_at, block_at, else_block_at, else_at, choice_at, if_at, while_at, stmt_at, stmt_turn_at, begins_stmt, stmts_by, inner_blocks, body_at};
 
 use crate::raw::{RawExpr, RawStmt, RawStmtKind};
 use crate::reading::body::Body;
 use crate::reading::expressions::expr;
-use crate::reading::statements::children::begins_start;
-use crate::reading::statements::simple::{
-    change_stmt, delay_stmt, let_stmt, return_stmt, start_stmt, wait_stmt, with_stmt,
-};
-use aerie_base::{List, Place};
-use aerie_text::{Limit, Reader, Refusal, Sort};
+use crate::reading::statements::simple::{simple_turn, with_stmt};
+use aerie_base::{List, Name, Place};
+use aerie_text::Sort;
+use readers::{Limit, Reader, Refusal};
 use std::alloc::Global;
 
 /// How many blocks may stand inside one another.
@@ -31,30 +27,21 @@ const MOST_BLOCKS: usize = 64;
 /// How many statements a body may have, with those in its blocks.
 const MOST_STATEMENTS: usize = 4_096;
 
-/// Whether a mark of this sort begins the start of a child, a statement with blocks or a return.
-fn begins_other(sort: Sort) -> bool
-    ensures { result ≡ ((same_sort Spawn sort || same_sort Call sort) || same_sort If sort || same_sort While sort || same_sort Return sort) }
-{
-    (Sort::Spawn.is(sort) || Sort::Call.is(sort))
-        || Sort::If.is(sort)
-        || Sort::While.is(sort)
-        || Sort::Return.is(sort)
-}
-
 /// Whether the next mark begins a statement.
 fn begins_stmt(reader: &Reader) -> bool
-    ensures { result ≡ next_fits begins_stmt reader.now.rest.now }
+    ensures { result ≡ next_fits begins_stmt reader.now }
 {
-    match reader.next() {
-        Some(mark) => {
-            Sort::Let.is(mark.sort)
-                || Sort::Name.is(mark.sort)
-                || Sort::Delay.is(mark.sort)
-                || Sort::Wait.is(mark.sort)
-                || begins_other(mark.sort)
-        }
-        None => false,
-    }
+    reader.next_is_one_of(&[
+        Sort::Let,
+        Sort::Name,
+        Sort::Delay,
+        Sort::Wait,
+        Sort::Spawn,
+        Sort::Call,
+        Sort::If,
+        Sort::While,
+        Sort::Return,
+    ])
 }
 
 // ---- blocks: `room` of them may still be opened inside one another, and the body may still have `spare` statements
@@ -64,15 +51,13 @@ fn begins_stmt(reader: &Reader) -> bool
 fn inner_stmts(
     alloc: Global,
     reader: &mut Reader,
-    text: &str,
     room: usize,
     spare: usize,
 ) -> Result<Body, Refusal>
-    ensures read { Gives reader.new.rest.now result (inner_blocks text.now room spare reader.old.rest.now) }
-    ensures no_longer { IfOk result (λ _. length reader.new.rest.now ≤ length reader.old.rest.now) }
+    ensures { MayConsume (inner_blocks room spare) reader.old reader.new result }
 {
     if room > 0 {
-        return stmts(alloc, reader, text, room - 1, spare);
+        return stmts(alloc, reader, room - 1, spare);
     }
     Err(Refusal::Syntax)
 }
@@ -83,15 +68,13 @@ fn inner_stmts(
 fn opened_block(
     alloc: Global,
     reader: &mut Reader,
-    text: &str,
     room: usize,
     spare: usize,
 ) -> Result<Body, Refusal>
-    ensures read { Gives reader.new.rest.now result (opened_block_at (inner_blocks text.now room) spare reader.old.rest.now) }
-    ensures shorter { IfOk result (λ _. length reader.new.rest.now < length reader.old.rest.now) }
+    ensures { Consumes (opened_block_at (inner_blocks room) spare) reader.old reader.new result }
 {
     reader.take(Sort::OpenBrace)?;
-    let inner = inner_stmts(alloc, reader, text, room, spare)?;
+    let inner = inner_stmts(alloc, reader, room, spare)?;
     reader.take(Sort::CloseBrace)?;
     Ok(inner)
 }
@@ -99,15 +82,8 @@ fn opened_block(
 /// Reads a block, if it may be opened.
 #[cycle(statement)]
 #[tactic(auto, unfolding(crate::specs::reading::Statements::block_at))]
-fn block(
-    alloc: Global,
-    reader: &mut Reader,
-    text: &str,
-    room: usize,
-    spare: usize,
-) -> Result<Body, Refusal>
-    ensures read { Gives reader.new.rest.now result (block_at room (inner_blocks text.now room) spare reader.old.rest.now) }
-    ensures shorter { IfOk result (λ _. length reader.new.rest.now < length reader.old.rest.now) }
+fn block(alloc: Global, reader: &mut Reader, room: usize, spare: usize) -> Result<Body, Refusal>
+    ensures { Consumes (block_at room (inner_blocks room) spare) reader.old reader.new result }
 {
     if !reader.next_is(Sort::OpenBrace) {
         return Err(Refusal::Syntax);
@@ -115,7 +91,7 @@ fn block(
     if room == 0 {
         return Err(Refusal::TooMany(Limit::Depth));
     }
-    opened_block(alloc, reader, text, room, spare)
+    opened_block(alloc, reader, room, spare)
 }
 
 /// Reads `else` and its block.
@@ -124,32 +100,23 @@ fn block(
 fn else_block(
     alloc: Global,
     reader: &mut Reader,
-    text: &str,
     room: usize,
     spare: usize,
 ) -> Result<Body, Refusal>
-    ensures read { Gives reader.new.rest.now result (else_block_at room (inner_blocks text.now room) spare reader.old.rest.now) }
-    ensures shorter { IfOk result (λ _. length reader.new.rest.now < length reader.old.rest.now) }
+    ensures { Consumes (else_block_at room (inner_blocks room) spare) reader.old reader.new result }
 {
     reader.take(Sort::Else)?;
-    block(alloc, reader, text, room, spare)
+    block(alloc, reader, room, spare)
 }
 
 /// Reads `else` and its block, or nothing.
 #[cycle(statement)]
 #[tactic(auto, unfolding(crate::specs::reading::Statements::else_at))]
-fn else_(
-    alloc: Global,
-    reader: &mut Reader,
-    text: &str,
-    room: usize,
-    spare: usize,
-) -> Result<Body, Refusal>
-    ensures read { Gives reader.new.rest.now result (else_at room (inner_blocks text.now room) spare reader.old.rest.now) }
-    ensures no_longer { IfOk result (λ _. length reader.new.rest.now ≤ length reader.old.rest.now) }
+fn else_(alloc: Global, reader: &mut Reader, room: usize, spare: usize) -> Result<Body, Refusal>
+    ensures { MayConsume (else_at room (inner_blocks room) spare) reader.old reader.new result }
 {
     if reader.next_is(Sort::Else) {
-        else_block(alloc, reader, text, room, spare)
+        else_block(alloc, reader, room, spare)
     } else {
         let stmts = List::new(alloc);
         Ok(Body { stmts, spare })
@@ -164,18 +131,16 @@ fn else_(
 fn choice(
     alloc: Global,
     reader: &mut Reader,
-    text: &str,
     room: usize,
     at: Place,
     test: RawExpr,
     body: Body,
 ) -> Result<Body, Refusal>
     requires spare { 0 < body.spare }
-    ensures read { Gives reader.new.rest.now result (choice_at room (inner_blocks text.now room) at test body reader.old.rest.now) }
-    ensures shorter { IfOk result (λ _. length reader.new.rest.now < length reader.old.rest.now) }
+    ensures { Consumes (choice_at room (inner_blocks room) at test body) reader.old reader.new result }
 {
-    let first = block(alloc, reader, text, room, body.spare - 1)?;
-    let second = else_(alloc, reader, text, room, first.spare)?;
+    let first = block(alloc, reader, room, body.spare - 1)?;
+    let second = else_(alloc, reader, room, first.spare)?;
     let spare = second.spare;
     let what = RawStmtKind::If {
         test,
@@ -188,45 +153,31 @@ fn choice(
 /// Reads `if`, its test and its blocks.
 #[cycle(statement)]
 #[tactic(auto, unfolding(crate::specs::reading::Statements::if_at))]
-fn if_(
-    alloc: Global,
-    reader: &mut Reader,
-    text: &str,
-    room: usize,
-    body: Body,
-) -> Result<Body, Refusal>
+fn if_(alloc: Global, reader: &mut Reader, room: usize, body: Body) -> Result<Body, Refusal>
     requires spare { 0 < body.spare }
-    ensures read { Gives reader.new.rest.now result (if_at text.now room (inner_blocks text.now room) body reader.old.rest.now) }
-    ensures shorter { IfOk result (λ _. length reader.new.rest.now < length reader.old.rest.now) }
+    ensures { Consumes (if_at room (inner_blocks room) body) reader.old reader.new result }
 {
-    let word = reader.take(Sort::If)?;
-    let test = expr(alloc, reader, text)?;
-    choice(alloc, reader, text, room, word.at, test, body)
+    let at = reader.take(Sort::If)?;
+    let test = expr(alloc, reader)?;
+    choice(alloc, reader, room, at, test, body)
 }
 
 /// Reads `while`, its test and its block.
 #[cycle(statement)]
 #[tactic(auto, unfolding(crate::specs::reading::Statements::while_at))]
-fn while_(
-    alloc: Global,
-    reader: &mut Reader,
-    text: &str,
-    room: usize,
-    body: Body,
-) -> Result<Body, Refusal>
+fn while_(alloc: Global, reader: &mut Reader, room: usize, body: Body) -> Result<Body, Refusal>
     requires spare { 0 < body.spare }
-    ensures read { Gives reader.new.rest.now result (while_at text.now room (inner_blocks text.now room) body reader.old.rest.now) }
-    ensures shorter { IfOk result (λ _. length reader.new.rest.now < length reader.old.rest.now) }
+    ensures { Consumes (while_at room (inner_blocks room) body) reader.old reader.new result }
 {
-    let word = reader.take(Sort::While)?;
-    let test = expr(alloc, reader, text)?;
-    let inner = block(alloc, reader, text, room, body.spare - 1)?;
+    let at = reader.take(Sort::While)?;
+    let test = expr(alloc, reader)?;
+    let inner = block(alloc, reader, room, body.spare - 1)?;
     let spare = inner.spare;
     let what = RawStmtKind::While {
         test,
         body: inner.stmts,
     };
-    Ok(with_stmt(body, spare, RawStmt { at: word.at, what })?)
+    Ok(with_stmt(body, spare, RawStmt { at, what })?)
 }
 
 // ---- statements, each put behind the statements of the block so far
@@ -234,82 +185,50 @@ fn while_(
 /// Reads a statement of any kind.
 #[cycle(statement)]
 #[tactic(auto, unfolding(crate::specs::reading::Statements::stmt_at))]
-fn stmt(
-    alloc: Global,
-    reader: &mut Reader,
-    text: &str,
-    room: usize,
-    body: Body,
-) -> Result<Body, Refusal>
+fn stmt(alloc: Global, reader: &mut Reader, room: usize, body: Body) -> Result<Body, Refusal>
     requires spare { 0 < body.spare }
-    ensures read { Gives reader.new.rest.now result (stmt_at text.now room (inner_blocks text.now room) body reader.old.rest.now) }
-    ensures shorter { IfOk result (λ _. length reader.new.rest.now < length reader.old.rest.now) }
+    ensures { Consumes (stmt_at room (inner_blocks room) body) reader.old reader.new result }
 {
-    if reader.next_is(Sort::Let) {
-        let_stmt(alloc, reader, text, body)
-    } else if reader.next_is(Sort::Name) {
-        change_stmt(alloc, reader, text, body)
-    } else if reader.next_is(Sort::Delay) {
-        delay_stmt(alloc, reader, text, body)
-    } else if reader.next_is(Sort::Wait) {
-        wait_stmt(alloc, reader, text, body)
-    } else if begins_start(reader) {
-        start_stmt(alloc, reader, text, body)
-    } else if reader.next_is(Sort::If) {
-        if_(alloc, reader, text, room, body)
+    if reader.next_is(Sort::If) {
+        if_(alloc, reader, room, body)
     } else if reader.next_is(Sort::While) {
-        while_(alloc, reader, text, room, body)
+        while_(alloc, reader, room, body)
     } else {
-        return_stmt(alloc, reader, text, body)
+        simple_turn(alloc, reader, body)
     }
 }
 
 /// Reads a statement, if the body may have one more.
 #[cycle(statement)]
 #[tactic(auto, unfolding(crate::specs::reading::Statements::stmt_turn_at))]
-fn stmt_turn(
-    alloc: Global,
-    reader: &mut Reader,
-    text: &str,
-    room: usize,
-    body: Body,
-) -> Result<Body, Refusal>
-    ensures read { Gives reader.new.rest.now result (stmt_turn_at text.now room (inner_blocks text.now room) body reader.old.rest.now) }
-    ensures shorter { IfOk result (λ _. length reader.new.rest.now < length reader.old.rest.now) }
+fn stmt_turn(alloc: Global, reader: &mut Reader, room: usize, body: Body) -> Result<Body, Refusal>
+    ensures { Consumes (stmt_turn_at room (inner_blocks room) body) reader.old reader.new result }
 {
     if body.spare == 0 {
         return Err(Refusal::TooMany(Limit::Statements));
     }
-    stmt(alloc, reader, text, room, body)
+    stmt(alloc, reader, room, body)
 }
 
 /// Reads statements, as far as there are any.
 #[cycle(statement)]
 #[tactic(auto, unfolding(crate::specs::reading::Statements::stmts_by))]
-fn stmts(
-    alloc: Global,
-    reader: &mut Reader,
-    text: &str,
-    room: usize,
-    spare: usize,
-) -> Result<Body, Refusal>
-    ensures read { Gives reader.new.rest.now result (stmts_by text.now room (inner_blocks text.now room) spare reader.old.rest.now) }
-    ensures no_longer { IfOk result (λ _. length reader.new.rest.now ≤ length reader.old.rest.now) }
+fn stmts(alloc: Global, reader: &mut Reader, room: usize, spare: usize) -> Result<Body, Refusal>
+    ensures { MayConsume (stmts_by room (inner_blocks room) spare) reader.old reader.new result }
 {
     let stmts = List::new(alloc);
     let mut body = Body { stmts, spare };
     while begins_stmt(reader) {
-        body = stmt_turn(alloc, reader, text, room, body)?;
+        body = stmt_turn(alloc, reader, room, body)?;
     }
     Ok(body)
 }
 
 /// Reads the statements of a body.
 #[tactic(auto, unfolding(crate::specs::reading::Statements::body_at))]
-pub fn body(alloc: Global, reader: &mut Reader, text: &str) -> Result<List<RawStmt>, Refusal>
-    ensures read { Gives reader.new.rest.now result (body_at text.now reader.old.rest.now) }
-    ensures no_longer { IfOk result (λ _. length reader.new.rest.now ≤ length reader.old.rest.now) }
+pub fn body(alloc: Global, reader: &mut Reader) -> Result<List<RawStmt>, Refusal>
+    ensures { MayConsume body_at reader.old reader.new result }
 {
-    let body = stmts(alloc, reader, text, MOST_BLOCKS, MOST_STATEMENTS)?;
+    let body = stmts(alloc, reader, MOST_BLOCKS, MOST_STATEMENTS)?;
     Ok(body.stmts)
 }

@@ -19,8 +19,8 @@ use Rattle.aerie_base.specs.declared.plans.Directive.{Directive}
 use Rattle.aerie_base.specs.declared.plans.Plan.{Plan}
 use Rattle.run_data.specs.declared.runs.Outcome.TheVariants.{StepLimit}
 use Rattle.run_data.specs.declared.runs.Run.{Run}
-use Rattle.run_data.specs.Fold.{Next, more, finished}
-use Rattle.run_data.specs.Fresh.{Standing, after_turns}
+use Rattle.run_data.specs.Transitions.{Next, more, finished}
+use Rattle.run_data.specs.Fresh.{SimulationState, after_turns}
 use Rattle.run_data.specs.Spans.{SpanOf}
 use Rattle.run_data.specs.Values.{cells_at}
 use Rattle.effect_cells.specs.Reads.{value_on}
@@ -87,7 +87,7 @@ plan_of duration directives = record { model = 0; duration = duration; next_id =
 
 -- ---- runs
 
-abbrev pub run_in : Plan → Next Standing Run → Run
+abbrev pub run_in : Plan → Next SimulationState Run → Run
 run_in plan (finished run) = run
 run_in plan (more at) = record { plan = plan; bound = 0; instants = []; reach = 0; outcome = StepLimit 0 }
 

@@ -13,7 +13,10 @@ use Rattle.aerie_base.specs.declared.models.model.Parts.{Parts}
 use Rattle.aerie_base.specs.Paths.{root}
 use Rattle.aerie_base.specs.expressions.Evaluation.{evaluated}
 use Rattle.aerie_base.specs.expressions.Typing.{kind_of}
-use Rattle.aerie_base.specs.models.Bodies.{Scope, checked}
+use Rattle.aerie_base.specs.models.Activities.{daemon_setting}
+use Rattle.aerie_base.specs.models.Scopes.{Scope}
+use Rattle.aerie_base.specs.models.Signatures.{signatures_of}
+use Rattle.aerie_base.specs.models.Bodies.{checked}
 use Rattle.aerie_base.specs.models.Expressions.{typed, has_literals, expr_depth}
 use Rattle.aerie_base.specs.statements.Places.{left, lefts, size}
 use Rattle.effect_cells.specs.declared.effects.CellState.TheVariants as state
@@ -26,7 +29,7 @@ use Rattle.run_data.specs.declared.frames.Item.TheVariants as item
 use Rattle.run_data.specs.declared.frames.Status.TheVariants.{Delayed}
 use Rattle.run_data.specs.declared.steppers.Wave.TheVariants.{Frames, Spent}
 use Rattle.run_data.specs.declared.runs.Run.{Run}
-use Rattle.run_data.specs.Jobs.{daemon_setting, is_state_of}
+use Rattle.run_data.specs.Jobs.{is_state_of}
 use Rattle.run_data.specs.Records.{record_of, stepped_record, has_fit, unmatched}
 use Rattle.run_data.specs.Frames.{job_step}
 use Rattle.run_data.specs.Scopes.{scope_at}
@@ -46,7 +49,7 @@ abbrev with_block : List Stmt
 with_block = If (Literal (value.Truth true)) (Let 0 (number 1) ∷ []) [] ∷ []
 
 abbrev scope_in : ℕ → Option Scope
-scope_in at = scope_at (daemon_setting bumps) [] with_block at
+scope_in at = scope_at (daemon_setting bumps.enums bumps.cells (signatures_of bumps.activities)) [] with_block at
 
 pub nothing_is_known_at_first : scope_in 1 ≡ Some []
 unfolding scope_at checked typed has_literals expr_depth kind_of is_state_of left lefts size evaluated out-Stmt out shown hidden shown-the_row-Stmt-0 hidden-the_row-Stmt-0 shape-the_row-Stmt-0

@@ -20,8 +20,8 @@ use denote.Hole.Carrier.{hidden, shown, out}
 use Rattle.run_data.specs.declared.runs.Outcome.TheVariants.{Completed, Failed, StepLimit}
 use Rattle.run_data.specs.declared.runs.Who.TheVariants as who
 use Rattle.run_data.specs.declared.runs.Run.{Run}
-use Rattle.run_data.specs.Fold.{Next, more, finished}
-use Rattle.run_data.specs.Fresh.{Standing, after_turns}
+use Rattle.run_data.specs.Transitions.{Next, more, finished}
+use Rattle.run_data.specs.Fresh.{SimulationState, after_turns}
 use Rattle.run_data.specs.Spans.{spans_of}
 use Rattle.run_data.specs.cases.Missions.{number, local, add, delay, activity, by_int, plain, bump, mission, directive, plan_of, ran, run_within, values_of, ints, span}
 
@@ -102,7 +102,7 @@ spin_plan = plan_of 100 (directive 1 5 0 [] ∷ [])
 abbrev spin : Run
 spin = run_within 600 1_000 spinning spin_plan
 
-abbrev batches_in : Next Standing Run → ℕ
+abbrev batches_in : Next SimulationState Run → ℕ
 batches_in (more at) = length at.batches
 batches_in (finished run) = 0
 

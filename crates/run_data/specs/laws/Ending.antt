@@ -3,7 +3,7 @@ use Rattle.std.specs.Prelude.{◌≡◌, ◌↔◌, ℕ, ◌+◌, ◌*◌, lengt
 use Rattle.aerie_base.specs.declared.models.model.Parts.{Parts}
 use Rattle.aerie_base.specs.declared.plans.Plan.{Plan}
 use Rattle.run_data.specs.declared.runs.Run.{Run}
-use Rattle.run_data.specs.Fold.{finished}
+use Rattle.run_data.specs.Transitions.{finished}
 use Rattle.run_data.specs.Fresh.{IsFresh, after_turns}
 
 -- So many turns are enough: each batch uses up a task that is open or some of the bound, each turn without one is

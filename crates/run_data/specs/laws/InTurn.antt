@@ -3,10 +3,10 @@ use Rattle.std.specs.Prelude.{◌≡◌, true, List, [], ◌∷◌}
 use Rattle.effect_cells.specs.declared.effects.CellState.{CellState}
 use Rattle.effect_cells.specs.declared.trees.Part.{Part, Emit}
 use Rattle.effect_cells.specs.declared.trees.Tree.{Tree}
-use Rattle.effect_cells.specs.Cells.{committed, fits_cells}
+use Rattle.effect_cells.specs.Cells.{committed_cells, fits_cells}
 use Rattle.run_data.specs.declared.frames.Item.{Item}
 use Rattle.run_data.specs.declared.frames.Item.TheVariants as item
-use Rattle.run_data.specs.Courses.{after_items}
+use Rattle.run_data.specs.StepStates.{after_items}
 
 -- a step's own effects in order, its children left out
 abbrev pub own_parts : List Item → List Part
@@ -22,4 +22,4 @@ own_effects items = record { items = own_parts items }
 abbrev pub EffectsInTurn : Type 0
 EffectsInTurn =
     (view : List CellState) (items : List Item) → fits_cells view (own_effects items) ≡ true →
-    after_items view items ≡ committed view (own_effects items)
+    after_items view items ≡ committed_cells view (own_effects items)

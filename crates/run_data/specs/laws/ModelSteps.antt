@@ -14,7 +14,7 @@ use Rattle.run_data.specs.declared.frames.Item.TheVariants as item
 use Rattle.run_data.specs.declared.frames.Status.{Status}
 use Rattle.run_data.specs.declared.frames.Status.TheVariants.{Delayed, Waiting, Calling, Done, Faulted}
 use Rattle.run_data.specs.declared.jobs.Job.{Job}
-use Rattle.run_data.specs.Courses.{Course, after_items}
+use Rattle.run_data.specs.StepStates.{StepState, after_items}
 use Rattle.run_data.specs.Frames.{job_step}
 use Rattle.run_data.specs.Jobs.{is_state_of, AreCellsOf, IsJobOf}
 use Rattle.run_data.specs.TaskStates.{activity_begun}
@@ -38,17 +38,17 @@ WaitsWell model (Done result) = Unit {0}
 WaitsWell model (Faulted fault) = Unit {0}
 
 -- what a step leaves, by how it ended and what it did
-pub record StaysOfModel (model : Parts) (status : Status) (course : Course) : Type 0 where
-  pub next : NextIsOfModel model course.items status
+pub record StaysOfModel (model : Parts) (status : Status) (so_far : StepState) : Type 0 where
+  pub next : NextIsOfModel model so_far.items status
   pub waits : WaitsWell model status
-  pub children : AreChildrenOf model course.items
-  pub cells : AreCellsOf model (after_items course.view course.items)
+  pub children : AreChildrenOf model so_far.items
+  pub cells : AreCellsOf model (after_items so_far.view so_far.items)
 
 abbrev pub StepsKeepModel : Type 0
 StepsKeepModel =
-    (model : Parts) (budget : ℕ) (job : Job) (status : Status) (course : Course) → IsTrue (valid_model model) → IsJobOf model job →
-    job_step model budget job ≡ Some (status, course) →
-    StaysOfModel model status course × (course.view ≡ job.view)
+    (model : Parts) (budget : ℕ) (job : Job) (status : Status) (so_far : StepState) → IsTrue (valid_model model) → IsJobOf model job →
+    job_step model budget job ≡ Some (status, so_far) →
+    StaysOfModel model status so_far × (so_far.view ≡ job.view)
 
 -- on cells of the model the same conditions may be waited for as by the types of the model's cells
 abbrev pub WaitsGoByCells : Type 0

@@ -10,7 +10,7 @@ use Rattle.run_data.specs.declared.tasks.TaskState.{TaskState}
 use Rattle.run_data.specs.declared.jobs.Job.{Job}
 use Rattle.run_data.specs.declared.frames.Status.{Status}
 use Rattle.run_data.specs.declared.frames.Status.TheVariants.{Delayed, Waiting, Calling, Done, Faulted}
-use Rattle.run_data.specs.Courses.{Course}
+use Rattle.run_data.specs.StepStates.{StepState}
 use Rattle.run_data.specs.Frames.{job_step}
 use Rattle.run_data.specs.Jobs.{IsJobOf}
 use Rattle.run_data.specs.TaskStates.{body_of, activity_begun}
@@ -30,8 +30,8 @@ EndsAsDeclared model kind (Faulted fault) = Unit {0}
 
 abbrev pub ResultsFit : Type 0
 ResultsFit =
-    (model : Parts) (budget : ℕ) (job : Job) (status : Status) (course : Course) → IsTrue (valid_model model) → IsJobOf model job →
-    IsUnderWay model job.state → job_step model budget job ≡ Some (status, course) → EndsAsDeclared model job.state.kind status
+    (model : Parts) (budget : ℕ) (job : Job) (status : Status) (so_far : StepState) → IsTrue (valid_model model) → IsJobOf model job →
+    IsUnderWay model job.state → job_step model budget job ≡ Some (status, so_far) → EndsAsDeclared model job.state.kind status
 
 -- an activity begins under way
 abbrev pub BeginsUnderWay : Type 0

@@ -8,7 +8,7 @@ use Rattle.aerie_base.specs.declared.statements.Stmt.TheOpen.{Stmt-F}
 use Rattle.aerie_base.specs.declared.models.model.Parts.{Parts}
 use Rattle.aerie_base.specs.expressions.Arithmetic.{value_kind}
 use Rattle.aerie_base.specs.statements.Places.{Placed, placed, left, block_size}
-use Rattle.aerie_base.specs.models.Bodies.{result_of}
+use Rattle.aerie_base.specs.models.Signatures.{result_of}
 use Rattle.aerie_base.specs.models.ValidModel.{valid_model}
 use Rattle.run_data.specs.declared.tasks.BodyId.{BodyId}
 use Rattle.run_data.specs.declared.tasks.BodyId.TheVariants as body
@@ -17,7 +17,7 @@ use Rattle.run_data.specs.declared.frames.Item.{Item}
 use Rattle.run_data.specs.declared.frames.Item.TheVariants as item
 use Rattle.run_data.specs.declared.frames.Status.{Status}
 use Rattle.run_data.specs.declared.frames.Status.TheVariants.{Delayed, Waiting, Calling, Done, Faulted}
-use Rattle.run_data.specs.Courses.{Course, after_items}
+use Rattle.run_data.specs.StepStates.{StepState, after_items}
 use Rattle.run_data.specs.Endings.{with_result}
 use Rattle.run_data.specs.Jobs.{is_state_of, AreCellsOf}
 use Rattle.run_data.specs.Steps.{act, onward, ended}
@@ -44,9 +44,9 @@ NextIsTyped =
 -- cells that the step sees are of the model as they were.
 abbrev pub RunsOn : Type 0
 RunsOn =
-    (model : Parts) (kind : BodyId) (here : Placed) (rest : List Placed) (course next : Course) → IsTrue (valid_model model) →
-    AreLeft model kind (here ∷ rest) course.locals → AreCellsOf model (after_items course.view course.items) →
-    act kind here.at (out-Stmt here.what) course ≡ onward next →
+    (model : Parts) (kind : BodyId) (here : Placed) (rest : List Placed) (so_far next : StepState) → IsTrue (valid_model model) →
+    AreLeft model kind (here ∷ rest) so_far.locals → AreCellsOf model (after_items so_far.view so_far.items) →
+    act kind here.at (out-Stmt here.what) so_far ≡ onward next →
     AreLeft model kind rest next.locals × AreCellsOf model (after_items next.view next.items)
 
 -- Behind the test of an `if`, what is left goes with the same locals, whichever block is taken.
@@ -100,7 +100,7 @@ NextIsOfModel model items (Faulted fault) = Unit {0}
 -- where a statement ends the step, the task goes on from a state of the model, if it goes on
 abbrev pub StepEndsWell : Type 0
 StepEndsWell =
-    (model : Parts) (kind : BodyId) (here : Placed) (rest : List Placed) (course last : Course) (status : Status) →
+    (model : Parts) (kind : BodyId) (here : Placed) (rest : List Placed) (so_far last : StepState) (status : Status) →
     IsTrue (valid_model model) →
-    AreLeft model kind (here ∷ rest) course.locals → AreCellsOf model (after_items course.view course.items) →
-    act kind here.at (out-Stmt here.what) course ≡ ended status last → NextIsOfModel model last.items status
+    AreLeft model kind (here ∷ rest) so_far.locals → AreCellsOf model (after_items so_far.view so_far.items) →
+    act kind here.at (out-Stmt here.what) so_far ≡ ended status last → NextIsOfModel model last.items status

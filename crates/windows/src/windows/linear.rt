@@ -3,7 +3,8 @@
 ghost use Rattle.std.specs.Prelude.{◌≡◌, ℕ, ◌+◌, ◌<◌, ◌≤◌, length, drop, OnOk, IfOk};
 ghost use Rattle.windows.specs.Crossing.{JoinsWhere};
 ghost use Rattle.windows.specs.Joining.{last_start};
-ghost use Rattle.windows.specs.Linear.{AreSegments, IsSum, compared, first_start, segment_value, value_at};
+ghost use Rattle.aerie_base.specs.expressions.Arithmetic.{compared};
+ghost use Rattle.windows.specs.Linear.{AreSegments, IsSum, first_start, segment_value, value_at};
 ghost use Rattle.windows.specs.Times.{AreIntervals};
 
 use super::Windows;

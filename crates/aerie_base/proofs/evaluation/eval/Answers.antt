@@ -1,7 +1,7 @@
 use Rattle.std.proofs.Common.{◌≡◌, ◌∙◌, ap, sym, subst, IsSome, IfOk, Some}
 use Rattle.aerie_base.specs.expressions.Arithmetic.{Outcome, value_kind}
 use Rattle.aerie_base.specs.expressions.Faults.{MayFault, faults}
-use Rattle.aerie_base.specs.expressions.Soundness.{typed}
+use Rattle.aerie_base.specs.expressions.Soundness.{value_has_kind}
 use Rattle.aerie_base.specs.expressions.Evaluation.{Meaning, evaluated_is}
 use Rattle.aerie_base.specs.expressions.Typing.{Typing, kind_of, kind_is, slot_kinds}
 use Rattle.aerie_base.proofs.evaluation.eval.Goals as goal
@@ -14,13 +14,13 @@ eval_by_fold-requires g c =
 pub returns-clause-outcome : goal.returns-clause-outcome
 returns-clause-outcome g c =
     c.eval_by_fold.ensures.outcome
-    ∙ ap (λ (f : Meaning). (f c.args.locals.now (g.K.Look.values c.args.cells.now) (g.K.Look.noted c.args.cells.now)).0)
+    ∙ ap (λ (f : Meaning). (f c.args.locals.now (g.K.Look.values c.args.cells.now) (g.K.Look.read_flags c.args.cells.now)).0)
     (sym (evaluated_is c.args.expr.now))
 
-pub returns-clause-noted : goal.returns-clause-noted
-returns-clause-noted g c =
-    c.eval_by_fold.ensures.noted
-    ∙ ap (λ (f : Meaning). (f c.args.locals.now (g.K.Look.values c.args.cells.now) (g.K.Look.noted c.args.cells.now)).1)
+pub returns-clause-read_flags : goal.returns-clause-read_flags
+returns-clause-read_flags g c =
+    c.eval_by_fold.ensures.read_flags
+    ∙ ap (λ (f : Meaning). (f c.args.locals.now (g.K.Look.values c.args.cells.now) (g.K.Look.read_flags c.args.cells.now)).1)
     (sym (evaluated_is c.args.expr.now))
 
 pub returns-clause-typed : goal.returns-clause-typed
@@ -28,10 +28,10 @@ returns-clause-typed g c =
     subst
     (λ (outcome : Outcome). IfOk outcome (λ value. kind_of c.args.expr.now (slot_kinds c.args.locals.now) (g.K.Look.kinds c.args.cells.now) ≡ Some (value_kind value)))
     (sym (returns-clause-outcome g c))
-    (typed c.args.expr.now c.args.locals.now (g.K.Look.kinds c.args.cells.now) (g.K.Look.values c.args.cells.now) (g.K.Look.noted c.args.cells.now)
+    (value_has_kind c.args.expr.now c.args.locals.now (g.K.Look.kinds c.args.cells.now) (g.K.Look.values c.args.cells.now) (g.K.Look.read_flags c.args.cells.now)
     (g.met.K.Look.readings c.args.cells.now) c.requires.well_typed)
 
 pub returns-clause-faults : goal.returns-clause-faults
 returns-clause-faults g c =
     subst MayFault (sym (returns-clause-outcome g c))
-    (faults c.args.expr.now c.args.locals.now (g.K.Look.values c.args.cells.now) (g.K.Look.noted c.args.cells.now))
+    (faults c.args.expr.now c.args.locals.now (g.K.Look.values c.args.cells.now) (g.K.Look.read_flags c.args.cells.now))

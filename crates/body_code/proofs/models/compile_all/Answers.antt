@@ -12,6 +12,6 @@ pub add_daemons-requires : goal.add_daemons-requires
 add_daemons-requires c =
     subst (All (λ daemon. block_count daemon.body ≤ statement_limit)) (sym c.daemons.ensures.value) (few_in_daemons _ c.daemons.ensures.valid)
 
-pub returns-clause-stands : goal.returns-clause-stands
-returns-clause-stands c =
+pub returns-clause-denotes : goal.returns-clause-denotes
+returns-clause-denotes c =
     are_codes c.args.model.now _ (all_codes c.args.model.now _ _ _ _ _ c.new-codes.ensures c.activities.ensures.value c.in_ok-add_activities.ensures c.daemons.ensures.value c.in_ok-add_daemons.ensures)

@@ -1,7 +1,9 @@
 use Rattle.std.proofs.Common.{◌≡◌, ◌≤◌, length, drop, map}
-use Rattle.effect_cells.specs.Worth.{items_worth, total}
+use Rattle.std.specs.List.{sum}
+use Rattle.effect_cells.specs.Worth.{items_worth}
 use Rattle.effect_cells.specs.Folded.{folded_part_worth, folded_part_magnitude}
 use Rattle.effect_cells.specs.Gathering.{GatherAll}
+use Rattle.effect_cells.specs.TouchedCells.{Touches}
 use Rattle.effect_cells.proofs.pending.+gather.Given as goal
 
 -- the items from `left` on are gathered
@@ -9,7 +11,8 @@ abbrev pub invariant-gather_tree-loop-left : goal.invariant-gather_tree-loop-lef
 invariant-gather_tree-loop-left l = record {
   within : l.left ≤ length l.parts;
   same : length l.pending ≡ length l.states;
-  gathered : GatherAll l.states l.begun l.now (λ cell. items_worth (map folded_part_worth (drop l.left l.parts)) cell) (total (map folded_part_magnitude (drop l.left l.parts))) l.initial.pending l.pending;
+  gathered : GatherAll l.states l.entered_at l.now (λ cell. items_worth (map folded_part_worth (drop l.left l.parts)) cell) (sum (map folded_part_magnitude (drop l.left l.parts))) l.initial.pending l.pending;
+  touches : Touches l.touched.items l.pending;
 }
 
 abbrev pub decreases-gather_tree-loop-left : goal.decreases-gather_tree-loop-left

@@ -1,7 +1,7 @@
-use Rattle.std.proofs.Common.{◌≡◌, ◌<◌, ℕ, None}
-use Rattle.effect_cells.specs.Gathering.{pending_at}
+use Rattle.std.proofs.Common.{drop}
+use Rattle.effect_cells.specs.TouchedCells.{Covers}
 use Rattle.effect_cells.proofs.pending.clear.Given as goal
 
--- nothing is pending on the cells so far
-abbrev pub invariant-loop-one : goal.invariant-loop-one
-invariant-loop-one l = (cell : ℕ) → cell < l.one-index → (pending_at l.pending cell).effect ≡ None
+-- what is pending is on the cells that are left
+abbrev pub invariant-loop-cell : goal.invariant-loop-cell
+invariant-loop-cell l = Covers (drop l.cell-index l.touched) l.pending

@@ -1,6 +1,6 @@
-use Rattle.std.proofs.Common.{◌≡◌, length}
+use Rattle.effect_cells.specs.Gathering.{AreBlank}
 use Rattle.effect_cells.proofs.pending.nothing_pending.Given as goal
 
--- so many are made as were counted
+-- nothing is pending on the cells so far
 abbrev pub invariant-loop-state : goal.invariant-loop-state
-invariant-loop-state l = length l.pending.items ≡ l._state-index
+invariant-loop-state l = AreBlank l.pending.items

@@ -1,5 +1,6 @@
 use Rattle.std.proofs.Common.{◌≡◌, ◌≤◌, length, drop, map}
-use Rattle.effect_cells.specs.Worth.{items_worth, total, magnitude_if_any}
+use Rattle.std.specs.List.{sum}
+use Rattle.effect_cells.specs.Worth.{items_worth, magnitude_if_any}
 use Rattle.effect_cells.specs.Folded.{folded_part_worth, folded_part_magnitude}
 use Rattle.effect_cells.proofs.worths.+worth.Given as goal
 
@@ -8,7 +9,7 @@ abbrev pub invariant-tree_worth-loop-left : goal.invariant-tree_worth-loop-left
 invariant-tree_worth-loop-left l = record {
   within : l.left ≤ length l.parts;
   worth : l.rest ≡ items_worth (map folded_part_worth (drop l.left l.parts)) l.cell;
-  small : magnitude_if_any l.rest ≤ total (map folded_part_magnitude (drop l.left l.parts));
+  small : magnitude_if_any l.rest ≤ sum (map folded_part_magnitude (drop l.left l.parts));
 }
 
 abbrev pub decreases-tree_worth-loop-left : goal.decreases-tree_worth-loop-left

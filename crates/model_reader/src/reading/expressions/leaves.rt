@@ -1,89 +1,75 @@
 //! Expressions without operators: literals and reads.
 
-ghost use Rattle.std.specs.Prelude.{◌≡◌, ◌<◌, ◌≤◌, IfOk, length};
-ghost use Rattle.aerie_text.specs.reading.Gives.{Gives};
+ghost use Rattle.std.specs.Prelude.{◌≡◌, IfOk};
+ghost use Rattle.readers.specs.Implements.{Consumes, MayConsume};
 ghost use Rattle.model_reader.specs.reading.Expressions.{leaf, amount_leaf_at, truth_leaf_at, variant_at, part_read_at, dotted_member_at, member_at, named_at};
 
 use crate::raw::{RawExpr, RawExprKind, RawLiteralKind, RawName, RawPart, RawRead};
 use crate::reading::literals::amount;
 use crate::reading::names::raw_name;
-use crate::reading::tall::Tall;
 use crate::reading::types::part;
-use aerie_base::Place;
-use aerie_text::{Reader, Refusal, Sort};
+use crate::reading::with_height::WithHeight;
+use aerie_base::{Name, Number, Place};
+use aerie_text::Sort;
+use readers::{Reader, Refusal};
 use std::alloc::Global;
 
 /// An expression without levels.
-fn leaf(at: Place, what: RawExprKind) -> Tall
+fn leaf(at: Place, what: RawExprKind) -> WithHeight
     ensures { result ≡ leaf at what }
 {
-    Tall {
+    WithHeight {
         expr: RawExpr { at, what },
         height: 0,
     }
 }
 
 #[tactic(auto, unfolding(crate::specs::reading::Expressions::amount_leaf_at))]
-pub fn amount_leaf(reader: &mut Reader) -> Result<Tall, Refusal>
-    ensures read { Gives reader.new.rest.now result (amount_leaf_at reader.old.rest.now) }
-    ensures shorter { IfOk result (λ _. length reader.new.rest.now < length reader.old.rest.now) }
-    ensures flat { IfOk result (λ tall. tall.height ≡ 0) }
+pub fn amount_leaf(reader: &mut Reader) -> Result<WithHeight, Refusal>
+    ensures read { Consumes amount_leaf_at reader.old reader.new result }
+    ensures flat { IfOk result (λ whole. whole.height ≡ 0) }
 {
-    let amount = amount(reader)?;
-    let number = RawLiteralKind::Number(amount.number);
-    Ok(leaf(amount.at, RawExprKind::Literal(number)))
+    let (at, number) = amount(reader)?;
+    let number = RawLiteralKind::Number(number);
+    Ok(leaf(at, RawExprKind::Literal(number)))
 }
 
 #[tactic(auto, unfolding(crate::specs::reading::Expressions::truth_leaf_at))]
-pub fn truth_leaf(reader: &mut Reader, truth: bool) -> Result<Tall, Refusal>
-    ensures read { Gives reader.new.rest.now result (truth_leaf_at truth reader.old.rest.now) }
-    ensures shorter { IfOk result (λ _. length reader.new.rest.now < length reader.old.rest.now) }
-    ensures flat { IfOk result (λ tall. tall.height ≡ 0) }
+pub fn truth_leaf(reader: &mut Reader, truth: bool) -> Result<WithHeight, Refusal>
+    ensures read { Consumes (truth_leaf_at truth) reader.old reader.new result }
+    ensures flat { IfOk result (λ whole. whole.height ≡ 0) }
 {
     let sort = if truth { Sort::True } else { Sort::False };
-    let word = reader.take(sort)?;
+    let at = reader.take(sort)?;
     let truth = RawLiteralKind::Truth(truth);
-    Ok(leaf(word.at, RawExprKind::Literal(truth)))
+    Ok(leaf(at, RawExprKind::Literal(truth)))
 }
 
 /// Reads the variant of the enumeration of this name, behind the dot.
 #[tactic(auto, unfolding(crate::specs::reading::Expressions::variant_at))]
-fn variant(
-    alloc: Global,
-    reader: &mut Reader,
-    text: &str,
-    kind: RawName,
-) -> Result<RawExprKind, Refusal>
-    ensures read { Gives reader.new.rest.now result (variant_at text.now kind reader.old.rest.now) }
-    ensures shorter { IfOk result (λ _. length reader.new.rest.now < length reader.old.rest.now) }
+fn variant(alloc: Global, reader: &mut Reader, kind: RawName) -> Result<RawExprKind, Refusal>
+    ensures { Consumes (variant_at kind) reader.old reader.new result }
 {
-    let variant = raw_name(alloc, reader, text)?;
+    let variant = raw_name(alloc, reader)?;
     Ok(RawExprKind::Literal(RawLiteralKind::Variant { kind, variant }))
 }
 
 /// Reads which part is read of the cell of this name, behind the dot.
 #[tactic(auto, unfolding(crate::specs::reading::Expressions::part_read_at))]
 fn part_read(reader: &mut Reader, name: RawName) -> Result<RawExprKind, Refusal>
-    ensures read { Gives reader.new.rest.now result (part_read_at name reader.old.rest.now) }
-    ensures shorter { IfOk result (λ _. length reader.new.rest.now < length reader.old.rest.now) }
+    ensures { Consumes (part_read_at name) reader.old reader.new result }
 {
     let part = part(reader)?;
     Ok(RawExprKind::Read(RawRead { name, part }))
 }
 
 #[tactic(auto, unfolding(crate::specs::reading::Expressions::dotted_member_at))]
-fn dotted_member(
-    alloc: Global,
-    reader: &mut Reader,
-    text: &str,
-    name: RawName,
-) -> Result<RawExprKind, Refusal>
-    ensures read { Gives reader.new.rest.now result (dotted_member_at text.now name reader.old.rest.now) }
-    ensures shorter { IfOk result (λ _. length reader.new.rest.now < length reader.old.rest.now) }
+fn dotted_member(alloc: Global, reader: &mut Reader, name: RawName) -> Result<RawExprKind, Refusal>
+    ensures { Consumes (dotted_member_at name) reader.old reader.new result }
 {
     reader.take(Sort::Dot)?;
     if reader.next_is(Sort::Name) {
-        variant(alloc, reader, text, name)
+        variant(alloc, reader, name)
     } else {
         part_read(reader, name)
     }
@@ -91,17 +77,11 @@ fn dotted_member(
 
 /// Reads what stands behind a name: a dot and the name of a variant, or a dot and a part, or nothing.
 #[tactic(auto, unfolding(crate::specs::reading::Expressions::member_at))]
-fn member(
-    alloc: Global,
-    reader: &mut Reader,
-    text: &str,
-    name: RawName,
-) -> Result<RawExprKind, Refusal>
-    ensures read { Gives reader.new.rest.now result (member_at text.now name reader.old.rest.now) }
-    ensures no_longer { IfOk result (λ _. length reader.new.rest.now ≤ length reader.old.rest.now) }
+fn member(alloc: Global, reader: &mut Reader, name: RawName) -> Result<RawExprKind, Refusal>
+    ensures { MayConsume (member_at name) reader.old reader.new result }
 {
     if reader.next_is(Sort::Dot) {
-        dotted_member(alloc, reader, text, name)
+        dotted_member(alloc, reader, name)
     } else {
         let part = RawPart::Whole;
         Ok(RawExprKind::Read(RawRead { name, part }))
@@ -109,13 +89,12 @@ fn member(
 }
 
 #[tactic(auto, unfolding(crate::specs::reading::Expressions::named_at))]
-pub fn named(alloc: Global, reader: &mut Reader, text: &str) -> Result<Tall, Refusal>
-    ensures read { Gives reader.new.rest.now result (named_at text.now reader.old.rest.now) }
-    ensures shorter { IfOk result (λ _. length reader.new.rest.now < length reader.old.rest.now) }
-    ensures flat { IfOk result (λ tall. tall.height ≡ 0) }
+pub fn named(alloc: Global, reader: &mut Reader) -> Result<WithHeight, Refusal>
+    ensures read { Consumes named_at reader.old reader.new result }
+    ensures flat { IfOk result (λ whole. whole.height ≡ 0) }
 {
-    let name = raw_name(alloc, reader, text)?;
+    let name = raw_name(alloc, reader)?;
     let at = name.at;
-    let what = member(alloc, reader, text, name)?;
+    let what = member(alloc, reader, name)?;
     Ok(leaf(at, what))
 }

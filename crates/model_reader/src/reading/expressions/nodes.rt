@@ -4,17 +4,17 @@ ghost use Rattle.std.specs.Prelude.{◌≡◌, ◌<◌, IfOk};
 ghost use Rattle.model_reader.specs.reading.Expressions.{in_parentheses, behind_sign, higher, joined};
 
 use crate::raw::{RawExpr, RawExprKind};
-use crate::reading::tall::Tall;
+use crate::reading::expressions::part::Sign;
+use crate::reading::with_height::WithHeight;
 use aerie_base::{Boxed, Operator, OutOfMemory, Place};
-use aerie_text::{Mark, Sort};
 use std::alloc::Global;
 
 /// The expression in parentheses, of which the first has this place.
-pub fn in_parentheses(at: Place, inner: Tall) -> Tall
+pub fn in_parentheses(at: Place, inner: WithHeight) -> WithHeight
     requires { inner.height < 64 }
     ensures { result ≡ in_parentheses at inner }
 {
-    Tall {
+    WithHeight {
         expr: RawExpr {
             at,
             what: inner.expr.what,
@@ -24,19 +24,23 @@ pub fn in_parentheses(at: Place, inner: Tall) -> Tall
 }
 
 /// The expression behind a sign.
-pub fn behind_sign(alloc: Global, sign: Mark, inner: Tall) -> Result<Tall, OutOfMemory>
+pub fn behind_sign(
+    alloc: Global,
+    at: Place,
+    sign: Sign,
+    inner: WithHeight,
+) -> Result<WithHeight, OutOfMemory>
     requires { inner.height < 64 }
-    ensures { IfOk result (λ tall. tall ≡ behind_sign sign inner) }
+    ensures { IfOk result (λ whole. whole ≡ behind_sign at sign inner) }
 {
     let height = inner.height + 1;
     let operand = Boxed::new(alloc, inner.expr)?;
-    let what = if Sort::Minus.is(sign.sort) {
-        RawExprKind::Negate(operand)
-    } else {
-        RawExprKind::Not(operand)
+    let what = match sign {
+        Sign::Minus => RawExprKind::Negate(operand),
+        Sign::Exclamation => RawExprKind::Not(operand),
     };
-    Ok(Tall {
-        expr: RawExpr { at: sign.at, what },
+    Ok(WithHeight {
+        expr: RawExpr { at, what },
         height,
     })
 }
@@ -51,18 +55,18 @@ fn higher(a: usize, b: usize) -> usize
 pub fn joined(
     alloc: Global,
     operator: Operator,
-    left: Tall,
-    right: Tall,
-) -> Result<Tall, OutOfMemory>
+    left: WithHeight,
+    right: WithHeight,
+) -> Result<WithHeight, OutOfMemory>
     requires left { left.height < 64 }
     requires right { right.height < 64 }
-    ensures { IfOk result (λ tall. tall ≡ joined operator left right) }
+    ensures { IfOk result (λ whole. whole ≡ joined operator left right) }
 {
     let at = left.expr.at;
     let height = higher(left.height, right.height) + 1;
     let left = Boxed::new(alloc, left.expr)?;
     let right = Boxed::new(alloc, right.expr)?;
-    Ok(Tall {
+    Ok(WithHeight {
         expr: RawExpr {
             at,
             what: RawExprKind::Binary {

@@ -1,3 +1,5 @@
+use aerie_base::Comparison;
+
 /// A part of an expression, from the loosest to the tightest.
 #[derive(Clone, Copy, Debug)]
 pub enum Part {
@@ -13,4 +15,13 @@ pub enum Part {
     Product,
     /// A factor of a product.
     Unary,
+}
+
+/// A sign before an operand.
+#[derive(Clone, Copy, Debug)]
+pub enum Sign {
+    /// `-` of a number.
+    Minus,
+    /// `!` of a truth.
+    Exclamation,
 }

@@ -1,7 +1,6 @@
 //! Activity types and daemons.
 
-ghost use Rattle.std.specs.Prelude.{◌≡◌, ◌<◌, ◌≤◌, IfOk, length};
-ghost use Rattle.aerie_text.specs.reading.Gives.{Gives};
+ghost use Rattle.readers.specs.Implements.{Consumes, MayConsume};
 ghost use Rattle.model_reader.specs.reading.Items.{given_result_at, result_at, require_at, require_turn_at, requires_at, activity_body_at, activity_at, daemon_at};
 
 use crate::raw::{RawExpr, RawItem, RawStmt, RawType};
@@ -11,7 +10,8 @@ use crate::reading::names::raw_name;
 use crate::reading::statements::body;
 use crate::reading::types::type_;
 use aerie_base::List;
-use aerie_text::{Limit, Reader, Refusal, Sort};
+use aerie_text::Sort;
+use readers::{Limit, Reader, Refusal};
 use std::alloc::Global;
 
 /// How many requirements an activity type may have.
@@ -19,23 +19,21 @@ const MOST_REQUIRES: usize = 64;
 
 /// Reads the type of a result.
 #[tactic(auto, unfolding(crate::specs::reading::Items::given_result_at))]
-fn given_result(alloc: Global, reader: &mut Reader, text: &str) -> Result<Option<RawType>, Refusal>
-    ensures read { Gives reader.new.rest.now result (given_result_at text.now reader.old.rest.now) }
-    ensures shorter { IfOk result (λ _. length reader.new.rest.now < length reader.old.rest.now) }
+fn given_result(alloc: Global, reader: &mut Reader) -> Result<Option<RawType>, Refusal>
+    ensures { Consumes given_result_at reader.old reader.new result }
 {
     reader.take(Sort::Arrow)?;
-    let kind = type_(alloc, reader, text)?;
+    let kind = type_(alloc, reader)?;
     Ok(Some(kind))
 }
 
 /// The same, where there is one.
 #[tactic(auto, unfolding(crate::specs::reading::Items::result_at))]
-fn result_(alloc: Global, reader: &mut Reader, text: &str) -> Result<Option<RawType>, Refusal>
-    ensures read { Gives reader.new.rest.now result (result_at text.now reader.old.rest.now) }
-    ensures no_longer { IfOk result (λ _. length reader.new.rest.now ≤ length reader.old.rest.now) }
+fn result_(alloc: Global, reader: &mut Reader) -> Result<Option<RawType>, Refusal>
+    ensures { MayConsume result_at reader.old reader.new result }
 {
     if reader.next_is(Sort::Arrow) {
-        given_result(alloc, reader, text)
+        given_result(alloc, reader)
     } else {
         Ok(None)
     }
@@ -46,15 +44,13 @@ fn result_(alloc: Global, reader: &mut Reader, text: &str) -> Result<Option<RawT
 fn require(
     alloc: Global,
     reader: &mut Reader,
-    text: &str,
     so_far: List<RawExpr>,
 ) -> Result<List<RawExpr>, Refusal>
-    ensures read { Gives reader.new.rest.now result (require_at text.now so_far reader.old.rest.now) }
-    ensures shorter { IfOk result (λ _. length reader.new.rest.now < length reader.old.rest.now) }
+    ensures { Consumes (require_at so_far) reader.old reader.new result }
 {
     let mut conditions = so_far;
     reader.take(Sort::Require)?;
-    let condition = expr(alloc, reader, text)?;
+    let condition = expr(alloc, reader)?;
     reader.take(Sort::Semicolon)?;
     conditions.push(condition)?;
     Ok(conditions)
@@ -65,26 +61,23 @@ fn require(
 fn require_turn(
     alloc: Global,
     reader: &mut Reader,
-    text: &str,
     so_far: List<RawExpr>,
 ) -> Result<List<RawExpr>, Refusal>
-    ensures read { Gives reader.new.rest.now result (require_turn_at text.now so_far reader.old.rest.now) }
-    ensures shorter { IfOk result (λ _. length reader.new.rest.now < length reader.old.rest.now) }
+    ensures { Consumes (require_turn_at so_far) reader.old reader.new result }
 {
     if so_far.len() >= MOST_REQUIRES {
         return Err(Refusal::TooMany(Limit::Requires));
     }
-    require(alloc, reader, text, so_far)
+    require(alloc, reader, so_far)
 }
 
 #[tactic(auto, unfolding(crate::specs::reading::Items::requires_at))]
-fn requires_(alloc: Global, reader: &mut Reader, text: &str) -> Result<List<RawExpr>, Refusal>
-    ensures read { Gives reader.new.rest.now result (requires_at text.now reader.old.rest.now) }
-    ensures no_longer { IfOk result (λ _. length reader.new.rest.now ≤ length reader.old.rest.now) }
+fn requires_(alloc: Global, reader: &mut Reader) -> Result<List<RawExpr>, Refusal>
+    ensures { MayConsume requires_at reader.old reader.new result }
 {
     let mut conditions = List::new(alloc);
     while reader.next_is(Sort::Require) {
-        conditions = require_turn(alloc, reader, text, conditions)?;
+        conditions = require_turn(alloc, reader, conditions)?;
     }
     Ok(conditions)
 }
@@ -94,28 +87,25 @@ fn requires_(alloc: Global, reader: &mut Reader, text: &str) -> Result<List<RawE
 fn activity_body(
     alloc: Global,
     reader: &mut Reader,
-    text: &str,
 ) -> Result<(List<RawExpr>, List<RawStmt>), Refusal>
-    ensures read { Gives reader.new.rest.now result (activity_body_at text.now reader.old.rest.now) }
-    ensures shorter { IfOk result (λ _. length reader.new.rest.now < length reader.old.rest.now) }
+    ensures { Consumes activity_body_at reader.old reader.new result }
 {
     reader.take(Sort::OpenBrace)?;
-    let conditions = requires_(alloc, reader, text)?;
-    let stmts = body(alloc, reader, text)?;
+    let conditions = requires_(alloc, reader)?;
+    let stmts = body(alloc, reader)?;
     reader.take(Sort::CloseBrace)?;
     Ok((conditions, stmts))
 }
 
 #[tactic(auto, unfolding(crate::specs::reading::Items::activity_at))]
-pub fn activity(alloc: Global, reader: &mut Reader, text: &str) -> Result<RawItem, Refusal>
-    ensures read { Gives reader.new.rest.now result (activity_at text.now reader.old.rest.now) }
-    ensures shorter { IfOk result (λ _. length reader.new.rest.now < length reader.old.rest.now) }
+pub fn activity(alloc: Global, reader: &mut Reader) -> Result<RawItem, Refusal>
+    ensures { Consumes activity_at reader.old reader.new result }
 {
     reader.take(Sort::Activity)?;
-    let name = raw_name(alloc, reader, text)?;
-    let parameters = params(alloc, reader, text)?;
-    let result = result_(alloc, reader, text)?;
-    let (requires_, body) = activity_body(alloc, reader, text)?;
+    let name = raw_name(alloc, reader)?;
+    let parameters = params(alloc, reader)?;
+    let result = result_(alloc, reader)?;
+    let (requires_, body) = activity_body(alloc, reader)?;
     Ok(RawItem::Activity {
         name,
         parameters,
@@ -126,13 +116,12 @@ pub fn activity(alloc: Global, reader: &mut Reader, text: &str) -> Result<RawIte
 }
 
 #[tactic(auto, unfolding(crate::specs::reading::Items::daemon_at))]
-pub fn daemon(alloc: Global, reader: &mut Reader, text: &str) -> Result<RawItem, Refusal>
-    ensures read { Gives reader.new.rest.now result (daemon_at text.now reader.old.rest.now) }
-    ensures shorter { IfOk result (λ _. length reader.new.rest.now < length reader.old.rest.now) }
+pub fn daemon(alloc: Global, reader: &mut Reader) -> Result<RawItem, Refusal>
+    ensures { Consumes daemon_at reader.old reader.new result }
 {
     reader.take(Sort::Daemon)?;
     reader.take(Sort::OpenBrace)?;
-    let body = body(alloc, reader, text)?;
+    let body = body(alloc, reader)?;
     reader.take(Sort::CloseBrace)?;
     Ok(RawItem::Daemon { body })
 }

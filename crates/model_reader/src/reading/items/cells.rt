@@ -1,23 +1,23 @@
 //! Counters, registers and accumulators.
 
-ghost use Rattle.std.specs.Prelude.{◌≡◌, ◌<◌, IfOk, length};
-ghost use Rattle.aerie_text.specs.reading.Gives.{Gives};
+ghost use Rattle.readers.specs.Implements.{Consumes};
 ghost use Rattle.model_reader.specs.reading.Items.{counter_at, register_at, int_literal_at, accumulator_at, cell_at};
 
 use crate::raw::{RawItem, RawLiteral, RawLiteralKind};
 use crate::reading::literals::{int, literal};
 use crate::reading::names::raw_name;
 use crate::reading::types::type_;
-use aerie_text::{Reader, Refusal, Sort};
+use aerie_base::Number;
+use aerie_text::Sort;
+use readers::{Reader, Refusal};
 use std::alloc::Global;
 
 #[tactic(auto, unfolding(crate::specs::reading::Items::counter_at))]
-fn counter(alloc: Global, reader: &mut Reader, text: &str) -> Result<RawItem, Refusal>
-    ensures read { Gives reader.new.rest.now result (counter_at text.now reader.old.rest.now) }
-    ensures shorter { IfOk result (λ _. length reader.new.rest.now < length reader.old.rest.now) }
+fn counter(alloc: Global, reader: &mut Reader) -> Result<RawItem, Refusal>
+    ensures { Consumes counter_at reader.old reader.new result }
 {
     reader.take(Sort::Counter)?;
-    let name = raw_name(alloc, reader, text)?;
+    let name = raw_name(alloc, reader)?;
     reader.take(Sort::Assign)?;
     let (_at, start) = int(reader)?;
     reader.take(Sort::Semicolon)?;
@@ -25,16 +25,15 @@ fn counter(alloc: Global, reader: &mut Reader, text: &str) -> Result<RawItem, Re
 }
 
 #[tactic(auto, unfolding(crate::specs::reading::Items::register_at))]
-fn register(alloc: Global, reader: &mut Reader, text: &str) -> Result<RawItem, Refusal>
-    ensures read { Gives reader.new.rest.now result (register_at text.now reader.old.rest.now) }
-    ensures shorter { IfOk result (λ _. length reader.new.rest.now < length reader.old.rest.now) }
+fn register(alloc: Global, reader: &mut Reader) -> Result<RawItem, Refusal>
+    ensures { Consumes register_at reader.old reader.new result }
 {
     reader.take(Sort::Register)?;
-    let name = raw_name(alloc, reader, text)?;
+    let name = raw_name(alloc, reader)?;
     reader.take(Sort::Colon)?;
-    let kind = type_(alloc, reader, text)?;
+    let kind = type_(alloc, reader)?;
     reader.take(Sort::Assign)?;
-    let start = literal(alloc, reader, text)?;
+    let start = literal(alloc, reader)?;
     reader.take(Sort::Semicolon)?;
     Ok(RawItem::Register { name, kind, start })
 }
@@ -42,8 +41,7 @@ fn register(alloc: Global, reader: &mut Reader, text: &str) -> Result<RawItem, R
 /// Reads a whole number as a literal.
 #[tactic(auto, unfolding(crate::specs::reading::Items::int_literal_at))]
 fn int_literal(reader: &mut Reader) -> Result<RawLiteral, Refusal>
-    ensures read { Gives reader.new.rest.now result (int_literal_at reader.old.rest.now) }
-    ensures shorter { IfOk result (λ _. length reader.new.rest.now < length reader.old.rest.now) }
+    ensures { Consumes int_literal_at reader.old reader.new result }
 {
     let (at, number) = int(reader)?;
     Ok(RawLiteral {
@@ -53,12 +51,11 @@ fn int_literal(reader: &mut Reader) -> Result<RawLiteral, Refusal>
 }
 
 #[tactic(auto, unfolding(crate::specs::reading::Items::accumulator_at))]
-fn accumulator(alloc: Global, reader: &mut Reader, text: &str) -> Result<RawItem, Refusal>
-    ensures read { Gives reader.new.rest.now result (accumulator_at text.now reader.old.rest.now) }
-    ensures shorter { IfOk result (λ _. length reader.new.rest.now < length reader.old.rest.now) }
+fn accumulator(alloc: Global, reader: &mut Reader) -> Result<RawItem, Refusal>
+    ensures { Consumes accumulator_at reader.old reader.new result }
 {
     reader.take(Sort::Accumulator)?;
-    let name = raw_name(alloc, reader, text)?;
+    let name = raw_name(alloc, reader)?;
     reader.take(Sort::Assign)?;
     let (_at, volume) = int(reader)?;
     reader.take(Sort::Rate)?;
@@ -68,15 +65,14 @@ fn accumulator(alloc: Global, reader: &mut Reader, text: &str) -> Result<RawItem
 }
 
 #[tactic(auto, unfolding(crate::specs::reading::Items::cell_at))]
-pub fn cell(alloc: Global, reader: &mut Reader, text: &str) -> Result<RawItem, Refusal>
-    ensures read { Gives reader.new.rest.now result (cell_at text.now reader.old.rest.now) }
-    ensures shorter { IfOk result (λ _. length reader.new.rest.now < length reader.old.rest.now) }
+pub fn cell(alloc: Global, reader: &mut Reader) -> Result<RawItem, Refusal>
+    ensures { Consumes cell_at reader.old reader.new result }
 {
     if reader.next_is(Sort::Counter) {
-        counter(alloc, reader, text)
+        counter(alloc, reader)
     } else if reader.next_is(Sort::Register) {
-        register(alloc, reader, text)
+        register(alloc, reader)
     } else {
-        accumulator(alloc, reader, text)
+        accumulator(alloc, reader)
     }
 }

@@ -1,11 +1,12 @@
-//! The items so far, with one more.
+//! The items so far: how many there are of each kind, how many there may be, and the items with one more.
 
 ghost use Rattle.std.specs.Prelude.{◌≡◌, ◌<◌, IfOk};
-ghost use Rattle.model_reader.specs.reading.Items.{none_declared, with_enum, with_cell, with_resource, with_type, with_daemon};
+ghost use Rattle.model_reader.specs.reading.Items.{none_declared, count_of, most_of, limit_of, with_item};
 
 use crate::raw::RawItem;
-use crate::reading::declarations::Declarations;
+use crate::reading::declarations::{Declarations, ItemKind};
 use aerie_base::{List, OutOfMemory};
+use readers::Limit;
 use std::alloc::Global;
 
 pub fn none_declared(alloc: Global) -> Declarations
@@ -21,52 +22,59 @@ pub fn none_declared(alloc: Global) -> Declarations
     }
 }
 
-pub fn with_enum(so_far: Declarations, last: RawItem) -> Result<Declarations, OutOfMemory>
-    requires { so_far.enums < 64 }
-    ensures { IfOk result (λ declared. declared ≡ with_enum so_far last) }
+/// How many there are of a kind.
+pub fn count_of(kind: ItemKind, so_far: &Declarations) -> usize
+    ensures { result ≡ count_of kind so_far.now }
 {
-    let mut declared = so_far;
-    declared.items.push(last)?;
-    declared.enums += 1;
-    Ok(declared)
+    match kind {
+        ItemKind::Enum => so_far.enums,
+        ItemKind::Cell => so_far.cells,
+        ItemKind::Resource => so_far.resources,
+        ItemKind::Activity => so_far.types,
+        ItemKind::Daemon => so_far.daemons,
+    }
 }
 
-pub fn with_cell(so_far: Declarations, last: RawItem) -> Result<Declarations, OutOfMemory>
-    requires { so_far.cells < 256 }
-    ensures { IfOk result (λ declared. declared ≡ with_cell so_far last) }
+/// How many there may be of a kind.
+pub fn most_of(kind: ItemKind) -> usize
+    ensures { result ≡ most_of kind }
 {
-    let mut declared = so_far;
-    declared.items.push(last)?;
-    declared.cells += 1;
-    Ok(declared)
+    match kind {
+        ItemKind::Cell | ItemKind::Resource | ItemKind::Activity => 256,
+        ItemKind::Enum | ItemKind::Daemon => 64,
+    }
 }
 
-pub fn with_resource(so_far: Declarations, last: RawItem) -> Result<Declarations, OutOfMemory>
-    requires { so_far.resources < 256 }
-    ensures { IfOk result (λ declared. declared ≡ with_resource so_far last) }
+/// The limit of their number.
+pub fn limit_of(kind: ItemKind) -> Limit
+    ensures { result ≡ limit_of kind }
 {
-    let mut declared = so_far;
-    declared.items.push(last)?;
-    declared.resources += 1;
-    Ok(declared)
+    match kind {
+        ItemKind::Enum => Limit::Enums,
+        ItemKind::Cell => Limit::Cells,
+        ItemKind::Resource => Limit::Resources,
+        ItemKind::Activity => Limit::Types,
+        ItemKind::Daemon => Limit::Daemons,
+    }
 }
 
-pub fn with_type(so_far: Declarations, last: RawItem) -> Result<Declarations, OutOfMemory>
-    requires { so_far.types < 256 }
-    ensures { IfOk result (λ declared. declared ≡ with_type so_far last) }
+/// The items so far, and one more of a kind behind them.
+pub fn with_item(
+    kind: ItemKind,
+    so_far: Declarations,
+    last: RawItem,
+) -> Result<Declarations, OutOfMemory>
+    requires { count_of kind so_far < most_of kind }
+    ensures { IfOk result (λ declared. declared ≡ with_item kind so_far last) }
 {
     let mut declared = so_far;
     declared.items.push(last)?;
-    declared.types += 1;
-    Ok(declared)
-}
-
-pub fn with_daemon(so_far: Declarations, last: RawItem) -> Result<Declarations, OutOfMemory>
-    requires { so_far.daemons < 64 }
-    ensures { IfOk result (λ declared. declared ≡ with_daemon so_far last) }
-{
-    let mut declared = so_far;
-    declared.items.push(last)?;
-    declared.daemons += 1;
+    match kind {
+        ItemKind::Enum => declared.enums += 1,
+        ItemKind::Cell => declared.cells += 1,
+        ItemKind::Resource => declared.resources += 1,
+        ItemKind::Activity => declared.types += 1,
+        ItemKind::Daemon => declared.daemons += 1,
+    }
     Ok(declared)
 }

@@ -1,15 +1,15 @@
 //! Enumerations.
 
-ghost use Rattle.std.specs.Prelude.{◌≡◌, ◌<◌, IfOk, length};
 ghost use Rattle.aerie_text.specs.declared.sorts.Sort.TheVariants.{Comma};
-ghost use Rattle.aerie_text.specs.reading.Gives.{Gives};
-ghost use Rattle.aerie_text.specs.reading.Read.{behind_at};
+ghost use Rattle.readers.specs.Implements.{Consumes};
+ghost use Rattle.readers.specs.Parsed.{behind_at};
 ghost use Rattle.model_reader.specs.reading.Items.{named_variant_at, variant_turn_at, some_variants_at, variants_at, enum_at};
 
 use crate::raw::{RawItem, RawName};
 use crate::reading::names::raw_name;
-use aerie_base::List;
-use aerie_text::{Limit, Reader, Refusal, Sort};
+use aerie_base::{List, Name};
+use aerie_text::Sort;
+use readers::{Limit, Reader, Refusal};
 use std::alloc::Global;
 
 /// How many variants an enumeration may have.
@@ -20,14 +20,12 @@ const MOST_VARIANTS: usize = 256;
 fn named_variant(
     alloc: Global,
     reader: &mut Reader,
-    text: &str,
     so_far: List<RawName>,
 ) -> Result<List<RawName>, Refusal>
-    ensures read { Gives reader.new.rest.now result (named_variant_at text.now so_far reader.old.rest.now) }
-    ensures shorter { IfOk result (λ _. length reader.new.rest.now < length reader.old.rest.now) }
+    ensures { Consumes (named_variant_at so_far) reader.old reader.new result }
 {
     let mut variants = so_far;
-    let name = raw_name(alloc, reader, text)?;
+    let name = raw_name(alloc, reader)?;
     variants.push(name)?;
     Ok(variants)
 }
@@ -37,11 +35,9 @@ fn named_variant(
 fn variant_turn(
     alloc: Global,
     reader: &mut Reader,
-    text: &str,
     so_far: List<RawName>,
 ) -> Result<List<RawName>, Refusal>
-    ensures read { Gives reader.new.rest.now result (variant_turn_at text.now so_far reader.old.rest.now) }
-    ensures shorter { IfOk result (λ _. length reader.new.rest.now < length reader.old.rest.now) }
+    ensures { Consumes (variant_turn_at so_far) reader.old reader.new result }
 {
     if !reader.next_is(Sort::Name) {
         return Err(Refusal::Syntax);
@@ -49,55 +45,50 @@ fn variant_turn(
     if so_far.len() >= MOST_VARIANTS {
         return Err(Refusal::TooMany(Limit::Variants));
     }
-    named_variant(alloc, reader, text, so_far)
+    named_variant(alloc, reader, so_far)
 }
 
 /// Reads a variant behind a comma.
 fn next_variant(
     alloc: Global,
     reader: &mut Reader,
-    text: &str,
     so_far: List<RawName>,
 ) -> Result<List<RawName>, Refusal>
-    ensures read { Gives reader.new.rest.now result (behind_at Comma (variant_turn_at text.now) so_far reader.old.rest.now) }
-    ensures shorter { IfOk result (λ _. length reader.new.rest.now < length reader.old.rest.now) }
+    ensures { Consumes (behind_at Comma variant_turn_at so_far) reader.old reader.new result }
 {
     reader.take(Sort::Comma)?;
-    variant_turn(alloc, reader, text, so_far)
+    variant_turn(alloc, reader, so_far)
 }
 
 /// Reads variants with commas between them.
 #[tactic(auto, unfolding(crate::specs::reading::Items::some_variants_at))]
-fn some_variants(alloc: Global, reader: &mut Reader, text: &str) -> Result<List<RawName>, Refusal>
-    ensures read { Gives reader.new.rest.now result (some_variants_at text.now reader.old.rest.now) }
-    ensures shorter { IfOk result (λ _. length reader.new.rest.now < length reader.old.rest.now) }
+fn some_variants(alloc: Global, reader: &mut Reader) -> Result<List<RawName>, Refusal>
+    ensures { Consumes some_variants_at reader.old reader.new result }
 {
-    let mut variants = variant_turn(alloc, reader, text, List::new(alloc))?;
+    let mut variants = variant_turn(alloc, reader, List::new(alloc))?;
     while reader.next_is(Sort::Comma) {
-        variants = next_variant(alloc, reader, text, variants)?;
+        variants = next_variant(alloc, reader, variants)?;
     }
     Ok(variants)
 }
 
 /// Reads variants in braces.
 #[tactic(auto, unfolding(crate::specs::reading::Items::variants_at))]
-fn variants(alloc: Global, reader: &mut Reader, text: &str) -> Result<List<RawName>, Refusal>
-    ensures read { Gives reader.new.rest.now result (variants_at text.now reader.old.rest.now) }
-    ensures shorter { IfOk result (λ _. length reader.new.rest.now < length reader.old.rest.now) }
+fn variants(alloc: Global, reader: &mut Reader) -> Result<List<RawName>, Refusal>
+    ensures { Consumes variants_at reader.old reader.new result }
 {
     reader.take(Sort::OpenBrace)?;
-    let variants = some_variants(alloc, reader, text)?;
+    let variants = some_variants(alloc, reader)?;
     reader.take(Sort::CloseBrace)?;
     Ok(variants)
 }
 
 #[tactic(auto, unfolding(crate::specs::reading::Items::enum_at))]
-pub fn enum_(alloc: Global, reader: &mut Reader, text: &str) -> Result<RawItem, Refusal>
-    ensures read { Gives reader.new.rest.now result (enum_at text.now reader.old.rest.now) }
-    ensures shorter { IfOk result (λ _. length reader.new.rest.now < length reader.old.rest.now) }
+pub fn enum_(alloc: Global, reader: &mut Reader) -> Result<RawItem, Refusal>
+    ensures { Consumes enum_at reader.old reader.new result }
 {
     reader.take(Sort::Enum)?;
-    let name = raw_name(alloc, reader, text)?;
-    let variants = variants(alloc, reader, text)?;
+    let name = raw_name(alloc, reader)?;
+    let variants = variants(alloc, reader)?;
     Ok(RawItem::Enum { name, variants })
 }

@@ -1,60 +1,49 @@
 //! Statements that start a child.
 
-ghost use Rattle.std.specs.Prelude.{◌≡◌, ◌<◌, IfOk, length};
-ghost use Rattle.aerie_text.specs.reading.Gives.{Gives};
-ghost use Rattle.aerie_text.specs.reading.Read.{next_fits};
-ghost use Rattle.model_reader.specs.reading.Statements.{start_word_at, started, start_at, begins_start};
+ghost use Rattle.std.specs.Prelude.{◌≡◌};
+ghost use Rattle.readers.specs.Implements.{Consumes};
+ghost use Rattle.model_reader.specs.reading.Statements.{start_word_at, started, start_at};
 
 use crate::raw::{RawInvoke, RawStmt, RawStmtKind};
+use crate::reading::child_start::ChildStart;
 use crate::reading::invokes::invoke;
-use aerie_text::{Mark, Reader, Refusal, Sort};
+use aerie_base::Place;
+use aerie_text::Sort;
+use readers::{Reader, Refusal, one_of};
 use std::alloc::Global;
 
-/// Reads whether the child is spawned or called.
+/// Reads how a child is started.
 #[tactic(auto, unfolding(crate::specs::reading::Statements::start_word_at))]
-fn start_word(reader: &mut Reader) -> Result<Mark, Refusal>
-    ensures read { Gives reader.new.rest.now result (start_word_at reader.old.rest.now) }
-    ensures shorter { IfOk result (λ _. length reader.new.rest.now < length reader.old.rest.now) }
+fn start_word(reader: &mut Reader) -> Result<(Place, ChildStart), Refusal>
+    ensures { Consumes start_word_at reader.old reader.new result }
 {
-    if reader.next_is(Sort::Spawn) {
-        reader.take(Sort::Spawn)
-    } else {
-        reader.take(Sort::Call)
-    }
+    let words = [
+        (Sort::Spawn, ChildStart::Spawn),
+        (Sort::Call, ChildStart::Call),
+    ];
+    one_of(reader, &words)
 }
 
 /// What the start of the child is as a statement.
-fn started(spawned: bool, child: RawInvoke) -> RawStmtKind
-    ensures { result ≡ started spawned child }
+fn started(start: ChildStart, child: RawInvoke) -> RawStmtKind
+    ensures { result ≡ started start child }
 {
-    if spawned {
-        RawStmtKind::Spawn(child)
-    } else {
-        RawStmtKind::Call(child)
+    match start {
+        ChildStart::Spawn => RawStmtKind::Spawn(child),
+        ChildStart::Call => RawStmtKind::Call(child),
     }
 }
 
 /// Reads the start of a child.
 #[tactic(auto, unfolding(crate::specs::reading::Statements::start_at))]
-pub fn start(alloc: Global, reader: &mut Reader, text: &str) -> Result<RawStmt, Refusal>
-    ensures read { Gives reader.new.rest.now result (start_at text.now reader.old.rest.now) }
-    ensures shorter { IfOk result (λ _. length reader.new.rest.now < length reader.old.rest.now) }
+pub fn start(alloc: Global, reader: &mut Reader) -> Result<RawStmt, Refusal>
+    ensures { Consumes start_at reader.old reader.new result }
 {
-    let word = start_word(reader)?;
-    let child = invoke(alloc, reader, text)?;
+    let (at, start) = start_word(reader)?;
+    let child = invoke(alloc, reader)?;
     reader.take(Sort::Semicolon)?;
     Ok(RawStmt {
-        at: word.at,
-        what: started(Sort::Spawn.is(word.sort), child),
+        at,
+        what: started(start, child),
     })
-}
-
-/// Whether the next mark begins the start of a child.
-pub fn begins_start(reader: &Reader) -> bool
-    ensures { result ≡ next_fits begins_start reader.now.rest.now }
-{
-    match reader.next() {
-        Some(mark) => Sort::Spawn.is(mark.sort) || Sort::Call.is(mark.sort),
-        None => false,
-    }
 }

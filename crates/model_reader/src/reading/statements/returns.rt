@@ -1,32 +1,30 @@
 //! The end of a task, with or without a value.
 
-ghost use Rattle.std.specs.Prelude.{◌≡◌, ◌<◌, ◌≤◌, IfOk, length};
-ghost use Rattle.aerie_text.specs.reading.Gives.{Gives};
+ghost use Rattle.readers.specs.Implements.{Consumes, MayConsume};
 ghost use Rattle.model_reader.specs.reading.Statements.{some_expr_at, optional_expr_at, return_at};
 
 use crate::raw::{RawExpr, RawStmt, RawStmtKind};
 use crate::reading::expressions::{begins_expr, expr};
-use aerie_text::{Reader, Refusal, Sort};
+use aerie_text::Sort;
+use readers::{Reader, Refusal};
 use std::alloc::Global;
 
 /// Reads an expression where it is given.
 #[tactic(auto, unfolding(crate::specs::reading::Statements::some_expr_at))]
-fn some_expr(alloc: Global, reader: &mut Reader, text: &str) -> Result<Option<RawExpr>, Refusal>
-    ensures read { Gives reader.new.rest.now result (some_expr_at text.now reader.old.rest.now) }
-    ensures shorter { IfOk result (λ _. length reader.new.rest.now < length reader.old.rest.now) }
+fn some_expr(alloc: Global, reader: &mut Reader) -> Result<Option<RawExpr>, Refusal>
+    ensures { Consumes some_expr_at reader.old reader.new result }
 {
-    let value = expr(alloc, reader, text)?;
+    let value = expr(alloc, reader)?;
     Ok(Some(value))
 }
 
 /// Reads an expression, or nothing.
 #[tactic(auto, unfolding(crate::specs::reading::Statements::optional_expr_at))]
-fn optional_expr(alloc: Global, reader: &mut Reader, text: &str) -> Result<Option<RawExpr>, Refusal>
-    ensures read { Gives reader.new.rest.now result (optional_expr_at text.now reader.old.rest.now) }
-    ensures no_longer { IfOk result (λ _. length reader.new.rest.now ≤ length reader.old.rest.now) }
+fn optional_expr(alloc: Global, reader: &mut Reader) -> Result<Option<RawExpr>, Refusal>
+    ensures { MayConsume optional_expr_at reader.old reader.new result }
 {
     if begins_expr(reader) {
-        some_expr(alloc, reader, text)
+        some_expr(alloc, reader)
     } else {
         Ok(None)
     }
@@ -34,15 +32,14 @@ fn optional_expr(alloc: Global, reader: &mut Reader, text: &str) -> Result<Optio
 
 /// Reads `return` and its value, where there is one.
 #[tactic(auto, unfolding(crate::specs::reading::Statements::return_at))]
-pub fn return_(alloc: Global, reader: &mut Reader, text: &str) -> Result<RawStmt, Refusal>
-    ensures read { Gives reader.new.rest.now result (return_at text.now reader.old.rest.now) }
-    ensures shorter { IfOk result (λ _. length reader.new.rest.now < length reader.old.rest.now) }
+pub fn return_(alloc: Global, reader: &mut Reader) -> Result<RawStmt, Refusal>
+    ensures { Consumes return_at reader.old reader.new result }
 {
-    let word = reader.take(Sort::Return)?;
-    let value = optional_expr(alloc, reader, text)?;
+    let at = reader.take(Sort::Return)?;
+    let value = optional_expr(alloc, reader)?;
     reader.take(Sort::Semicolon)?;
     Ok(RawStmt {
-        at: word.at,
+        at,
         what: RawStmtKind::Return(value),
     })
 }

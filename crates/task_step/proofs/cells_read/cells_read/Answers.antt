@@ -1,9 +1,16 @@
-use Rattle.task_step.proofs.CellsRead.{read_in, read_out}
+use Rattle.std.proofs.Common.{◌∙◌, ◌++◌, ap, min, ◌*◌, ◌+◌}
+use Rattle.task_step.proofs.CellsRead.{rest_from, group_at, group_read, group_skipped}
 use Rattle.task_step.proofs.cells_read.cells_read.Goals as goal
-use Rattle.task_step.proofs.cells_read.cells_read.Goals.{then-noted-cell+in_ok-push, else-noted-cell}
+use Rattle.task_step.proofs.cells_read.cells_read.Goals.{then-is_any_read+in_ok-add_read, else-is_any_read}
 
-pub loop-cell-preserved : goal.loop-cell-preserved
-loop-cell-preserved c = elim c.if-noted-cell.branch [
-  | then-noted-cell+in_ok-push w ↦ read_in _ _ _ _ _ _ _ _ c.loop-cell-test.true w.if-noted-cell.true w.state-state.ensures w.reads-is w.in_ok-push.ensures.pushed c.loop-cell.invariant
-  | else-noted-cell w ↦ read_out _ _ _ _ _ _ c.requires.same c.loop-cell-test.true w.if-noted-cell.false w.reads-is c.loop-cell.invariant
+pub loop-group-preserved : goal.loop-group-preserved
+loop-group-preserved c = elim c.if-is_any_read.branch [
+  | then-is_any_read+in_ok-add_read w ↦
+      ap (λ l. l ++ rest_from c.args.sight.now.read_flags c.args.sight.now.view.now (group_at (c.loop-group.group + 1) c.args.sight.now.read_flags)) w.reads-is
+      ∙ group_read c.args.sight.now.read_flags c.args.sight.now.view.now c.loop-group.group _ _ _ _ _
+      (w.begin_of.ensures ∙ ap (min (c.loop-group.group * 16)) c.len-cells.ensures.length)
+      (w.begin_of-end.ensures ∙ ap (min ((c.loop-group.group + 1) * 16)) c.len-cells.ensures.length)
+      w.in_ok-add_read.ensures c.loop-group.invariant
+  | else-is_any_read w ↦
+      group_skipped _ _ _ _ _ _ c.requires w.reads-is (c.is_any_read.ensures w.if-is_any_read.false) c.loop-group.invariant
 ]

@@ -1,6 +1,7 @@
-use Rattle.std.proofs.Common.{◌≡◌, ◌++◌, drop}
+use Rattle.std.proofs.Common.{◌≡◌, ◌++◌}
 use Rattle.run_data.specs.Frames.{read_from}
+use Rattle.task_step.proofs.CellsRead.{rest_from, group_at}
 use Rattle.task_step.proofs.cells_read.cells_read.Given as goal
 
-abbrev pub invariant-loop-cell : goal.invariant-loop-cell
-invariant-loop-cell l = l.reads ++ read_from l.cell (drop l.cell l.noted) (drop l.cell l.view) ≡ read_from 0 l.noted l.view
+abbrev pub invariant-loop-group : goal.invariant-loop-group
+invariant-loop-group l = l.reads ++ rest_from l.sight.read_flags l.sight.view.now (group_at l.group l.sight.read_flags) ≡ read_from 0 l.sight.read_flags l.sight.view.now

@@ -1,17 +1,17 @@
 use Rattle.std.proofs.Common.{◌∙◌, sym, ap, arith, ◌≢◌, length, subst}
-use Rattle.run_data.specs.Courses.{starting}
+use Rattle.run_data.specs.StepStates.{starting}
 use Rattle.task_step.specs.Ways.{Goes}
 use Rattle.task_step.proofs.Landing.{over, spent, ends, goes_on, works}
 use Rattle.task_step.proofs.Places.{few_cells, room, state_place}
 use Rattle.task_step.proofs.Starting.{starts}
 use Rattle.task_step.proofs.running.step.Goals as goal
 
-pub start-requires-clause-few : goal.start-requires-clause-few
-start-requires-clause-few c = omega (arith, few_cells c.args.model.now c.cells-cells.ensures.valid, ap length c.cells-cells.ensures.value)
+pub start-so_far-requires-clause-few : goal.start-so_far-requires-clause-few
+start-so_far-requires-clause-few c = omega (arith, few_cells c.args.model.now c.cells-cells.ensures.valid, ap length c.cells-cells.ensures.value)
 
 pub places-init : goal.places-init
 places-init c =
-    let first = starts c.args.model.now c.args.job.now c.args.fuel _ c.statements_are_typed.ensures.begins c.cells-cells.ensures.valid c.requires.job (c.in_ok-course.ensures ∙ (λ i. starting (c.get.ensures i) (c.in_ok-locals.ensures i))) in
+    let first = starts c.args.model.now c.args.job.now c.args.fuel _ c.statements_are_typed.ensures.begins c.cells-cells.ensures.valid c.requires.job (c.start-so_far.ensures ∙ (λ i. starting (c.get.ensures i) (c.in_ok-locals.ensures i))) in
     record {
       place = state_place c.args.model.now c.args.job.now.state c.args.code.now c.states_stand_in_bodies.ensures.places c.requires.job.state c.requires.code;
       same = first.same;
@@ -37,9 +37,9 @@ take-requires-clause-works c = works _ _ c.land-here.ensures.place c.land-here.e
 
 pub places-preserved : goal.places-preserved
 places-preserved c =
-    let g = subst (λ way. Goes c.args.model.now c.args.code.now c.args.job.now.state.kind c.land-here.result c.places.course way c.take.new.course) c.in-Onward.is c.in_ok-to.ensures in
+    let g = subst (λ way. Goes c.args.model.now c.args.code.now c.args.job.now.state.kind c.land-here.result c.places.so_far way c.take.new.so_far) c.in-Onward.is c.in_ok-to.ensures in
     let i = c.places.invariant in
-    let ne : c.places.course.cost ≢ c.args.fuel = omega (arith, c.cost.ensures, c.if-cost-fuel.false) in
+    let ne : c.places.so_far.cost ≢ c.args.fuel = omega (arith, c.cost.ensures, c.if-cost-fuel.false) in
     record {
       place = g.place;
       same = goes_on c.args.model.now c.args.code.now c.args.job.now _ _ _ _ c.requires.code i.same c.land-here.ensures.left _ _ i.paid ne g;
@@ -51,7 +51,7 @@ places-preserved c =
 
 pub returns-in-Ended-clause-frame : goal.returns-in-Ended-clause-frame
 returns-in-Ended-clause-frame c =
-    let g = subst (λ way. Goes c.args.model.now c.args.code.now c.args.job.now.state.kind c.land-here.result c.places.course way c.take.new.course) c.in-Ended.is c.in_ok-to.ensures in
+    let g = subst (λ way. Goes c.args.model.now c.args.code.now c.args.job.now.state.kind c.land-here.result c.places.so_far way c.take.new.so_far) c.in-Ended.is c.in_ok-to.ensures in
     let i = c.places.invariant in
-    let ne : c.places.course.cost ≢ c.args.fuel = omega (arith, c.cost.ensures, c.if-cost-fuel.false) in
+    let ne : c.places.so_far.cost ≢ c.args.fuel = omega (arith, c.cost.ensures, c.if-cost-fuel.false) in
     ends c.args.model.now c.args.code.now c.args.job.now _ _ _ _ c.requires.code i.same c.land-here.ensures.left _ _ _ i.paid ne g c.in_ok-finish-in-Ended.ensures

@@ -1,6 +1,6 @@
 use Rattle.std.proofs.Common.{◌≡◌, ◌<◌, ◌≤◌, ◌-◌, length}
 use Rattle.aerie_base.specs.statements.Places.{left}
-use Rattle.run_data.specs.Courses.{starting}
+use Rattle.run_data.specs.StepStates.{starting}
 use Rattle.run_data.specs.Jobs.{AreCellsOf}
 use Rattle.run_data.specs.Steps.{steps}
 use Rattle.run_data.specs.TaskStates.{body_of}
@@ -13,12 +13,12 @@ abbrev pub invariant-places : goal.invariant-places
 invariant-places l = record {
   place : l.at < length l.code;
   same : steps l.job.state.kind l.fuel (left (body_of l.model l.job.state.kind) l.job.state.at) (starting l.job.view l.job.state.locals)
-      ≡ steps l.job.state.kind (l.fuel - l.course.cost) (left (body_of l.model l.job.state.kind) l.at) l.course;
-  paid : l.course.cost ≤ l.fuel;
-  few : length l.course.items ≤ l.course.cost;
-  left_there : AreLeft l.model l.job.state.kind (left (body_of l.model l.job.state.kind) l.at) l.course.locals;
-  cells : AreCellsOf l.model (cells_of l.course);
+      ≡ steps l.job.state.kind (l.fuel - l.so_far.cost) (left (body_of l.model l.job.state.kind) l.at) l.so_far;
+  paid : l.so_far.cost ≤ l.fuel;
+  few : length l.so_far.items ≤ l.so_far.cost;
+  left_there : AreLeft l.model l.job.state.kind (left (body_of l.model l.job.state.kind) l.at) l.so_far.locals;
+  cells : AreCellsOf l.model (cells_of l.so_far);
 }
 
 abbrev pub decreases-places : goal.decreases-places
-decreases-places l = l.fuel - l.course.cost
+decreases-places l = l.fuel - l.so_far.cost

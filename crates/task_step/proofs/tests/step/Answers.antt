@@ -1,6 +1,6 @@
 use Rattle.std.proofs.Common.{◌∙◌, ap, sym, subst, Some}
 use Rattle.std.proofs.lemmas.Option.{slice_get-get_or}
-use Rattle.body_code.specs.Standing.{IsCodeOf}
+use Rattle.body_code.specs.Denoting.{IsCodeOf}
 use Rattle.run_data.specs.TaskStates.{body_of}
 use Rattle.task_step.proofs.SmallJobs.{code_is}
 use Rattle.task_step.proofs.tests.step.Goals as goal

@@ -1,13 +1,18 @@
-use Rattle.std.proofs.Common.{ℕ, ℤ, pos, List, [], ◌∷◌, IsTrue, refl}
+use Rattle.std.proofs.Common.{◌≡◌, true, arith, ℕ, ℤ, pos, List, [], ◌∷◌, IsTrue, refl}
+use Rattle.std.proofs.lemmas.Bool.Decides.{nat_tests}
+use Rattle.aerie_base.specs.Ranges.{IsNumber, is_number}
 use Rattle.aerie_base.specs.declared.models.CellStart.TheVariants.{Accumulator}
 use Rattle.aerie_base.specs.models.ValidModel.{valid_model, has_good_names, has_good_enums, has_good_cells, has_good_resources, has_good_activities, has_good_daemons}
 use Rattle.wait_solver.proofs.tests.declared.Goals as goal
 
 -- a model with one accumulator
-with_one_tank : (name tank : List ℕ) (volume : ℤ) →
+is_within : (volume : ℤ) → IsNumber volume → is_number volume ≡ true
+is_within volume range = grind (arith, nat_tests)
+
+with_one_tank : (name tank : List ℕ) (volume : ℤ) → IsNumber volume →
     IsTrue (valid_model (record { name = name; enums = []; cells = (tank, Accumulator volume (pos 3)) ∷ []; resources = []; activities = []; daemons = [] }))
 unfolding valid_model has_good_names has_good_enums has_good_cells has_good_resources has_good_activities has_good_daemons
-with_one_tank name tank volume = refl
+with_one_tank name tank volume range = let good : is_number volume ≡ true = is_within volume range in rw good refl
 
 pub returns-clause-valid : goal.returns-clause-valid
-returns-clause-valid c = λ name. rw c.in_ok-vec.ensures.items (with_one_tank name _ _)
+returns-clause-valid c = λ name. rw c.in_ok-vec.ensures.items (with_one_tank name _ _ (rw c.get-in_range.ensures.value at c.get-in_range.ensures.range))

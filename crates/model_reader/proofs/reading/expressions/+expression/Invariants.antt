@@ -1,8 +1,8 @@
 use Rattle.std.proofs.Common.{◌≤◌, length, ◌+◌, ◌*◌}
 use Rattle.aerie_base.specs.declared.expressions.Operator.TheVariants.{And, Or}
 use Rattle.aerie_text.specs.declared.sorts.Sort.TheVariants.{DoubleAmpersand, DoubleBar}
-use Rattle.aerie_text.specs.reading.Read.{is_of}
-use Rattle.aerie_text.proofs.Readers.Going.{Going}
+use Rattle.readers.specs.Parsed.{is_of}
+use Rattle.readers.proofs.Going.{Going}
 use Rattle.model_reader.specs.declared.reading.expressions.part.Part.TheVariants.{Conjunction, Comparison, Product, Unary}
 use Rattle.model_reader.specs.reading.Names.{standing_for}
 use Rattle.model_reader.specs.reading.Expressions.{inner_readers, operation_at, is_product_sign, product_sign_at, is_sum_sign, sum_sign_at}
@@ -46,36 +46,32 @@ decreases-inner l = 10 * l.room + 0
 
 abbrev pub invariant-product-loop-alloc : goal.invariant-product-loop-alloc
 invariant-product-loop-alloc l =
-    Going is_product_sign (operation_at l.room product_sign_at (inner_readers l.text l.room Unary)) l.initial.left l.initial.reader.rest.now l.left l.reader.rest.now
-    × (length l.reader.rest.now ≤ length l.initial.reader.rest.now)
+    Going is_product_sign (operation_at l.room product_sign_at (inner_readers l.room Unary)) l.initial.left l.initial.reader l.left l.reader
     × (l.left.height ≤ l.room)
 
 abbrev pub decreases-product-loop-alloc : goal.decreases-product-loop-alloc
-decreases-product-loop-alloc l = length l.reader.rest.now
+decreases-product-loop-alloc l = length l.reader
 
 abbrev pub invariant-sum-loop-alloc : goal.invariant-sum-loop-alloc
 invariant-sum-loop-alloc l =
-    Going is_sum_sign (operation_at l.room sum_sign_at (inner_readers l.text l.room Product)) l.initial.left l.initial.reader.rest.now l.left l.reader.rest.now
-    × (length l.reader.rest.now ≤ length l.initial.reader.rest.now)
+    Going is_sum_sign (operation_at l.room sum_sign_at (inner_readers l.room Product)) l.initial.left l.initial.reader l.left l.reader
     × (l.left.height ≤ l.room)
 
 abbrev pub decreases-sum-loop-alloc : goal.decreases-sum-loop-alloc
-decreases-sum-loop-alloc l = length l.reader.rest.now
+decreases-sum-loop-alloc l = length l.reader
 
 abbrev pub invariant-conjunction-loop-alloc : goal.invariant-conjunction-loop-alloc
 invariant-conjunction-loop-alloc l =
-    Going (is_of DoubleAmpersand) (operation_at l.room (standing_for DoubleAmpersand And) (inner_readers l.text l.room Comparison)) l.initial.left l.initial.reader.rest.now l.left l.reader.rest.now
-    × (length l.reader.rest.now ≤ length l.initial.reader.rest.now)
+    Going (is_of DoubleAmpersand) (operation_at l.room (standing_for DoubleAmpersand And) (inner_readers l.room Comparison)) l.initial.left l.initial.reader l.left l.reader
     × (l.left.height ≤ l.room)
 
 abbrev pub decreases-conjunction-loop-alloc : goal.decreases-conjunction-loop-alloc
-decreases-conjunction-loop-alloc l = length l.reader.rest.now
+decreases-conjunction-loop-alloc l = length l.reader
 
 abbrev pub invariant-disjunction-loop-alloc : goal.invariant-disjunction-loop-alloc
 invariant-disjunction-loop-alloc l =
-    Going (is_of DoubleBar) (operation_at l.room (standing_for DoubleBar Or) (inner_readers l.text l.room Conjunction)) l.initial.left l.initial.reader.rest.now l.left l.reader.rest.now
-    × (length l.reader.rest.now ≤ length l.initial.reader.rest.now)
+    Going (is_of DoubleBar) (operation_at l.room (standing_for DoubleBar Or) (inner_readers l.room Conjunction)) l.initial.left l.initial.reader l.left l.reader
     × (l.left.height ≤ l.room)
 
 abbrev pub decreases-disjunction-loop-alloc : goal.decreases-disjunction-loop-alloc
-decreases-disjunction-loop-alloc l = length l.reader.rest.now
+decreases-disjunction-loop-alloc l = length l.reader

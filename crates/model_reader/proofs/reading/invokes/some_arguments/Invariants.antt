@@ -1,15 +1,14 @@
-use Rattle.std.proofs.Common.{◌≤◌, length}
+use Rattle.std.proofs.Common.{length}
 use Rattle.aerie_text.specs.declared.sorts.Sort.TheVariants.{Comma}
-use Rattle.aerie_text.specs.reading.Read.{is_of, behind_at}
-use Rattle.aerie_text.proofs.Readers.Going.{Going}
+use Rattle.readers.specs.Parsed.{is_of, behind_at}
+use Rattle.readers.proofs.Going.{Going}
 use Rattle.model_reader.specs.reading.Statements.{argument_at}
 use Rattle.model_reader.proofs.reading.invokes.some_arguments.Given as goal
 
 -- behind the first argument, so many were read, each with a comma before it
 abbrev pub invariant-loop-alloc : goal.invariant-loop-alloc
 invariant-loop-alloc l =
-    Going (is_of Comma) (behind_at Comma (argument_at l.text)) l.initial.arguments l.initial.reader.rest.now l.arguments l.reader.rest.now
-    × (length l.reader.rest.now ≤ length l.initial.reader.rest.now)
+    Going (is_of Comma) (behind_at Comma argument_at) l.initial.arguments l.initial.reader l.arguments l.reader
 
 abbrev pub decreases-loop-alloc : goal.decreases-loop-alloc
-decreases-loop-alloc l = length l.reader.rest.now
+decreases-loop-alloc l = length l.reader

@@ -1,5 +1,5 @@
-use Rattle.std.proofs.Common.{◌≤◌, length, ◌+◌, ◌*◌}
-use Rattle.aerie_text.proofs.Readers.Going.{Going}
+use Rattle.std.proofs.Common.{length, ◌+◌, ◌*◌}
+use Rattle.readers.proofs.Going.{Going}
 use Rattle.model_reader.specs.reading.Statements.{begins_stmt, inner_blocks, stmt_turn_at}
 use Rattle.model_reader.proofs.reading.statements.+statement.Given as goal
 
@@ -38,8 +38,7 @@ decreases-stmts l = 10 * l.room + 9
 
 abbrev pub invariant-stmts-loop-alloc : goal.invariant-stmts-loop-alloc
 invariant-stmts-loop-alloc l =
-    Going begins_stmt (stmt_turn_at l.text l.room (inner_blocks l.text l.room)) l.initial.body l.initial.reader.rest.now l.body l.reader.rest.now
-    × (length l.reader.rest.now ≤ length l.initial.reader.rest.now)
+    Going begins_stmt (stmt_turn_at l.room (inner_blocks l.room)) l.initial.body l.initial.reader l.body l.reader
 
 abbrev pub decreases-stmts-loop-alloc : goal.decreases-stmts-loop-alloc
-decreases-stmts-loop-alloc l = length l.reader.rest.now
+decreases-stmts-loop-alloc l = length l.reader

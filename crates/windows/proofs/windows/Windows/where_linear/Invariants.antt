@@ -1,5 +1,6 @@
 use Rattle.std.proofs.Common.{drop}
-use Rattle.windows.specs.Linear.{compared, value_at}
+use Rattle.aerie_base.specs.expressions.Arithmetic.{compared}
+use Rattle.windows.specs.Linear.{value_at}
 use Rattle.windows.proofs.Profiles.{Follows}
 use Rattle.windows.proofs.windows.Windows.where_linear.Given as goal
 

@@ -1,0 +1,46 @@
+-- What a body has to know of an activity type in order to start it.
+use Rattle.std.specs.Prelude.{◌≡◌, ℕ, zero, suc, List, [], ◌∷◌, Option, Some, None, map, option_map, slice_get, refl}
+use mathlib.Core.Path.{ap, ◌∙◌}
+use Rattle.aerie_base.specs.declared.values.Kind.{Kind}
+use Rattle.aerie_base.specs.declared.models.Activity.{Activity}
+
+pub record Signature : Type 0 where
+  -- the types of the parameters, in their order
+  pub parameters : List Kind
+  -- the type of the result, where there is one
+  pub result : Option Kind
+
+-- the types of an activity type's parameters, in their order
+abbrev pub parameter_kinds : Activity → List Kind
+parameter_kinds activity = map (λ parameter. parameter.kind) activity.parameters
+
+abbrev pub signature_of : Activity → Signature
+signature_of activity = record { parameters = parameter_kinds activity; result = activity.result }
+
+-- the signatures of activity types, in their order
+abbrev pub signatures_of : List Activity → List Signature
+signatures_of activities = map signature_of activities
+
+-- the type of a result, where there is such a signature and it has one
+abbrev pub signature_result : Option Signature → Option Kind
+signature_result None = None
+signature_result (Some signature) = signature.result
+
+-- the same of an activity type
+abbrev pub result_of : Option Activity → Option Kind
+result_of None = None
+result_of (Some activity) = activity.result
+
+-- ---- each signature is that of the activity type at its place
+
+pub signature_at : (activities : List Activity) (kind : ℕ) → slice_get (signatures_of activities) kind ≡ option_map signature_of (slice_get activities kind)
+signature_at [] kind = refl
+signature_at (activity ∷ rest) zero = refl
+signature_at (activity ∷ rest) (suc kind) = signature_at rest kind
+
+its_result : (found : Option Activity) → signature_result (option_map signature_of found) ≡ result_of found
+its_result None = refl
+its_result (Some activity) = refl
+
+pub result_at : (activities : List Activity) (kind : ℕ) → signature_result (slice_get (signatures_of activities) kind) ≡ result_of (slice_get activities kind)
+result_at activities kind = ap signature_result (signature_at activities kind) ∙ its_result (slice_get activities kind)

@@ -1,6 +1,0 @@
-pub mod Names
-pub mod Going
-pub mod Begun
-pub mod Follows
-pub mod Verdicts
-pub mod Entries

@@ -1,0 +1,5 @@
+mod Counting
+mod Joining
+mod LastBegun
+mod SeriesRead
+mod Before

@@ -1,5 +1,0 @@
-use Rattle.effect_cells.proofs.InRange.{each_is}
-use Rattle.effect_cells.proofs.committing.check_pending.Goals as goal
-
-pub applied_pending-requires-clause-range : goal.applied_pending-requires-clause-range
-applied_pending-requires-clause-range c = each_is 0 c.args.states.now c.loop-at.at c.index-states-at.result c.requires.range c.loop-at-test.true c.index-states-at.is

@@ -1,8 +1,0 @@
-use Rattle.model_reader.proofs.Following.Models.{model_judged, no_model_in_front}
-use Rattle.model_reader.proofs.laws.models_follow.Goals as goal
-
-pub returns-clause-judged : goal.returns-clause-judged
-returns-clause-judged c = model_judged
-
-pub returns-clause-stopped : goal.returns-clause-stopped
-returns-clause-stopped c = no_model_in_front

@@ -1,0 +1,13 @@
+mod Same
+mod Renames
+mod Steps
+mod Finds
+mod Doubled
+mod Loops
+mod Small
+mod Rising
+mod Merges
+mod Nothing
+mod Members
+mod SourceOnly
+mod InOrder

@@ -1,0 +1,11 @@
+pub mod Renaming
+pub mod Table
+pub mod Merging
+pub mod Chosen
+pub mod Plans
+pub mod SourceOnly
+pub mod Leads
+pub mod Answers
+pub mod Anchors
+pub mod Cases
+pub mod Unanchored

@@ -1,0 +1,14 @@
+pub mod Starts
+pub mod Shallow
+pub mod Follows
+pub mod Exact
+pub mod Choices
+pub mod Parsing
+pub mod Verdicts
+pub mod Alternatives
+pub mod Alike
+pub mod Levels
+pub mod Partly
+pub mod Classes
+pub mod Tables
+pub mod Fronts

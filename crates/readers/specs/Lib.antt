@@ -1,0 +1,11 @@
+pub mod Conforms
+pub mod Entries
+pub mod EntriesCases
+pub mod Implements
+pub mod Marks
+pub mod Parsed
+pub mod States
+pub mod Verdicts
+pub mod Within
+pub mod Words
+pub mod grammar

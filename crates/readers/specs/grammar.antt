@@ -1,0 +1,16 @@
+pub mod Forms
+pub mod Expansions
+pub mod Readings
+pub mod LazyReadings
+pub mod Lookahead
+pub mod Predictive
+pub mod Parsing
+pub mod Tells
+pub mod Alternatives
+pub mod Alike
+pub mod Classes
+pub mod Tables
+pub mod Levels
+pub mod LevelsCases
+pub mod MarkTables
+pub mod Notation

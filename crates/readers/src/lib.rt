@@ -1,0 +1,14 @@
+//! What readers of languages are made of: grammars as data, with the theorem by which a reader that looks one token ahead
+//! is proved; and readers over the tokens of a text. `example` shows how a reader is written.
+#![tactic(auto)]
+
+pub mod example;
+mod limits;
+mod reader;
+mod refusal;
+mod words;
+
+pub use limits::Limit;
+pub use reader::Reader;
+pub use refusal::Refusal;
+pub use words::one_of;

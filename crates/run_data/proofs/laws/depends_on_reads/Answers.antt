@@ -1,5 +1,0 @@
-use Rattle.run_data.proofs.Reading.{step_depends, frame_depends}
-use Rattle.run_data.proofs.laws.depends_on_reads.Goals as goal
-
-pub returns : goal.returns
-returns c = record { step = step_depends; frame = frame_depends }

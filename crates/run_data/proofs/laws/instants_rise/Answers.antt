@@ -1,5 +1,0 @@
-use Rattle.run_data.proofs.Rising.{instants_rise, instants_before}
-use Rattle.run_data.proofs.laws.instants_rise.Goals as goal
-
-pub returns : goal.returns
-returns c = record { rise = instants_rise; before = instants_before }

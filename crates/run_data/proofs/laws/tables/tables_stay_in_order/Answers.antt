@@ -1,0 +1,5 @@
+use Rattle.run_data.proofs.OrderedTables.{order_with, order_each}
+use Rattle.run_data.proofs.laws.tables.tables_stay_in_order.Goals as goal
+
+pub returns : goal.returns
+returns c = record { put = order_with; changes = order_each }

@@ -1,0 +1,3 @@
+pub mod Terminals
+pub mod Directives
+pub mod Commands

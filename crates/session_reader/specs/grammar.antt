@@ -1,0 +1,7 @@
+pub mod Rules
+pub mod Terminals
+pub mod Embedding
+pub mod Written
+pub mod Factored
+pub mod Verdicts
+pub mod Cases

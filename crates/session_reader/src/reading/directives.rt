@@ -1,0 +1,262 @@
+//! When directives start, and what they give.
+
+ghost use Rattle.std.specs.Prelude.{◌≡◌, pos, neg_ℤ, IfOk, [], ◌≤◌, ◌++◌};
+ghost use Rattle.aerie_text.specs.declared.sorts.Sort.TheVariants.{Comma};
+ghost use Rattle.readers.specs.Implements.{Consumes, MayConsume};
+ghost use Rattle.readers.specs.Parsed.{behind_at, next_fits};
+ghost use Rattle.session_reader.specs.reading.Directives.{id_at, duration_at, edge_word_at, edge_at, anchored_at, unanchored_at, when_at, amount_at, signed, signed_amount_at, truth_at, variant_word, variant_at, begins_amount, value_at, argument_at, one_argument_at, some_arguments_at, arguments_at, given_at};
+
+use crate::raw::RawGiven;
+use aerie_base::{
+    Anchor, Edge, List, Name, Number, OutOfMemory, Place, RawArgument, RawValue, Text, Time, When,
+};
+use aerie_text::Sort;
+use readers::{Reader, Refusal};
+use std::alloc::Global;
+
+/// The greatest id.
+const GREATEST_ID: u64 = 4_294_967_295;
+
+/// The greatest number.
+const GREATEST_NUMBER: u64 = 1_000_000_000_000_000_000;
+
+/// The longest time, in microseconds.
+const LONGEST_TIME: u64 = 1_000_000_000_000_000;
+
+/// Reads the id of a directive.
+#[tactic(auto, unfolding(crate::specs::reading::Directives::id_at))]
+pub fn id(reader: &mut Reader) -> Result<u32, Refusal>
+    ensures { Consumes id_at reader.old reader.new result }
+{
+    let (_at, id) = reader.number_within(Sort::Number, 0, GREATEST_ID)?;
+    Ok(id as u32)
+}
+
+#[tactic(auto, unfolding(crate::specs::reading::Directives::duration_at))]
+fn duration(reader: &mut Reader) -> Result<Time, Refusal>
+    ensures { Consumes duration_at reader.old reader.new result }
+{
+    let (_at, time) = reader.number_within(Sort::Time, 0, LONGEST_TIME)?;
+    Ok(time_of(time))
+}
+
+/// So many microseconds.
+fn time_of(micros: u64) -> Time
+    requires { micros ≤ 1_000_000_000_000_000 }
+    ensures { result ≡ micros }
+{
+    Time::new(micros as i64).unwrap()
+}
+
+#[tactic(auto, unfolding(crate::specs::reading::Directives::edge_word_at))]
+fn edge_word(reader: &mut Reader, sort: Sort, edge: Edge) -> Result<Edge, Refusal>
+    ensures { Consumes (edge_word_at sort edge) reader.old reader.new result }
+{
+    reader.take(sort)?;
+    Ok(edge)
+}
+
+#[tactic(auto, unfolding(crate::specs::reading::Directives::edge_at))]
+fn edge(reader: &mut Reader) -> Result<Edge, Refusal>
+    ensures { Consumes edge_at reader.old reader.new result }
+{
+    if reader.next_is(Sort::Start) {
+        edge_word(reader, Sort::Start, Edge::Start)
+    } else {
+        edge_word(reader, Sort::End, Edge::End)
+    }
+}
+
+#[tactic(auto, unfolding(crate::specs::reading::Directives::anchored_at))]
+fn anchored(reader: &mut Reader) -> Result<When, Refusal>
+    ensures { Consumes anchored_at reader.old reader.new result }
+{
+    let edge = edge(reader)?;
+    reader.take(Sort::Of)?;
+    let to = id(reader)?;
+    reader.take(Sort::Plus)?;
+    let start = duration(reader)?;
+    let anchor = Some(Anchor { to, edge });
+    Ok(When { start, anchor })
+}
+
+#[tactic(auto, unfolding(crate::specs::reading::Directives::unanchored_at))]
+fn unanchored(reader: &mut Reader) -> Result<When, Refusal>
+    ensures { Consumes unanchored_at reader.old reader.new result }
+{
+    let start = duration(reader)?;
+    Ok(When {
+        start,
+        anchor: None,
+    })
+}
+
+/// Reads when a directive starts.
+#[tactic(auto, unfolding(crate::specs::reading::Directives::when_at))]
+pub fn when(reader: &mut Reader) -> Result<When, Refusal>
+    ensures { Consumes when_at reader.old reader.new result }
+{
+    if reader.next_is_one_of(&[Sort::Start, Sort::End]) {
+        anchored(reader)
+    } else {
+        unanchored(reader)
+    }
+}
+
+#[tactic(auto, unfolding(crate::specs::reading::Directives::amount_at))]
+fn amount(reader: &mut Reader) -> Result<(Place, u64), Refusal>
+    ensures read { Consumes amount_at reader.old reader.new result }
+    ensures within { IfOk result (λ amount. amount.1 ≤ 1_000_000_000_000_000_000) }
+{
+    if reader.next_counts_within(Sort::Number, 0, GREATEST_NUMBER) {
+        reader.number_within(Sort::Number, 0, GREATEST_NUMBER)
+    } else {
+        reader.number_within(Sort::Time, 0, LONGEST_TIME)
+    }
+}
+
+/// A number with its sign.
+fn signed(minus: bool, number: u64) -> Number
+    requires { number ≤ 1_000_000_000_000_000_000 }
+    ensures { result ≡ signed minus number }
+{
+    if minus {
+        Number::new(-(number as i64)).unwrap()
+    } else {
+        Number::new(number as i64).unwrap()
+    }
+}
+
+#[tactic(auto, unfolding(crate::specs::reading::Directives::signed_amount_at))]
+fn signed_amount(reader: &mut Reader) -> Result<RawValue, Refusal>
+    ensures { Consumes signed_amount_at reader.old reader.new result }
+{
+    let minus = reader.has(Sort::Minus);
+    let (_at, number) = amount(reader)?;
+    Ok(RawValue::Int(signed(minus, number)))
+}
+
+#[tactic(auto, unfolding(crate::specs::reading::Directives::truth_at))]
+fn truth(reader: &mut Reader, sort: Sort, truth: bool) -> Result<RawValue, Refusal>
+    ensures { Consumes (truth_at sort truth) reader.old reader.new result }
+{
+    reader.take(sort)?;
+    Ok(RawValue::Truth(truth))
+}
+
+/// A variant as it is written.
+fn variant_word(alloc: Global, kind: &Name, variant: &Name) -> Result<Text, OutOfMemory>
+    ensures { IfOk result (λ word. word ≡ variant_word kind.now variant.now) }
+{
+    let mut word = String::from_str(alloc, kind.as_str())?;
+    word.push_str(".")?;
+    word.push_str(variant.as_str())?;
+    Text::new(alloc, word.as_str())
+}
+
+#[tactic(auto, unfolding(crate::specs::reading::Directives::variant_at))]
+fn variant(alloc: Global, reader: &mut Reader) -> Result<RawValue, Refusal>
+    ensures { Consumes variant_at reader.old reader.new result }
+{
+    let (_at, kind) = reader.name(alloc)?;
+    reader.take(Sort::Dot)?;
+    let (_at, variant) = reader.name(alloc)?;
+    let word = variant_word(alloc, &kind, &variant)?;
+    Ok(RawValue::Word(word))
+}
+
+/// Whether the next token begins a number or a length of time, or is the sign of one.
+fn begins_amount(reader: &Reader) -> bool
+    ensures { result ≡ next_fits begins_amount reader.now }
+{
+    reader.next_is(Sort::Minus)
+        || reader.next_counts_within(Sort::Number, 0, GREATEST_NUMBER)
+        || reader.next_counts_within(Sort::Time, 0, LONGEST_TIME)
+}
+
+/// Reads a literal.
+#[tactic(auto, unfolding(crate::specs::reading::Directives::value_at))]
+fn value(alloc: Global, reader: &mut Reader) -> Result<RawValue, Refusal>
+    ensures { Consumes value_at reader.old reader.new result }
+{
+    if begins_amount(reader) {
+        signed_amount(reader)
+    } else if reader.next_is(Sort::True) {
+        truth(reader, Sort::True, true)
+    } else if reader.next_is(Sort::False) {
+        truth(reader, Sort::False, false)
+    } else {
+        variant(alloc, reader)
+    }
+}
+
+/// Reads an argument.
+#[tactic(auto, unfolding(crate::specs::reading::Directives::argument_at))]
+pub fn argument(alloc: Global, reader: &mut Reader) -> Result<RawArgument, Refusal>
+    ensures { Consumes argument_at reader.old reader.new result }
+{
+    let (_at, name) = reader.name(alloc)?;
+    reader.take(Sort::Assign)?;
+    let value = value(alloc, reader)?;
+    Ok(RawArgument { name, value })
+}
+
+#[tactic(auto, unfolding(crate::specs::reading::Directives::one_argument_at))]
+fn one_argument(
+    alloc: Global,
+    reader: &mut Reader,
+    so_far: List<RawArgument>,
+) -> Result<List<RawArgument>, Refusal>
+    ensures { Consumes (one_argument_at so_far) reader.old reader.new result }
+{
+    let mut arguments = so_far;
+    let argument = argument(alloc, reader)?;
+    arguments.push(argument)?;
+    Ok(arguments)
+}
+
+/// Reads an argument behind a comma.
+fn next_argument(
+    alloc: Global,
+    reader: &mut Reader,
+    so_far: List<RawArgument>,
+) -> Result<List<RawArgument>, Refusal>
+    ensures { Consumes (behind_at Comma one_argument_at so_far) reader.old reader.new result }
+{
+    reader.take(Sort::Comma)?;
+    one_argument(alloc, reader, so_far)
+}
+
+#[tactic(auto, unfolding(crate::specs::reading::Directives::some_arguments_at))]
+fn some_arguments(alloc: Global, reader: &mut Reader) -> Result<List<RawArgument>, Refusal>
+    ensures { Consumes some_arguments_at reader.old reader.new result }
+{
+    let mut arguments = one_argument(alloc, reader, List::new(alloc))?;
+    while reader.next_is(Sort::Comma) {
+        arguments = next_argument(alloc, reader, arguments)?;
+    }
+    Ok(arguments)
+}
+
+#[tactic(auto, unfolding(crate::specs::reading::Directives::arguments_at))]
+fn arguments(alloc: Global, reader: &mut Reader) -> Result<List<RawArgument>, Refusal>
+    ensures { MayConsume arguments_at reader.old reader.new result }
+{
+    if reader.next_is(Sort::Name) {
+        some_arguments(alloc, reader)
+    } else {
+        Ok(List::new(alloc))
+    }
+}
+
+/// Reads the name of an activity type and its arguments. The time is linear in their tokens.
+#[tactic(auto, unfolding(crate::specs::reading::Directives::given_at))]
+pub fn given(alloc: Global, reader: &mut Reader) -> Result<RawGiven, Refusal>
+    ensures { Consumes given_at reader.old reader.new result }
+{
+    let (_at, kind) = reader.name(alloc)?;
+    reader.take(Sort::OpenParenthesis)?;
+    let arguments = arguments(alloc, reader)?;
+    reader.take(Sort::CloseParenthesis)?;
+    Ok(RawGiven { kind, arguments })
+}

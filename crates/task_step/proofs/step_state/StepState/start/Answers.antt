@@ -1,0 +1,6 @@
+use Rattle.task_step.proofs.Soundness.{begins_sound}
+use Rattle.task_step.proofs.step_state.StepState.start.Goals as goal
+
+pub invariant_of-result : goal.invariant_of-result
+invariant_of-result c =
+    begins_sound _ _ _ _ _ _ c.new-2.ensures c.new.ensures.view c.new.ensures.written c.new.ensures.read_flags c.requires.cells c.requires.few c.requires.modest

@@ -1,0 +1,65 @@
+//! How a step ends.
+
+ghost use Rattle.std.specs.Prelude.{◌≡◌, ◌+◌, ◌^◌, ◌<◌, ℕ};
+ghost use Rattle.aerie_base.specs.expressions.Arithmetic.{number_in};
+ghost use Rattle.run_data.specs.Steps.{delay_of, behind};
+ghost use Rattle.run_data.specs.StepStates.{StepState};
+ghost use Rattle.run_data.specs.declared.tasks.BodyId.{BodyId as Body};
+ghost use Rattle.task_step.specs.Ends.{status_from, status_of};
+
+use aerie_base::{Boxed, Cond, Fault, List, Number, Value, number_in};
+use run_data::{BodyId, Status, TaskState};
+
+/// How a statement ends a step, without the state from which the task goes on. It is small, since each statement is asked
+/// for one; the step's status is made of it once.
+#[derive(Drop)]
+pub(crate) enum End {
+    /// The task goes on later, by so many microseconds.
+    Delayed(Number),
+    /// The task goes on when the condition holds, with the locals filled in.
+    Waiting(Boxed<Cond>),
+    /// The task goes on when the last child of the step has ended, whose result the local in this slot takes.
+    Calling(Option<u16>),
+    /// The body has ended, with this result.
+    Done(Option<Value>),
+    /// The task has faulted.
+    Faulted(Fault),
+}
+
+/// How a delay by a value ends the step: a negative delay is a fault.
+pub(crate) fn delay_of(value: &Value) -> End
+    ensures { (kind : Body) (at : ℕ) (so_far : StepState) → status_of result kind at so_far ≡ delay_of (number_in value.now) (behind kind at so_far) }
+{
+    match Number::new(number_in(value)) {
+        Some(by) => {
+            if by.get() < 0 {
+                End::Faulted(Fault::NegativeDelay)
+            } else {
+                End::Delayed(by)
+            }
+        }
+        None => unreachable!(),
+    }
+}
+
+/// The status of a step that ends so at a place of a body, with these locals.
+pub(crate) fn status_of(end: End, kind: BodyId, at: u32, locals: List<Value>) -> Status
+    requires { at + 1 < 2 ^ 32 }
+    ensures { result ≡ status_from end (record { kind = kind; at = at + 1; locals = locals }) }
+{
+    let next = TaskState {
+        kind,
+        at: at + 1,
+        locals,
+    };
+    match end {
+        End::Delayed(by) => Status::Delayed { by, next },
+        End::Waiting(condition) => Status::Waiting {
+            condition: condition.into_inner(),
+            next,
+        },
+        End::Calling(into) => Status::Calling { into, next },
+        End::Done(result) => Status::Done(result),
+        End::Faulted(fault) => Status::Faulted(fault),
+    }
+}
