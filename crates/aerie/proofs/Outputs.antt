@@ -8,7 +8,7 @@ use Rattle.std.proofs.lemmas.Slice.Eq.{bytes_eq-Decides}
 use Rattle.std.proofs.lemmas.Bool.{leb-true}
 use Rattle.aerie.specs.Input.{HasReadAll}
 use Rattle.aerie.specs.Output.{WritesAll}
-use Rattle.aerie.specs.Program.{AreGood}
+use Rattle.aerie.specs.Program.{AreRunWords}
 use Rattle.aerie.specs.declared.thin.session.Session.{Session}
 use Rattle.aerie.specs.declared.thin.syntax.Text.{Text}
 use Rattle.aerie.specs.thin.Checking.{session_of, session_in}
@@ -19,7 +19,7 @@ use Rattle.aerie.specs.thin.Lines.{text_of}
 
 -- one word is the words, and it is `run` where the bytes say so
 pub one_word : (words : List (String Global)) (word : String Global) (r : Bool) → 1 ≤ length words → length words < 2 → word ≡ get_or words 0 word
-    → r ≡ bytes_eq (string_bytes word) (codes "run") → IsTrue r ↔ AreGood words
+    → r ≡ bytes_eq (string_bytes word) (codes "run") → IsTrue r ↔ AreRunWords words
 one_word [] word r some few is test = absurd (omega arith)
 one_word (w ∷ v ∷ ws) word r some few is test = absurd (omega (arith, few))
 one_word (w ∷ []) word r some few is test =

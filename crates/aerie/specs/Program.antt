@@ -11,8 +11,8 @@ abbrev pub is_status : ℕ → Bool
 is_status n = (n == 0) || (n == 2) || (n == 3) || (n == 4) || (n == 5) || (n == 6)
 
 -- the words are the one word `run`
-abbrev pub AreGood : List (String Global) → Type 0
-AreGood words = map (λ word. string_bytes word) words ≡ codes "run" ∷ []
+abbrev pub AreRunWords : List (String Global) → Type 0
+AreRunWords words = map (λ word. string_bytes word) words ≡ codes "run" ∷ []
 
 -- the line for other words
 abbrev pub words_line : List ℕ
@@ -28,5 +28,5 @@ output_of input = unwrap_or (option_map text_of (session_of input)) unbuilt_line
 
 -- what was to be written: the line for the words, or the output for the input that was read
 pub record IsOutput (words : List (String Global)) (before after : Option (List ℕ)) (text : List ℕ) : Type 0 where
-  pub for_words : ¬ (AreGood words) → text ≡ words_line
-  pub for_input : AreGood words → (input : List ℕ) × HasReadAll before after input × (text ≡ output_of input)
+  pub for_words : ¬ (AreRunWords words) → text ≡ words_line
+  pub for_input : AreRunWords words → (input : List ℕ) × HasReadAll before after input × (text ≡ output_of input)

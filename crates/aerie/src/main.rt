@@ -11,7 +11,7 @@ mod thin;
 
 use aerie_base::OutOfMemory;
 use aerie_edge::{Open, StdSink, StdSource};
-use program::{Status, with_own_counter};
+use program::{ExitStatus, with_own_counter};
 use std::env;
 use std::io::ErrorKind;
 use std::process::ExitCode;
@@ -35,7 +35,7 @@ fn words<R: Env + AllocGlobal>(rt: &R) -> Result<Vec<String>, OutOfMemory> {
 fn main(rt: HostRuntime) -> ExitCode {
     let words = match words(&rt) {
         Ok(words) => words,
-        Err(OutOfMemory) => return ExitCode::from(Status::OutOfMemory as u8),
+        Err(OutOfMemory) => return ExitCode::from(ExitStatus::OutOfMemory as u8),
     };
     let mut source = StdSource::new(rt.stdin());
     let mut sink = StdSink::new(rt.stdout());

@@ -3,7 +3,7 @@ ghost use Rattle.std.specs.Io.KnownBytes.{IsAtEnd};
 ghost use Rattle.aerie_edge.specs.Faults.{Rose};
 ghost use Rattle.aerie.specs.Input.{HasRead, HasReadAll};
 ghost use Rattle.aerie.specs.Output.{WritesAll, WritesFront};
-ghost use Rattle.aerie.specs.Program.{is_status, AreGood, IsOutput, words_line, unbuilt_line};
+ghost use Rattle.aerie.specs.Program.{is_status, AreRunWords, IsOutput, words_line, unbuilt_line};
 ghost use Rattle.aerie.specs.declared.thin.session.Session.{Session};
 ghost use Rattle.aerie.specs.thin.Checking.{session_of};
 ghost use Rattle.aerie.specs.thin.Lines.{text_of};
@@ -21,7 +21,7 @@ use std::thread::Threads;
 
 /// How the program ended, and the status that says so.
 #[derive(Clone, Copy)]
-pub enum Status {
+pub enum ExitStatus {
     /// The session was performed, and all was written.
     Done = 0,
     /// The words are not in the grammar.
@@ -42,7 +42,7 @@ const UNBUILT_LINE: &[u8] = b"{\"refused\":{\"name\":\"Unbuilt\"}}\n";
 
 /// Whether the words are the one word `run`.
 fn are_good(words: &[String]) -> bool
-    ensures { IsTrue result ↔ AreGood words.now }
+    ensures { IsTrue result ↔ AreRunWords words.now }
 {
     match words {
         [word] => word.as_str() == "run",
@@ -66,18 +66,18 @@ pub fn aerie<R: Threads + Wait + Sync, S: Source, K: Sink, G: Gate, L: Ledger>(
     ensures statuses { IsTrue (is_status result) }
 
     // The input was read to its end and is a thin session, and its text was written.
-    ensures done { result ≡ 0 → AreGood words.now
+    ensures done { result ≡ 0 → AreRunWords words.now
         × ((input : List ℕ) × HasRead (S.left source.old) (S.left source.new) input × IsAtEnd (S.left source.new)
         × ((session : Session) × (session_of input ≡ Some session)
         × WritesAll (K.written sink.old) (K.written sink.new) (K.pieces sink.old) (K.pieces sink.new) (text_of session))) }
 
     // Where the words are not good nothing is read, and the status is 2 unless a write failed; and only there is it 2.
-    ensures other_words { ¬ (AreGood words.now) → (source.new ≡ source.old) × ((result ≡ 2) ⊎ (result ≡ 5)) }
-    ensures words { result ≡ 2 → ¬ (AreGood words.now)
+    ensures other_words { ¬ (AreRunWords words.now) → (source.new ≡ source.old) × ((result ≡ 2) ⊎ (result ≡ 5)) }
+    ensures words { result ≡ 2 → ¬ (AreRunWords words.now)
         × WritesAll (K.written sink.old) (K.written sink.new) (K.pieces sink.old) (K.pieces sink.new) words_line }
 
     // The input was read to its end, or as far as is read, and is no thin session.
-    ensures refused { result ≡ 3 → AreGood words.now
+    ensures refused { result ≡ 3 → AreRunWords words.now
         × ((input : List ℕ) × HasReadAll (S.left source.old) (S.left source.new) input × (session_of input ≡ None))
         × WritesAll (K.written sink.old) (K.written sink.new) (K.pieces sink.old) (K.pieces sink.new) unbuilt_line }
 
@@ -90,7 +90,7 @@ pub fn aerie<R: Threads + Wait + Sync, S: Source, K: Sink, G: Gate, L: Ledger>(
         × WritesFront (K.written sink.old) (K.written sink.new) (K.pieces sink.old) (K.pieces sink.new) text) }
 
     // Want of memory: nothing was written.
-    ensures memory { result ≡ 6 → AreGood words.now × (sink.new ≡ sink.old) }
+    ensures memory { result ≡ 6 → AreRunWords words.now × (sink.new ≡ sink.old) }
 
     // Whatever the status: what is read, in how many reads, and what only rises.
     ensures read { (input : List ℕ) × HasRead (S.left source.old) (S.left source.new) input }
@@ -100,26 +100,26 @@ pub fn aerie<R: Threads + Wait + Sync, S: Source, K: Sink, G: Gate, L: Ledger>(
 {
     if !are_good(words) {
         return match write_output(sink, WORDS_LINE) {
-            Ok(()) => Status::Words as u8,
-            Err(_) => Status::WriteFailed as u8,
+            Ok(()) => ExitStatus::Words as u8,
+            Err(_) => ExitStatus::WriteFailed as u8,
         };
     }
     let input = match read_input(alloc, source) {
         Ok(input) => input,
-        Err(InputError::Failed) => return Status::ReadFailed as u8,
-        Err(InputError::OutOfMemory) => return Status::OutOfMemory as u8,
+        Err(InputError::Failed) => return ExitStatus::ReadFailed as u8,
+        Err(InputError::OutOfMemory) => return ExitStatus::OutOfMemory as u8,
     };
     let text = match thin::answer(alloc, &input, gate) {
         Ok(Some(text)) => text,
         Ok(None) => match write_output(sink, UNBUILT_LINE) {
-            Ok(()) => return Status::Refused as u8,
-            Err(_) => return Status::WriteFailed as u8,
+            Ok(()) => return ExitStatus::Refused as u8,
+            Err(_) => return ExitStatus::WriteFailed as u8,
         },
-        Err(OutOfMemory) => return Status::OutOfMemory as u8,
+        Err(OutOfMemory) => return ExitStatus::OutOfMemory as u8,
     };
     match write_output(sink, text.as_bytes()) {
-        Ok(()) => Status::Done as u8,
-        Err(_) => Status::WriteFailed as u8,
+        Ok(()) => ExitStatus::Done as u8,
+        Err(_) => ExitStatus::WriteFailed as u8,
     }
 }
 

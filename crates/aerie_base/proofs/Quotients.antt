@@ -6,7 +6,7 @@ use Rattle.std.proofs.lemmas.Int.{quot_is}
 use Rattle.std.specs.Int.{w128}
 use Rattle.std.specs.Int.RustNames.{int_div}
 use Rattle.aerie_base.specs.Ranges.{IsNumber}
-use Rattle.aerie_base.specs.expressions.Arithmetic.{Outcome, ranged, divided}
+use Rattle.aerie_base.specs.expressions.Arithmetic.{ValueOrFault, ranged, divided}
 
 negated : (n : ℕ) → n ≤ 1_000_000_000_000_000_000 → FitsSigned w128 (neg_ℤ (pos n))
 negated zero h = record { sfits = omega arith }
@@ -35,7 +35,7 @@ not_zero (pos (suc d)) number k = chosen _ number (above d)
 not_zero (negsuc d) number k = chosen _ number (above d)
 
 -- what the code computes of a divisor that is not 0
-pub quotient_is : (a d : ℤ) (result : Outcome) → IsNumber a → IsNumber d → (of_z w128 d ≡ 0 → ⊥) →
+pub quotient_is : (a d : ℤ) (result : ValueOrFault) → IsNumber a → IsNumber d → (of_z w128 d ≡ 0 → ⊥) →
     result ≡ ranged (to_z w128 (of_z w128 (int_div (to_z w128 (of_z w128 a)) (to_z w128 (of_z w128 d))))) →
     result ≡ divided d (int_div a d)
 quotient_is a d result h k n e =

@@ -28,8 +28,8 @@ abbrev pub IsNumber : ℤ → Type 0
 IsNumber value = unsigned_abs value ≤ number_limit
 
 -- the number with this value, where there is one
-abbrev pub number_of : ℤ → Option ℤ
-number_of value = if is_number value then Some value else None
+abbrev pub checked_number : ℤ → Option ℤ
+checked_number value = if is_number value then Some value else None
 
 -- ---- rates
 

@@ -12,7 +12,7 @@ use std::alloc::Global;
 
 /// What a test tells of an instruction.
 #[derive(Clone, Copy, Debug, PartialEq, Eq)]
-enum Seen {
+enum SeenInstruction {
     /// An assignment to a slot.
     Assigns(u16),
     /// Another statement.
@@ -25,13 +25,13 @@ enum Seen {
     Ends,
 }
 
-fn seen_of(instruction: &Instruction) -> Seen {
+fn seen_of(instruction: &Instruction) -> SeenInstruction {
     match instruction {
-        Instruction::Do(Stmt::Assign { slot, .. }) => Seen::Assigns(*slot),
-        Instruction::Do(_) => Seen::Other,
-        Instruction::Test { otherwise, .. } => Seen::Tests(*otherwise),
-        Instruction::Jump(to) => Seen::Jumps(*to),
-        Instruction::End => Seen::Ends,
+        Instruction::Do(Stmt::Assign { slot, .. }) => SeenInstruction::Assigns(*slot),
+        Instruction::Do(_) => SeenInstruction::Other,
+        Instruction::Test { otherwise, .. } => SeenInstruction::Tests(*otherwise),
+        Instruction::Jump(to) => SeenInstruction::Jumps(*to),
+        Instruction::End => SeenInstruction::Ends,
     }
 }
 
@@ -115,17 +115,17 @@ fn compiles_an_if_within_a_while(rt: HostRuntime) {
     let body = nested(alloc).expect(&rt, "memory");
     let code = compile(alloc, body.as_slice()).expect(&rt, "memory");
     let expected = [
-        Seen::Tests(9),
-        Seen::Assigns(1),
-        Seen::Tests(5),
-        Seen::Assigns(2),
-        Seen::Jumps(7),
-        Seen::Assigns(3),
-        Seen::Assigns(4),
-        Seen::Assigns(5),
-        Seen::Jumps(0),
-        Seen::Assigns(6),
-        Seen::Ends,
+        SeenInstruction::Tests(9),
+        SeenInstruction::Assigns(1),
+        SeenInstruction::Tests(5),
+        SeenInstruction::Assigns(2),
+        SeenInstruction::Jumps(7),
+        SeenInstruction::Assigns(3),
+        SeenInstruction::Assigns(4),
+        SeenInstruction::Assigns(5),
+        SeenInstruction::Jumps(0),
+        SeenInstruction::Assigns(6),
+        SeenInstruction::Ends,
     ];
     for at in 0..11 {
         assert_eq!(&rt;
@@ -139,7 +139,7 @@ fn compiles_an_if_within_a_while(rt: HostRuntime) {
 #[test]
 fn compiles_the_empty_body(rt: HostRuntime) {
     let code = compile(rt.alloc(), &[]).expect(&rt, "memory");
-    assert_eq!(&rt; seen_of(code.next(0)), Seen::Ends);
+    assert_eq!(&rt; seen_of(code.next(0)), SeenInstruction::Ends);
 }
 
 /// A model of an activity type that returns at once, and of a daemon that does nothing.
@@ -184,6 +184,6 @@ fn compiles_the_activities_and_then_the_daemons(rt: HostRuntime) {
     let codes = compile_all(alloc, &model).expect(&rt, "memory");
     let codes = codes.as_slice();
     assert_eq!(&rt; codes.len(), 2);
-    assert_eq!(&rt; seen_of(codes[0].next(0)), Seen::Other);
-    assert_eq!(&rt; seen_of(codes[1].next(0)), Seen::Ends);
+    assert_eq!(&rt; seen_of(codes[0].next(0)), SeenInstruction::Other);
+    assert_eq!(&rt; seen_of(codes[1].next(0)), SeenInstruction::Ends);
 }

@@ -8,7 +8,7 @@ use Rattle.std.specs.List.{All}
 use Rattle.std.specs.Int.RustNames.{unsigned_abs}
 use Rattle.aerie_base.specs.Ranges.{IsNumber, IsRate, time_limit}
 use Rattle.windows.specs.declared.segments.Segment.{Segment}
-use Rattle.windows.specs.Linear.{segment_value, value_at, IsSum, first_start, Follow, AreSegments}
+use Rattle.windows.specs.Linear.{segment_value, segments_value, IsSum, first_start, Follow, AreSegments}
 use Rattle.dataset_in.specs.Levels.{constant, before}
 use Rattle.dataset_in.specs.Series.{StartsRise, AreStarts}
 
@@ -33,20 +33,20 @@ past_reach reach segment rest past = let e : nat_lt segment.from reach ≡ false
 below_reach : (reach t from : ℕ) → t < reach → nat_lt from reach ≡ false → nat_le from t ≡ false
 below_reach reach t from below past = grind (arith, common_steps)
 
-value_kept : (reach t : ℕ) (segment : Segment) (rest : List Segment) → t < reach → value_at (segment ∷ before reach rest) t ≡ value_at (segment ∷ rest) t
+value_kept : (reach t : ℕ) (segment : Segment) (rest : List Segment) → t < reach → segments_value (segment ∷ before reach rest) t ≡ segments_value (segment ∷ rest) t
 value_kept reach t segment [] below = refl
 value_kept reach t segment (next ∷ rest) below = by_next (nat_lt next.from reach) refl (value_kept reach t next rest below) where
-  by_next : (b : Bool) → nat_lt next.from reach ≡ b → value_at (next ∷ before reach rest) t ≡ value_at (next ∷ rest) t →
-      value_at (segment ∷ (if b then next ∷ before reach rest else [])) t ≡ value_at (segment ∷ next ∷ rest) t
+  by_next : (b : Bool) → nat_lt next.from reach ≡ b → segments_value (next ∷ before reach rest) t ≡ segments_value (next ∷ rest) t →
+      segments_value (segment ∷ (if b then next ∷ before reach rest else [])) t ≡ segments_value (segment ∷ next ∷ rest) t
   by_next true e h = ap (λ v. cond (nat_le next.from t) v (segment_value segment t)) h
   by_next false e h = let later = below_reach reach t next.from below e in rw later refl
 
 -- the value at each time below the reach stays
 pub values_kept : (reach : ℕ) (segments : List Segment) → AreStarts (map (λ s. s.from) segments) → (t : ℕ) → t < reach →
-    value_at (before reach segments) t ≡ value_at segments t
+    segments_value (before reach segments) t ≡ segments_value segments t
 values_kept reach [] starts t below = refl
 values_kept reach (first ∷ rest) starts t below =
-    ap (λ l. value_at l t) (at_reach reach first rest (omega (arith, starts.0))) ∙ value_kept reach t first rest below
+    ap (λ l. segments_value l t) (at_reach reach first rest (omega (arith, starts.0))) ∙ value_kept reach t first rest below
 
 follows_on : (reach : ℕ) (segment : Segment) (rest : List Segment) → segment.from < reach → StartsRise segment.from (map (λ s. s.from) rest) →
     All InRange (segment ∷ rest) → reach ≤ time_limit → Follow reach (segment ∷ before reach rest)

@@ -6,7 +6,7 @@ use Rattle.std.proofs.lemmas.List.Elements.{All-head, All-tail}
 use Rattle.std.specs.List.{All}
 use Rattle.std.specs.List.Sorted.{IsPartitionedBy, IsPartitionPoint}
 use Rattle.windows.specs.declared.segments.Segment.{Segment}
-use Rattle.windows.specs.Linear.{segment_value, value_at}
+use Rattle.windows.specs.Linear.{segment_value, segments_value}
 use Rattle.dataset_in.specs.Levels.{constant, last_begun}
 use Rattle.dataset_in.specs.Series.{StartsRise, AreStarts}
 
@@ -94,27 +94,27 @@ same_choice value true later entry after here h e = h
 same_choice value false later entry after here h e = e
 
 -- the value of straight pieces is that of the last one that has begun
-pub linear_value : (segments : List Segment) (t : ℕ) → IfSome (last_begun (λ s. s.from) segments t) (λ s. segment_value s t ≡ value_at segments t)
+pub linear_value : (segments : List Segment) (t : ℕ) → IfSome (last_begun (λ s. s.from) segments t) (λ s. segment_value s t ≡ segments_value segments t)
 linear_value [] t = tt
 linear_value (segment ∷ []) t = refl
 linear_value (segment ∷ next ∷ rest) t =
-    same_choice (λ s. segment_value s t) (nat_le next.from t) (last_begun (λ (s : Segment). s.from) (next ∷ rest) t) segment (value_at (next ∷ rest) t)
+    same_choice (λ s. segment_value s t) (nat_le next.from t) (last_begun (λ (s : Segment). s.from) (next ∷ rest) t) segment (segments_value (next ∷ rest) t)
     (segment_value segment t) (linear_value (next ∷ rest) t) refl
 
 stays : (entry : ℕ × ℤ) (t : ℕ) → entry.1 ≡ segment_value (constant entry) t
 stays entry t = omega (arith, ints)
 
-pub constant_value : (entries : List (ℕ × ℤ)) (t : ℕ) → IfSome (last_begun (λ entry. entry.0) entries t) (λ entry. entry.1 ≡ value_at (map constant entries) t)
+pub constant_value : (entries : List (ℕ × ℤ)) (t : ℕ) → IfSome (last_begun (λ entry. entry.0) entries t) (λ entry. entry.1 ≡ segments_value (map constant entries) t)
 constant_value [] t = tt
 constant_value (entry ∷ []) t = stays entry t
 constant_value (entry ∷ next ∷ rest) t =
-    same_choice (λ (e : ℕ × ℤ). e.1) (nat_le next.0 t) (last_begun (λ (e : ℕ × ℤ). e.0) (next ∷ rest) t) entry (value_at (map constant (next ∷ rest)) t)
+    same_choice (λ (e : ℕ × ℤ). e.1) (nat_le next.0 t) (last_begun (λ (e : ℕ × ℤ). e.0) (next ∷ rest) t) entry (segments_value (map constant (next ∷ rest)) t)
     (segment_value (constant entry) t) (constant_value (next ∷ rest) t) (stays entry t)
 
 pub linear_is : (segments : List Segment) (t : ℕ) (segment : Segment) → Some segment ≡ last_begun (λ s. s.from) segments t →
-    segment_value segment t ≡ value_at segments t
-linear_is segments t segment e = taken (λ (s : Segment). segment_value s t ≡ value_at segments t) _ _ e (linear_value segments t)
+    segment_value segment t ≡ segments_value segments t
+linear_is segments t segment e = taken (λ (s : Segment). segment_value s t ≡ segments_value segments t) _ _ e (linear_value segments t)
 
 pub constant_is : (entries : List (ℕ × ℤ)) (t : ℕ) (entry : ℕ × ℤ) → Some entry ≡ last_begun (λ entry. entry.0) entries t →
-    entry.1 ≡ value_at (map constant entries) t
-constant_is entries t entry e = taken (λ (x : ℕ × ℤ). x.1 ≡ value_at (map constant entries) t) _ _ e (constant_value entries t)
+    entry.1 ≡ segments_value (map constant entries) t
+constant_is entries t entry e = taken (λ (x : ℕ × ℤ). x.1 ≡ segments_value (map constant entries) t) _ _ e (constant_value entries t)

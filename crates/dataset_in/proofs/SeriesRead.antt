@@ -6,7 +6,7 @@ use Rattle.std.proofs.lemmas.List.Elements.{All-cons, All-nil}
 use Rattle.std.specs.List.{All}
 use Rattle.serde_json.specs.Data.{Data}
 use Rattle.serde_json.specs.Read.{read}
-use Rattle.aerie_base.specs.Ranges.{IsNumber, IsRate, is_number, is_rate, number_of}
+use Rattle.aerie_base.specs.Ranges.{IsNumber, IsRate, is_number, is_rate, checked_number}
 use Rattle.windows.specs.declared.segments.Segment.{Segment}
 use Rattle.dataset_in.specs.declared.series.Series.{Series}
 use Rattle.dataset_in.specs.declared.series.Series.TheVariants.{Truth, Whole, Linear}
@@ -15,7 +15,7 @@ use Rattle.dataset_in.specs.declared.dataset_error.DatasetError.TheVariants.{Too
 use Rattle.dataset_in.specs.declared.forms.SeriesKind.{SeriesKind}
 use Rattle.dataset_in.specs.declared.forms.SeriesKind.TheVariants as kind
 use Rattle.dataset_in.specs.Series.{StartsRise, AreStarts, IsSeries}
-use Rattle.dataset_in.specs.Datasets.{follows, put_first, then_entry, next_entry, entries_behind, entries_of, series_answer, series_of, form_answer, dataset_form, dataset_of, truth_entry, whole_entry, linear_entry, number_part, rate_part, time_part, truth_part, whole_part, most_segments, IsAnswerIfMemory}
+use Rattle.dataset_in.specs.Datasets.{follows, put_first, then_entry, next_entry, entries_behind, entries_of, series_answer, series_of, form_answer, kind_and_rows, dataset_of, truth_entry, whole_entry, linear_entry, number_part, rate_part, time_part, truth_part, whole_part, most_segments, IsAnswerIfMemory}
 
 some_weaker : {A : Type 0} {P Q : A → Type 0} → ((x : A) → P x → Q x) → (o : Option A) → IfSome o P → IfSome o Q
 some_weaker f None h = tt
@@ -88,7 +88,7 @@ module _ {A : Type 0} (entry : Data → Option A) (from : A → ℕ) where
 
 -- ---- each segment is in range
 
-number_ok : (z : ℤ) → IfSome (number_of z) IsNumber
+number_ok : (z : ℤ) → IfSome (checked_number z) IsNumber
 number_ok z = pick (is_number z) refl where
   pick : (b : Bool) → is_number z ≡ b → IfSome (if b then Some z else None) IsNumber
   pick true e = grind (arith, common_steps)
@@ -101,7 +101,7 @@ rate_ok z = pick (is_rate z) refl where
   pick false e = tt
 
 number_part_ok : (place : ℕ) (row : Data) → IfSome (number_part place row) IsNumber
-number_part_ok place row = then_some IsNumber number_of (λ z h. number_ok z) (whole_part place row) (any (whole_part place row))
+number_part_ok place row = then_some IsNumber checked_number (λ z h. number_ok z) (whole_part place row) (any (whole_part place row))
 
 rate_part_ok : (place : ℕ) (row : Data) → IfSome (rate_part place row) IsRate
 rate_part_ok place row = then_some IsRate (λ z. if is_rate z then Some z else None) (λ z h. rate_ok z) (whole_part place row) (any (whole_part place row))

@@ -5,7 +5,7 @@ use Rattle.std.specs.Cmp.Lexicographic.{pointwise}
 use Rattle.serde_json.specs.Data.{Data, Items, no_items, item, Members, no_members, member}
 use Rattle.serde_json.specs.Find.{get, at, as_array, as_bool, as_i64, as_number, as_object, as_str}
 use Rattle.serde_json.specs.Read.{read}
-use Rattle.aerie_base.specs.Ranges.{is_rate, number_of, time_of_signed}
+use Rattle.aerie_base.specs.Ranges.{is_rate, checked_number, time_of_signed}
 use Rattle.windows.specs.declared.segments.Segment.{Segment}
 use Rattle.dataset_in.specs.declared.dataset_error.DatasetError.{DatasetError}
 use Rattle.dataset_in.specs.declared.dataset_error.DatasetError.TheVariants.{NotADataset, TooMany, BadSegment, OutOfMemory}
@@ -66,8 +66,8 @@ abbrev pub with_rows : SeriesKind → List Data → Option (SeriesKind × List D
 with_rows kind rows = if list_all (is_row (width kind)) rows then Some (kind, rows) else None
 
 -- of an object with these two members alone
-abbrev pub dataset_form : Data → Option (SeriesKind × List Data)
-dataset_form whole =
+abbrev pub kind_and_rows : Data → Option (SeriesKind × List Data)
+kind_and_rows whole =
     if has_two (as_object whole) then option_and_then (λ kind. option_and_then (with_rows kind) (segments_member whole)) (kind_member whole)
     else None
 
@@ -81,7 +81,7 @@ abbrev pub time_part : ℕ → Data → Option ℕ
 time_part place row = option_and_then time_of_signed (whole_part place row)
 
 abbrev pub number_part : ℕ → Data → Option ℤ
-number_part place row = option_and_then number_of (whole_part place row)
+number_part place row = option_and_then checked_number (whole_part place row)
 
 abbrev pub rate_part : ℕ → Data → Option ℤ
 rate_part place row = option_and_then (λ rate. if is_rate rate then Some rate else None) (whole_part place row)
@@ -156,7 +156,7 @@ form_answer (Some form) = if nat_lt most_segments (length form.1) then Err TooMa
 
 -- the series of a text, or why it is none: of several causes the first in this order
 abbrev pub dataset_of : List ℕ → Result Series DatasetError
-dataset_of text = form_answer (option_and_then dataset_form (read text))
+dataset_of text = form_answer (option_and_then kind_and_rows (read text))
 
 -- the answer is this one, unless memory ran out
 abbrev pub IsAnswerIfMemory : Result Series DatasetError → Result Series DatasetError → Type 0

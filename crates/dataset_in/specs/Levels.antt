@@ -1,7 +1,7 @@
 -- What a series says at a time.
 use Rattle.std.specs.Prelude.{ℕ, ◌≡◌, ℤ, pos, Bool, true, false, cond, nat_le, nat_lt, if◌then◌else◌, List, [], ◌∷◌, map, Option, Some, None, refl}
 use Rattle.windows.specs.declared.segments.Segment.{Segment}
-use Rattle.windows.specs.Linear.{value_at}
+use Rattle.windows.specs.Linear.{segments_value}
 use Rattle.dataset_in.specs.declared.series.Series.{Series}
 use Rattle.dataset_in.specs.declared.series.Series.TheVariants.{Truth, Whole, Linear}
 use Rattle.dataset_in.specs.declared.series.Level.{Level}
@@ -30,8 +30,8 @@ truth_of (Some entry) = entry.1
 -- the value at a time
 abbrev pub level_at : Series → ℕ → Level
 level_at (Truth entries) t = level.Truth (truth_of (last_begun (λ entry. entry.0) entries t))
-level_at (Whole entries) t = level.Sum (value_at (map constant entries) t)
-level_at (Linear segments) t = level.Sum (value_at segments t)
+level_at (Whole entries) t = level.Sum (segments_value (map constant entries) t)
+level_at (Linear segments) t = level.Sum (segments_value segments t)
 
 -- the segments that begin before the reach
 abbrev pub before : ℕ → List Segment → List Segment

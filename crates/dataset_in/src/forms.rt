@@ -4,7 +4,7 @@ ghost use Rattle.std.specs.Prelude.{◌≡◌, map, option_map};
 ghost use Rattle.serde_json.specs.View.{view};
 ghost use Rattle.serde_json.specs.Find.{as_object};
 ghost use Rattle.std.specs.List.{list_all};
-ghost use Rattle.dataset_in.specs.Datasets.{dataset_form, has_two, is_row, kind_member, segments_member, series_kind_of as kind_by_word, width as width_of};
+ghost use Rattle.dataset_in.specs.Datasets.{kind_and_rows, has_two, is_row, kind_member, segments_member, series_kind_of as kind_by_word, width as width_of};
 
 use serde_json::Value;
 
@@ -91,7 +91,7 @@ fn segments_member(dataset: &Value) -> Option<&[Value]>
 
 /// The kind and the segments of a dataset, each a list of as many parts as the kind has.
 pub(crate) fn dataset_form(dataset: &Value) -> Option<(SeriesKind, &[Value])>
-    ensures { option_map (λ form. (form.0, map view form.1.now)) result ≡ dataset_form (view dataset.now) }
+    ensures { option_map (λ form. (form.0, map view form.1.now)) result ≡ kind_and_rows (view dataset.now) }
 {
     if !has_two_members(dataset) {
         return None;

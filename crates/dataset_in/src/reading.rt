@@ -2,7 +2,7 @@
 
 ghost use Rattle.std.specs.Prelude.{◌≡◌, ◌≤◌, IfOk, length, map};
 ghost use Rattle.serde_json.specs.View.{view};
-ghost use Rattle.dataset_in.specs.Datasets.{IsAnswerIfMemory, dataset_of, dataset_form, form_answer, most_segments, series_of};
+ghost use Rattle.dataset_in.specs.Datasets.{IsAnswerIfMemory, dataset_of, kind_and_rows, form_answer, most_segments, series_of};
 ghost use Rattle.dataset_in.specs.Series.{IsSeries};
 
 use crate::dataset_error::DatasetError;
@@ -32,7 +32,7 @@ pub fn read_dataset(alloc: Global, text: &str) -> Result<Series, DatasetError>
 
 /// The series that JSON says, or why it says none.
 fn answer_form(alloc: Global, dataset: &Value) -> Result<Series, DatasetError>
-    ensures { IsAnswerIfMemory (form_answer (dataset_form (view dataset.now))) result }
+    ensures { IsAnswerIfMemory (form_answer (kind_and_rows (view dataset.now))) result }
 {
     let (kind, rows) = match dataset_form(dataset) {
         Some(form) => form,

@@ -3,7 +3,7 @@
 ghost use Rattle.std.specs.Prelude.{◌≡◌, ◌≤◌, ◌<◌, ◌-◌, ℕ, map, pos, ◌+ℤ◌, ◌*ℤ◌, IfOk};
 ghost use Rattle.std.specs.List.{All};
 ghost use Rattle.aerie_base.specs.Ranges.{IsNumber, IsRate, IsTime};
-ghost use Rattle.windows.specs.Linear.{AreSegments, segment_value, value_at};
+ghost use Rattle.windows.specs.Linear.{AreSegments, segment_value, segments_value};
 ghost use Rattle.dataset_in.specs.Levels.{before, constant, last_begun, level_at, segments_of, truth_of};
 ghost use Rattle.dataset_in.specs.Series.{AreStarts, IsOfNumbers, IsSeries};
 
@@ -53,7 +53,7 @@ impl Series {
         requires series { IsSeries self.now }
         requires numbers { IsOfNumbers self.now }
         ensures exact { IfOk result (λ segments. segments.items ≡ before reach (segments_of self.now)) }
-        ensures values { IfOk result (λ segments. (t : ℕ) → t < reach → value_at segments.items t ≡ value_at (segments_of self.now) t) }
+        ensures values { IfOk result (λ segments. (t : ℕ) → t < reach → segments_value segments.items t ≡ segments_value (segments_of self.now) t) }
         ensures form { IfOk result (λ segments. AreSegments reach segments.items) }
     {
         match self {
@@ -127,7 +127,7 @@ fn truth_at(entries: &[(Time, bool)], t: Time) -> bool
 #[tactic(auto, using(crate::proofs::LastBegun::constant_is))]
 fn whole_at(entries: &[(Time, Number)], t: Time) -> i128
     requires { AreStarts (map (λ entry. entry.0) entries.now) }
-    ensures { result ≡ value_at (map constant entries.now) t }
+    ensures { result ≡ segments_value (map constant entries.now) t }
 {
     sum_of(last_begun(entries, t).1)
 }
@@ -137,7 +137,7 @@ fn whole_at(entries: &[(Time, Number)], t: Time) -> i128
 fn linear_at(segments: &[Segment], t: Time) -> i128
     requires starts { AreStarts (map (λ segment. segment.from) segments.now) }
     requires ranges { All (λ segment. IsNumber segment.value × IsRate segment.rate) segments.now }
-    ensures { result ≡ value_at segments.now t }
+    ensures { result ≡ segments_value segments.now t }
 {
     value_of(last_begun(segments, t), t)
 }

@@ -7,7 +7,7 @@ use Rattle.effect_cells.specs.Changes.{change_in_turn, change_beside}
 use Rattle.effect_cells.specs.ChangeLaws.{sides_associate}
 use Rattle.effect_cells.specs.Worth.{effect_in_turn, effect_beside, in_front, beside, magnitude, magnitude_if_any}
 use Rattle.effect_cells.specs.States.{is_of_kind}
-use Rattle.effect_cells.specs.Gathering.{is_nothing, is_blank, suits, gathered_with, Gathers}
+use Rattle.effect_cells.specs.Gathering.{is_nothing, is_blank, suits_cell, gathered_with, Gathers}
 use Rattle.effect_cells.specs.declared.registers.Change.{Change}
 use Rattle.effect_cells.specs.declared.registers.Change.TheVariants.{Nothing, Set, Mark, SetMark}
 use Rattle.effect_cells.specs.declared.effects.Effect.{Effect}
@@ -109,21 +109,21 @@ begins_here : (e : Effect) (more rest : Option Effect) → is_blank rest ≡ tru
 begins_here e more rest none both = rw (front_of_blank e more (blank_beside more rest both none)) (sym (beside_blank e rest none))
 
 -- before what does something, all is beside it
-stands_beside : (s : CellState) (e : Effect) (more rest : Option Effect) → is_of_kind s e ≡ true → suits s (beside more rest) ≡ true → suits s rest ≡ true →
+stands_beside : (s : CellState) (e : Effect) (more rest : Option Effect) → is_of_kind s e ≡ true → suits_cell s (beside more rest) ≡ true → suits_cell s rest ≡ true →
     is_blank rest ≡ false → beside (Some e) (beside more rest) ≡ beside (in_front e more) rest
 stands_beside s e None rest p q r some = refl
 stands_beside s e (Some x) None p q r some = absurd (false≢true (sym some))
 stands_beside s e (Some x) (Some z) p q r some = ap (λ (x : Effect). Some x) (in_turn_or_beside s e x z p q r some)
 
 -- something beside something is something
-still_something : (s : CellState) (more rest : Option Effect) → suits s (beside more rest) ≡ true → suits s rest ≡ true → is_blank rest ≡ false →
+still_something : (s : CellState) (more rest : Option Effect) → suits_cell s (beside more rest) ≡ true → suits_cell s rest ≡ true → is_blank rest ≡ false →
     is_blank (beside more rest) ≡ false
 still_something s None rest p q some = some
 still_something s (Some x) None p q some = absurd (false≢true (sym some))
 still_something s (Some x) (Some z) p q some = something_beside s x z (left_kind s x z p q) q some
 
 -- a tree within a tree
-sides : (s : CellState) (child more rest : Option Effect) → suits s (beside child (beside more rest)) ≡ true → suits s (beside more rest) ≡ true → suits s rest ≡ true →
+sides : (s : CellState) (child more rest : Option Effect) → suits_cell s (beside child (beside more rest)) ≡ true → suits_cell s (beside more rest) ≡ true → suits_cell s rest ≡ true →
     beside child (beside more rest) ≡ beside (beside child more) rest
 sides s None more rest p q r = refl
 sides s (Some x) None rest p q r = refl
@@ -139,18 +139,18 @@ small_sides : (e : Effect) (rest : Option Effect) → magnitude_if_any (beside (
 small_sides e None = omega arith
 small_sides e (Some z) = small_beside e z
 
-suits_front : (s : CellState) (e : Effect) (rest : Option Effect) → is_of_kind s e ≡ true → suits s (in_front e rest) ≡ true
+suits_front : (s : CellState) (e : Effect) (rest : Option Effect) → is_of_kind s e ≡ true → suits_cell s (in_front e rest) ≡ true
 suits_front s e None p = p
 suits_front s e (Some z) p = kind_in_turn s e z p
 
-suits_sides : (s : CellState) (e : Effect) (rest : Option Effect) → is_of_kind s e ≡ true → suits s (beside (Some e) rest) ≡ true
+suits_sides : (s : CellState) (e : Effect) (rest : Option Effect) → is_of_kind s e ≡ true → suits_cell s (beside (Some e) rest) ≡ true
 suits_sides s e None p = p
 suits_sides s e (Some z) p = kind_beside s e z p
 
 -- ---- one cell
 
 -- as the walk enters a tree, the tree has nothing yet
-pub entered : (s : CellState) (now : ℕ) (one : Pending) → suits s one.effect ≡ true → (is_blank one.effect ≡ false → one.gathered_at < now) →
+pub entered : (s : CellState) (now : ℕ) (one : Pending) → suits_cell s one.effect ≡ true → (is_blank one.effect ≡ false → one.gathered_at < now) →
     Gathers s now now None 0 one one
 entered s now one suit past = record {
   effect = refl;
@@ -182,8 +182,8 @@ pub with_child : (s : CellState) (entered_at now next size more : ℕ) (worth ch
     Gathers s entered_at now worth size before middle → Gathers s now next child more middle after →
     Gathers s entered_at next (beside child worth) (more + size) before after
 with_child s entered_at now next size more worth child before middle after order g h =
-    let inner : suits s (beside worth before.effect) ≡ true = rw (← g.effect) g.suits_after in
-    let outer : suits s (beside child (beside worth before.effect)) ≡ true = rw (← g.effect, ← h.effect) h.suits_after in
+    let inner : suits_cell s (beside worth before.effect) ≡ true = rw (← g.effect) g.suits_after in
+    let outer : suits_cell s (beside child (beside worth before.effect)) ≡ true = rw (← g.effect, ← h.effect) h.suits_after in
     let middle_some : is_blank before.effect ≡ false → is_blank middle.effect ≡ false = λ some. rw g.effect (still_something s worth before.effect inner g.suits_before some) in
     record {
       effect = h.effect ∙ ap (beside child) g.effect ∙ sides s child worth before.effect outer inner g.suits_before;
@@ -212,7 +212,7 @@ pub with_effect : (s : CellState) (entered_at now size : ℕ) (worth : Option Ef
     Gathers s entered_at (now + 1) (in_front e worth) (magnitude e + size) before (gathered_with middle e entered_at now)
 with_effect s entered_at now size worth e before middle order kind g = first (is_blank middle.effect) refl
   where
-    inner : suits s (beside worth before.effect) ≡ true
+    inner : suits_cell s (beside worth before.effect) ≡ true
     inner = rw (← g.effect) g.suits_after
 
     middle_some : is_blank before.effect ≡ false → is_blank middle.effect ≡ false

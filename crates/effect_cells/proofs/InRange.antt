@@ -1,6 +1,6 @@
 -- Cells that are all in range.
 use Rattle.std.proofs.Common.{◌≡◌, ℕ, zero, suc, ◌<◌, ◌+◌, List, [], ◌∷◌, ◌++◌, map, take, drop, length, get_or, Bool, true, false, Some, None, refl, arith}
-use Rattle.effect_cells.specs.States.{is_in_range, later}
+use Rattle.effect_cells.specs.States.{is_in_range, state_after}
 use Rattle.effect_cells.specs.Cells.{first_out_from}
 use Rattle.effect_cells.specs.declared.effects.CellState.{CellState}
 
@@ -24,11 +24,11 @@ each_is from (x ∷ xs) (suc i) state none within e = each_is (from + 1) xs i st
 
 -- also where those before it have moved on
 pub each_left_is : (from dt : ℕ) (cells mixed : List CellState) (i : ℕ) (state : CellState) → first_out_from from cells ≡ None → i < length cells →
-    mixed ≡ map (later dt) (take i cells) ++ drop i cells → state ≡ get_or mixed i state → is_in_range state ≡ true
+    mixed ≡ map (state_after dt) (take i cells) ++ drop i cells → state ≡ get_or mixed i state → is_in_range state ≡ true
 each_left_is from dt [] mixed i state none within m e = absurd (omega arith)
 each_left_is from dt (x ∷ xs) mixed zero state none within m e = rw (e, m) (first_is from x xs none)
 each_left_is from dt (x ∷ xs) mixed (suc i) state none within m e =
-    each_left_is (from + 1) dt xs (map (later dt) (take i xs) ++ drop i xs) i state (rest_is from x xs none) (omega arith) refl (rw m at e)
+    each_left_is (from + 1) dt xs (map (state_after dt) (take i xs) ++ drop i xs) i state (rest_is from x xs none) (omega arith) refl (rw m at e)
 
 -- one cell more that is in range
 pub one_more : (from : ℕ) (cells : List CellState) (state : CellState) → first_out_from from cells ≡ None → is_in_range state ≡ true → first_out_from from (cells ++ state ∷ []) ≡ None

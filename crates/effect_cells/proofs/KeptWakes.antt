@@ -17,7 +17,7 @@ use Rattle.effect_cells.specs.Cells.{passed, committed_cells, with_effects}
 use Rattle.effect_cells.specs.KeptWakes.{IsNotBefore, counted_before}
 use Rattle.effect_cells.specs.ReadCells.{reads_operand, reads_side, reads_terms, reads_cell, AgreeOn}
 use Rattle.effect_cells.specs.Reads.{value_on, state_value}
-use Rattle.effect_cells.specs.States.{later}
+use Rattle.effect_cells.specs.States.{state_after}
 use Rattle.effect_cells.specs.SumLaws.{flowed_sum, flowed_zero}
 use Rattle.effect_cells.specs.Searching.{found_or, least_from}
 use Rattle.effect_cells.specs.WakeTimes.{holds_on, holds_in, wake_time}
@@ -31,12 +31,12 @@ use Rattle.effect_cells.specs.declared.trees.Tree.{Tree}
 
 -- ---- time passes in parts
 
-later_twice : (state : CellState) (a b : ℕ) → later b (later a state) ≡ later (a + b) state
+later_twice : (state : CellState) (a b : ℕ) → state_after b (state_after a state) ≡ state_after (a + b) state
 later_twice (Counter number) a b = refl
 later_twice (Register value conflicted) a b = refl
 later_twice (Volume volume rate) a b = ap volume_of (sym (flowed_sum (volume, rate) a b))
 
-later_none : (state : CellState) → later 0 state ≡ state
+later_none : (state : CellState) → state_after 0 state ≡ state
 later_none (Counter number) = refl
 later_none (Register value conflicted) = refl
 later_none (Volume volume rate) = ap volume_of (flowed_zero (volume, rate))
@@ -113,13 +113,13 @@ module _ (cells others : List CellState) where
 
 -- ---- its wake time
 
-get_passed : (cells : List CellState) (dt cell : ℕ) → slice_get (passed cells dt) cell ≡ option_map (later dt) (slice_get cells cell)
+get_passed : (cells : List CellState) (dt cell : ℕ) → slice_get (passed cells dt) cell ≡ option_map (state_after dt) (slice_get cells cell)
 get_passed [] dt cell = refl
 get_passed (state ∷ rest) dt zero = refl
 get_passed (state ∷ rest) dt (suc cell) = get_passed rest dt cell
 
 agree_passed : (test : ℕ → Bool) (cells others : List CellState) (dt : ℕ) → AgreeOn test cells others → AgreeOn test (passed cells dt) (passed others dt)
-agree_passed test cells others dt agree cell on = get_passed cells dt cell ∙ ap (option_map (later dt)) (agree cell on) ∙ sym (get_passed others dt cell)
+agree_passed test cells others dt agree cell on = get_passed cells dt cell ∙ ap (option_map (state_after dt)) (agree cell on) ∙ sym (get_passed others dt cell)
 
 pub wakes_same : (condition : Cond) (cells others : List CellState) (limit : ℕ) → AgreeOn (reads_cell condition) cells others →
     wake_time cells condition limit ≡ wake_time others condition limit

@@ -9,7 +9,7 @@ use Rattle.effect_cells.specs.States.{applied_if_any, is_in_range}
 use Rattle.effect_cells.specs.Cells.{first_out_from, AreInRange}
 use Rattle.effect_cells.specs.Pending.{with_pending, AreSmallPending}
 use Rattle.effect_cells.specs.Gathering.{pending_at, state_at, AreBlank}
-use Rattle.effect_cells.specs.TouchedCells.{is_among, Covers, Touches, lower, lowest, is_good_at}
+use Rattle.effect_cells.specs.TouchedCells.{is_cell_among, CoversPending, Touches, lower, lowest, is_good_at}
 use Rattle.effect_cells.specs.declared.effects.Effect.{Effect}
 use Rattle.effect_cells.specs.declared.effects.CellState.{CellState}
 use Rattle.effect_cells.specs.declared.pending.Pending.{Pending}
@@ -34,36 +34,36 @@ or_left : (a b : Bool) → a ≡ true → (a || b) ≡ true
 or_left true b e = refl
 or_left false b e = absurd (false≢true e)
 
-pub among_at : (xs : List ℕ) (i : ℕ) → i < length xs → is_among (get_or xs i 0) xs ≡ true
+pub among_at : (xs : List ℕ) (i : ℕ) → i < length xs → is_cell_among (get_or xs i 0) xs ≡ true
 among_at [] i within = absurd (omega arith)
-among_at (x ∷ xs) zero within = or_left (nat_eq x x) (is_among x xs) (itself x)
-among_at (x ∷ xs) (suc i) within = or_right (nat_eq x (get_or xs i 0)) (is_among (get_or xs i 0) xs) (among_at xs i (omega arith))
+among_at (x ∷ xs) zero within = or_left (nat_eq x x) (is_cell_among x xs) (itself x)
+among_at (x ∷ xs) (suc i) within = or_right (nat_eq x (get_or xs i 0)) (is_cell_among (get_or xs i 0) xs) (among_at xs i (omega arith))
 
 pub listed_within : (touched : List ℕ) (pending : List Pending) (i at : ℕ) → Touches touched pending → i < length touched → at ≡ get_or touched i 0 → at < length pending
 listed_within touched pending i at t within e = rw e (t.within (get_or touched i 0) (among_at touched i within))
 
-pub among_last : (x : ℕ) (xs : List ℕ) → is_among x (xs ++ x ∷ []) ≡ true
+pub among_last : (x : ℕ) (xs : List ℕ) → is_cell_among x (xs ++ x ∷ []) ≡ true
 among_last x [] = or_left (nat_eq x x) false (itself x)
-among_last x (y ∷ ys) = or_right (nat_eq y x) (is_among x (ys ++ x ∷ [])) (among_last x ys)
+among_last x (y ∷ ys) = or_right (nat_eq y x) (is_cell_among x (ys ++ x ∷ [])) (among_last x ys)
 
-among_front : (c x : ℕ) (xs : List ℕ) → is_among c xs ≡ true → is_among c (xs ++ x ∷ []) ≡ true
+among_front : (c x : ℕ) (xs : List ℕ) → is_cell_among c xs ≡ true → is_cell_among c (xs ++ x ∷ []) ≡ true
 among_front c x [] e = absurd (false≢true e)
 among_front c x (y ∷ ys) e = go (nat_eq y c) e (among_front c x ys)
   where
-    go : (v : Bool) → (v || is_among c ys) ≡ true → (is_among c ys ≡ true → is_among c (ys ++ x ∷ []) ≡ true) → (v || is_among c (ys ++ x ∷ [])) ≡ true
+    go : (v : Bool) → (v || is_cell_among c ys) ≡ true → (is_cell_among c ys ≡ true → is_cell_among c (ys ++ x ∷ []) ≡ true) → (v || is_cell_among c (ys ++ x ∷ [])) ≡ true
     go true h further = refl
     go false h further = further h
 
-among_back : (c x : ℕ) (xs : List ℕ) (P : Type 0) → is_among c (xs ++ x ∷ []) ≡ true → (is_among c xs ≡ true → P) → (c ≡ x → P) → P
+among_back : (c x : ℕ) (xs : List ℕ) (P : Type 0) → is_cell_among c (xs ++ x ∷ []) ≡ true → (is_cell_among c xs ≡ true → P) → (c ≡ x → P) → P
 among_back c x [] P e front last = go (nat_eq x c) refl e
   where
     go : (v : Bool) → nat_eq x c ≡ v → (v || false) ≡ true → P
     go true t h = last (same_number x c t)
     go false t h = absurd (false≢true h)
-among_back c x (y ∷ ys) P e front last = go (nat_eq y c) refl e (λ h. among_back c x ys P h (λ r. front (or_right (nat_eq y c) (is_among c ys) r)) last)
+among_back c x (y ∷ ys) P e front last = go (nat_eq y c) refl e (λ h. among_back c x ys P h (λ r. front (or_right (nat_eq y c) (is_cell_among c ys) r)) last)
   where
-    go : (v : Bool) → nat_eq y c ≡ v → (v || is_among c (ys ++ x ∷ [])) ≡ true → (is_among c (ys ++ x ∷ []) ≡ true → P) → P
-    go true t h further = front (or_left (nat_eq y c) (is_among c ys) t)
+    go : (v : Bool) → nat_eq y c ≡ v → (v || is_cell_among c (ys ++ x ∷ [])) ≡ true → (is_cell_among c (ys ++ x ∷ []) ≡ true → P) → P
+    go true t h further = front (or_left (nat_eq y c) (is_cell_among c ys) t)
     go false t h further = further h
 
 default_state : (cells : List CellState) (i : ℕ) (d : CellState) → i < length cells → state_at cells i ≡ get_or cells i d
@@ -90,13 +90,13 @@ touches_push xs x pending inside t = record {
   within = λ cell among. among_back cell x xs (cell < length pending) among (λ e. t.within cell e) (λ e. rw e inside);
 }
 
-pub touches_set : (xs : List ℕ) (on : ℕ) (one : Pending) (pending : List Pending) → is_among on xs ≡ true → Touches xs pending → Touches xs (set pending on one)
+pub touches_set : (xs : List ℕ) (on : ℕ) (one : Pending) (pending : List Pending) → is_cell_among on xs ≡ true → Touches xs pending → Touches xs (set pending on one)
 touches_set xs on one pending listed t = record {
   covers = λ cell within some. covers_one cell (omega (arith, within, length-set pending on one)) some (nat_eq on cell) refl;
   within = λ cell among. omega (arith, t.within cell among, length-set pending on one);
 }
   where
-    covers_one : (cell : ℕ) → cell < length pending → is_some (pending_at (set pending on one) cell).effect ≡ true → (v : Bool) → nat_eq on cell ≡ v → is_among cell xs ≡ true
+    covers_one : (cell : ℕ) → cell < length pending → is_some (pending_at (set pending on one) cell).effect ≡ true → (v : Bool) → nat_eq on cell ≡ v → is_cell_among cell xs ≡ true
     covers_one cell within some true e = let here : cell ≡ on = same_number on cell e in rw here listed
     covers_one cell within some false e =
         let elsewhere : cell ≢ on = other_number on cell e in
@@ -118,13 +118,13 @@ from_one (x ∷ xs) zero within = refl
 from_one (x ∷ xs) (suc i) within = let next : suc i + 1 ≡ suc (i + 1) = omega arith in rw next (from_one xs i (omega arith))
 
 covers_step : (rest : List ℕ) (c : ℕ) (none : Pending) (pending : List Pending) → c < length pending → none.effect ≡ None →
-    Covers (c ∷ rest) pending → Covers rest (set pending c none)
+    CoversPending (c ∷ rest) pending → CoversPending rest (set pending c none)
 covers_step rest c none pending inside nothing covers cell below some = go (nat_eq c cell) refl
   where
     below_old : cell < length pending
     below_old = omega (arith, below, length-set pending c none)
 
-    go : (v : Bool) → nat_eq c cell ≡ v → is_among cell rest ≡ true
+    go : (v : Bool) → nat_eq c cell ≡ v → is_cell_among cell rest ≡ true
     go true e =
         let here : cell ≡ c = same_number c cell e in
         let at : pending_at (set pending c none) cell ≡ none = rw (here, get_or-set_same) refl in
@@ -133,16 +133,16 @@ covers_step rest c none pending inside nothing covers cell below some = go (nat_
     go false e =
         let elsewhere : cell ≢ c = other_number c cell e in
         let same : pending_at (set pending c none) cell ≡ pending_at pending cell = rw get_or-set_other refl in
-        let among : is_among cell (c ∷ rest) ≡ true = covers cell below_old (rw (← same) some) in
+        let among : is_cell_among cell (c ∷ rest) ≡ true = covers cell below_old (rw (← same) some) in
         rw e at among
 
 pub covers_more : (xs : List ℕ) (i c : ℕ) (none : Pending) (pending : List Pending) → i < length xs → c ≡ get_or xs i 0 → c < length pending → none.effect ≡ None →
-    Covers (drop i xs) pending → Covers (drop (i + 1) xs) (set pending c none)
+    CoversPending (drop i xs) pending → CoversPending (drop (i + 1) xs) (set pending c none)
 covers_more xs i c none pending within e inside nothing covers =
     let first : drop i xs ≡ c ∷ drop (i + 1) xs = from_one xs i within ∙ ap (λ (n : ℕ). n ∷ drop (i + 1) xs) (sym e) in
     covers_step (drop (i + 1) xs) c none pending inside nothing (rw first at covers)
 
-pub covers_none : (xs : List ℕ) (n : ℕ) (pending : List Pending) → n ≡ length xs → Covers (drop n xs) pending → AreBlank pending
+pub covers_none : (xs : List ℕ) (n : ℕ) (pending : List Pending) → n ≡ length xs → CoversPending (drop n xs) pending → AreBlank pending
 covers_none xs n pending last covers cell within = go (pending_at pending cell).effect refl
   where
     past : (xs : List ℕ) (n : ℕ) → n ≡ length xs → drop n xs ≡ []
@@ -155,7 +155,7 @@ covers_none xs n pending last covers cell within = go (pending_at pending cell).
     go None e = e
     go (Some x) e =
         let some : is_some (pending_at pending cell).effect ≡ true = rw e refl in
-        let among : is_among cell (drop n xs) ≡ true = covers cell within some in
+        let among : is_cell_among cell (drop n xs) ≡ true = covers cell within some in
         absurd (false≢true (rw (past xs n last) at among))
 
 -- ---- cells with what is pending
@@ -236,7 +236,7 @@ all_looked_at good (x ∷ xs) zero found whole e h = absurd (omega arith)
 all_looked_at good (x ∷ xs) (suc n) found whole e h = all_looked_at good xs n found whole (omega arith) h
 
 -- where none is found, all are good
-lowest_none : (good : ℕ → Bool) (xs : List ℕ) (found : Option ℕ) → lowest good found xs ≡ None → (found ≡ None) × ((cell : ℕ) → is_among cell xs ≡ true → good cell ≡ true)
+lowest_none : (good : ℕ → Bool) (xs : List ℕ) (found : Option ℕ) → lowest good found xs ≡ None → (found ≡ None) × ((cell : ℕ) → is_cell_among cell xs ≡ true → good cell ≡ true)
 lowest_none good [] found h = (h, λ cell among. absurd (false≢true among))
 lowest_none good (x ∷ xs) found h =
     let rest = lowest_none good xs (lower found x (good x)) h in
@@ -252,20 +252,20 @@ lowest_none good (x ∷ xs) found h =
     before found true e n = n
     before found false e n = absurd (false≢true e)
 
-    each : (cell : ℕ) → good x ≡ true → ((cell : ℕ) → is_among cell xs ≡ true → good cell ≡ true) → (v : Bool) → nat_eq x cell ≡ v → (v || is_among cell xs) ≡ true → good cell ≡ true
+    each : (cell : ℕ) → good x ≡ true → ((cell : ℕ) → is_cell_among cell xs ≡ true → good cell ≡ true) → (v : Bool) → nat_eq x cell ≡ v → (v || is_cell_among cell xs) ≡ true → good cell ≡ true
     each cell here rest true e among = let same : cell ≡ x = same_number x cell e in rw same here
     each cell here rest false e among = rest cell among
 
 -- what is found has what all have that are not good
 lowest_has : (Q : ℕ → Type 0) (good : ℕ → Bool) (xs : List ℕ) (found : Option ℕ) → ((f : ℕ) → found ≡ Some f → Q f) →
-    ((x : ℕ) → is_among x xs ≡ true → good x ≡ false → Q x) → (c : ℕ) → lowest good found xs ≡ Some c → Q c
+    ((x : ℕ) → is_cell_among x xs ≡ true → good x ≡ false → Q x) → (c : ℕ) → lowest good found xs ≡ Some c → Q c
 lowest_has Q good [] found before each c h = before c h
 lowest_has Q good (x ∷ xs) found before each c h =
     lowest_has Q good xs (lower found x (good x)) (λ f e. now found (good x) refl before f e)
-    (λ y among bad. each y (or_right (nat_eq x y) (is_among y xs) among) bad) c h
+    (λ y among bad. each y (or_right (nat_eq x y) (is_cell_among y xs) among) bad) c h
   where
     first : good x ≡ false → Q x
-    first bad = each x (or_left (nat_eq x x) (is_among x xs) (itself x)) bad
+    first bad = each x (or_left (nat_eq x x) (is_cell_among x xs) (itself x)) bad
 
     now : (found : Option ℕ) (v : Bool) → good x ≡ v → ((f : ℕ) → found ≡ Some f → Q f) → (f : ℕ) → lower found x v ≡ Some f → Q f
     now found true e old f h = old f h
@@ -280,7 +280,7 @@ lowest_has Q good (x ∷ xs) found before each c h =
 
 -- and none that is not good is lower
 lowest_least : (good : ℕ → Bool) (xs : List ℕ) (found : Option ℕ) (c : ℕ) → lowest good found xs ≡ Some c →
-    ((cell : ℕ) → is_among cell xs ≡ true → good cell ≡ false → c ≤ cell) × ((f : ℕ) → found ≡ Some f → c ≤ f)
+    ((cell : ℕ) → is_cell_among cell xs ≡ true → good cell ≡ false → c ≤ cell) × ((f : ℕ) → found ≡ Some f → c ≤ f)
 lowest_least good [] found c h = (λ cell among bad. absurd (false≢true among), λ f e. let same : c ≡ f = (cc) in omega arith)
 lowest_least good (x ∷ xs) found c h =
     let rest = lowest_least good xs (lower found x (good x)) c h in
@@ -296,8 +296,8 @@ lowest_least good (x ∷ xs) found c h =
     here None false e rest = rest x refl
     here (Some g) false e rest = let low : c ≤ min g x = rest (min g x) refl in omega arith
 
-    each : (cell : ℕ) → good cell ≡ false → ((cell : ℕ) → is_among cell xs ≡ true → good cell ≡ false → c ≤ cell) →
-        ((f : ℕ) → lower found x (good x) ≡ Some f → c ≤ f) → (found_ : Option ℕ) → (v : Bool) → nat_eq x cell ≡ v → (v || is_among cell xs) ≡ true → c ≤ cell
+    each : (cell : ℕ) → good cell ≡ false → ((cell : ℕ) → is_cell_among cell xs ≡ true → good cell ≡ false → c ≤ cell) →
+        ((f : ℕ) → lower found x (good x) ≡ Some f → c ≤ f) → (found_ : Option ℕ) → (v : Bool) → nat_eq x cell ≡ v → (v || is_cell_among cell xs) ≡ true → c ≤ cell
     each cell bad rest low found_ true e among =
         let same : cell ≡ x = same_number x cell e in
         let bad_here : good x ≡ false = rw (← same) bad in
@@ -330,16 +330,16 @@ state_with (x ∷ xs) (y ∷ ys) (suc i) same within = state_with xs ys i (omega
 
 -- the lowest of some cells that is not good is the first of all that is out of range, where all others are good
 first_of_all : (cells : List CellState) (good : ℕ → Bool) (touched : List ℕ) → ((i : ℕ) → i < length cells → is_in_range (state_at cells i) ≡ good i) →
-    ((i : ℕ) → i < length cells → is_among i touched ≡ false → good i ≡ true) → ((i : ℕ) → is_among i touched ≡ true → i < length cells) →
+    ((i : ℕ) → i < length cells → is_cell_among i touched ≡ false → good i ≡ true) → ((i : ℕ) → is_cell_among i touched ≡ true → i < length cells) →
     lowest good None touched ≡ first_out_from 0 cells
 first_of_all cells good touched is_good others within = go (lowest good None touched) refl
   where
-    every : (i : ℕ) → i < length cells → ((cell : ℕ) → is_among cell touched ≡ true → good cell ≡ true) → (v : Bool) → is_among i touched ≡ v → good i ≡ true
+    every : (i : ℕ) → i < length cells → ((cell : ℕ) → is_cell_among cell touched ≡ true → good cell ≡ true) → (v : Bool) → is_cell_among i touched ≡ v → good i ≡ true
     every i inside all true a = all i a
     every i inside all false a = others i inside a
 
-    lower_good : (i c : ℕ) → i < length cells → i < c → ((cell : ℕ) → is_among cell touched ≡ true → good cell ≡ false → c ≤ cell) →
-        (v : Bool) → good i ≡ v → (w : Bool) → is_among i touched ≡ w → good i ≡ true
+    lower_good : (i c : ℕ) → i < length cells → i < c → ((cell : ℕ) → is_cell_among cell touched ≡ true → good cell ≡ false → c ≤ cell) →
+        (v : Bool) → good i ≡ v → (w : Bool) → is_cell_among i touched ≡ w → good i ≡ true
     lower_good i c inside below least true g w a = g
     lower_good i c inside below least false g true a = absurd (omega (arith, least i a g))
     lower_good i c inside below least false g false a = others i inside a
@@ -350,20 +350,20 @@ first_of_all cells good touched is_good others within = go (lowest good None tou
     go : (o : Option ℕ) → lowest good None touched ≡ o → lowest good None touched ≡ first_out_from 0 cells
     go None e =
         let all = (lowest_none good touched None e).1 in
-        e ∙ sym (none_out 0 cells (λ i inside. is_good i inside ∙ every i inside all (is_among i touched) refl))
+        e ∙ sym (none_out 0 cells (λ i inside. is_good i inside ∙ every i inside all (is_cell_among i touched) refl))
     go (Some c) e =
         let inside : c < length cells = lowest_has (λ (n : ℕ). n < length cells) good touched None (nothing_before _) (λ x among bad. within x among) c e in
         let bad : good c ≡ false = lowest_has (λ (n : ℕ). good n ≡ false) good touched None (nothing_before _) (λ x among bad. bad) c e in
         let least = (lowest_least good touched None c e).0 in
         let first : first_out_from 0 cells ≡ Some (0 + c) =
         out_at 0 cells c inside (is_good c inside ∙ bad)
-        (λ i below. let before : i < length cells = omega (arith, inside, below) in is_good i before ∙ lower_good i c before below least (good i) refl (is_among i touched) refl) in
+        (λ i below. let before : i < length cells = omega (arith, inside, below) in is_good i before ∙ lower_good i c before below least (good i) refl (is_cell_among i touched) refl) in
         let zeroth : 0 + c ≡ c = omega arith in
         e ∙ (λ j. Some (sym zeroth j)) ∙ sym first
 
 -- where nothing is pending a cell is as it was
-good_elsewhere : (states : List CellState) (pending : List Pending) (touched : List ℕ) (i : ℕ) → AreInRange states → Covers touched pending → i < length states → i < length pending →
-    (o : Option Effect) → (pending_at pending i).effect ≡ o → is_among i touched ≡ false → is_good_at states pending i ≡ true
+good_elsewhere : (states : List CellState) (pending : List Pending) (touched : List ℕ) (i : ℕ) → AreInRange states → CoversPending touched pending → i < length states → i < length pending →
+    (o : Option Effect) → (pending_at pending i).effect ≡ o → is_cell_among i touched ≡ false → is_good_at states pending i ≡ true
 good_elsewhere states pending touched i range covers within inside None e out =
     rw e (each_is 0 states i (state_at states i) range within (default_state states i _ within))
 good_elsewhere states pending touched i range covers within inside (Some x) e out =

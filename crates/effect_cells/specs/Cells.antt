@@ -4,8 +4,8 @@ use Rattle.aerie_base.specs.declared.models.CellStart.{CellStart}
 use Rattle.aerie_base.specs.declared.models.CellStart.TheVariants as start
 use Rattle.aerie_base.specs.declared.models.model.Parts.{Parts}
 use Rattle.aerie_base.specs.Ranges.{is_rate}
-use Rattle.effect_cells.specs.Worth.{worth_of, fits}
-use Rattle.effect_cells.specs.States.{applied, applied_if_any, later, is_of_kind, is_in_range, IsSmallState}
+use Rattle.effect_cells.specs.Worth.{worth_of, all_accepted}
+use Rattle.effect_cells.specs.States.{applied, applied_if_any, state_after, is_of_kind, is_in_range, IsSmallState}
 use Rattle.effect_cells.specs.declared.trees.Tree.{Tree}
 use Rattle.effect_cells.specs.declared.effects.Effect.{Effect}
 use Rattle.effect_cells.specs.declared.effects.CellState.{CellState}
@@ -38,7 +38,7 @@ accepts cells cell effect = accepted_by (slice_get cells cell) effect
 
 -- whether each effect of a tree is on one of the cells and of its kind
 abbrev pub fits_cells : List CellState → Tree → Bool
-fits_cells cells tree = fits (accepts cells) tree
+fits_cells cells tree = all_accepted (accepts cells) tree
 
 -- each cell with the effect that is on it, where there is one; the first of them is cell `from`
 abbrev pub with_effects : ℕ → (ℕ → Option Effect) → List CellState → List CellState
@@ -51,7 +51,7 @@ committed_cells cells tree = with_effects 0 (worth_of tree) cells
 
 -- the cells so many microseconds later, where there is no effect
 abbrev pub passed : List CellState → ℕ → List CellState
-passed cells dt = map (later dt) cells
+passed cells dt = map (state_after dt) cells
 
 abbrev pub emitted_on : List CellState → ℕ → Effect → Option CellState → List CellState
 emitted_on cells cell effect None = cells

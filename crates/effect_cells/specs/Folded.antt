@@ -1,7 +1,7 @@
 -- The definitions on trees by the tree's own recursion, which the proofs of bodies go by and which does not compute.
 use Rattle.std.specs.Prelude.{◌≡◌, ℕ, Bool, Option}
 use Rattle.effect_cells.specs.TreeRecursion.{tree_gives_fold}
-use Rattle.effect_cells.specs.Worth.{Before, part_worth, tree_worth, part_magnitude, tree_magnitude, part_fits, tree_fits, part_is_on, tree_is_on, worth_of, magnitude_of, fits, has_effect_on}
+use Rattle.effect_cells.specs.Worth.{Before, part_worth, tree_worth, part_magnitude, tree_magnitude, part_fits, tree_fits, part_is_on, tree_is_on, worth_of, magnitude_of, all_accepted, has_effect_on}
 use Rattle.effect_cells.specs.declared.effects.Effect.{Effect}
 use Rattle.effect_cells.specs.declared.trees.Part.{Part, fold-Part}
 use Rattle.effect_cells.specs.declared.trees.Tree.{Tree, fold-Tree}
@@ -37,7 +37,7 @@ worth_is tree cell = λ i. tree_gives_fold Before (ℕ → Option Effect) part_w
 pub magnitude_is : (tree : Tree) → magnitude_of tree ≡ folded_magnitude tree
 magnitude_is = tree_gives_fold ℕ ℕ part_magnitude tree_magnitude
 
-pub fits_is : (accepts : ℕ → Effect → Bool) (tree : Tree) → fits accepts tree ≡ folded_fits accepts tree
+pub fits_is : (accepts : ℕ → Effect → Bool) (tree : Tree) → all_accepted accepts tree ≡ folded_fits accepts tree
 fits_is accepts = tree_gives_fold Bool Bool (part_fits accepts) tree_fits
 
 pub is_on_is : (tree : Tree) (cell : ℕ) → has_effect_on tree cell ≡ folded_is_on tree cell

@@ -24,9 +24,9 @@ is_blank None = true
 is_blank (Some effect) = is_nothing effect
 
 -- whether what is pending is of the kind of a cell
-abbrev pub suits : CellState → Option Effect → Bool
-suits state None = true
-suits state (Some effect) = is_of_kind state effect
+abbrev pub suits_cell : CellState → Option Effect → Bool
+suits_cell state None = true
+suits_cell state (Some effect) = is_of_kind state effect
 
 -- an effect in a tree that was entered at `entered_at`, met at `now`, in front of what is pending on its cell
 abbrev pub gathered_with : Pending → Effect → ℕ → ℕ → Pending
@@ -40,8 +40,8 @@ gathered_with one effect entered_at now =
 pub record Gathers (state : CellState) (entered_at now : ℕ) (worth : Option Effect) (size : ℕ) (before after : Pending) : Type 0 where
   pub effect : after.effect ≡ beside worth before.effect
   pub small : magnitude_if_any after.effect ≤ size + magnitude_if_any before.effect
-  pub suits_before : suits state before.effect ≡ true
-  pub suits_after : suits state after.effect ≡ true
+  pub suits_before : suits_cell state before.effect ≡ true
+  pub suits_after : suits_cell state after.effect ≡ true
   pub earlier : is_blank before.effect ≡ false → before.gathered_at < entered_at
   pub kept : is_blank before.effect ≡ false → after.gathered_at ≡ before.gathered_at
   pub fresh : is_blank before.effect ≡ true → is_blank after.effect ≡ false → entered_at ≤ after.gathered_at
@@ -62,7 +62,7 @@ pub record GatherAll (states : List CellState) (entered_at now : ℕ) (worth : �
 
 -- what is pending on all cells suits them, and was gathered before `now`
 pub record AreReady (states : List CellState) (now : ℕ) (pending : List Pending) : Type 0 where
-  pub suit : (cell : ℕ) → cell < length pending → suits (state_at states cell) (pending_at pending cell).effect ≡ true
+  pub suit : (cell : ℕ) → cell < length pending → suits_cell (state_at states cell) (pending_at pending cell).effect ≡ true
   pub past : (cell : ℕ) → cell < length pending → is_blank (pending_at pending cell).effect ≡ false → (pending_at pending cell).gathered_at < now
 
 -- numbers of this size more on each cell stay small

@@ -1,6 +1,6 @@
 -- What a read of a cell has.
 use Rattle.std.specs.Prelude.{◌≡◌, pos, true, List, [], ◌∷◌, Option, Some, None, Ok, Err, slice_get, refl}
-use Rattle.aerie_base.specs.expressions.Arithmetic.{Outcome, value_kind}
+use Rattle.aerie_base.specs.expressions.Arithmetic.{ValueOrFault, value_kind}
 use Rattle.aerie_base.specs.expressions.Readings.{cell_of, reading}
 use Rattle.aerie_base.specs.declared.faults.Fault.TheVariants.{Range}
 use Rattle.aerie_base.specs.declared.values.Kind.{Kind}
@@ -39,7 +39,7 @@ abbrev pub kind_on : List CellState → CellRead → Option Kind
 kind_on cells read = state_kind read (slice_get cells (cell_of read))
 
 -- what a read gives on cells: the value that it has, and Range where that is a number out of its range
-abbrev pub outcome_on : List CellState → CellRead → Outcome
+abbrev pub outcome_on : List CellState → CellRead → ValueOrFault
 outcome_on cells read = reading read (value_on cells read)
 
 -- ---- worked cases

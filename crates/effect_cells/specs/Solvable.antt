@@ -14,7 +14,7 @@ use Rattle.aerie_base.specs.declared.operands.Operand.{Operand}
 use Rattle.aerie_base.specs.declared.operands.Operand.TheVariants.{Read, Local}
 use Rattle.aerie_base.specs.declared.values.Kind.{Kind}
 use Rattle.aerie_base.specs.declared.values.Kind.TheVariants.{Truth}
-use Rattle.aerie_base.specs.models.Conditions.{Locals, Reads, is_term, may_equal}
+use Rattle.aerie_base.specs.models.Conditions.{Locals, ReadKinds, is_term, may_equal}
 use Rattle.aerie_base.specs.expressions.Typing.{operand_kind}
 use Rattle.aerie_base.specs.models.Expressions.{is_kind_of}
 use Rattle.aerie_base.specs.models.Limits.{term_limit}
@@ -31,14 +31,14 @@ constant_limit = 2 ^ 100
 
 -- a sum of at most 16 terms, each a coefficient of at most 10^6 in magnitude and a whole number that a cell has, and of a
 -- constant below 2^100 in magnitude
-abbrev pub is_form_for : Reads → Linear → Bool
+abbrev pub is_form_for : ReadKinds → Linear → Bool
 is_form_for kinds form =
     nat_le (length form.terms) term_limit
     && (list_all (is_term no_locals kinds) form.terms
     && nat_lt (unsigned_abs form.constant) constant_limit)
 
 -- the type of a side of an equality: a literal or a register
-abbrev pub filled_side_kind : Reads → Simple → Option Kind
+abbrev pub filled_side_kind : ReadKinds → Simple → Option Kind
 filled_side_kind kinds (simple.Literal value) = Some (value_kind value)
 filled_side_kind kinds (simple.Operand (Read (read.Register cell))) = kinds (read.Register cell)
 filled_side_kind kinds (simple.Operand (Read (read.Counter cell))) = None
@@ -47,7 +47,7 @@ filled_side_kind kinds (simple.Operand (Read (read.Volume cell))) = None
 filled_side_kind kinds (simple.Operand (Read (read.Rate cell))) = None
 filled_side_kind kinds (simple.Operand (Local slot)) = None
 
-abbrev pub solvable_step : Reads → Cond-F Bool → Bool
+abbrev pub solvable_step : ReadKinds → Cond-F Bool → Bool
 solvable_step kinds (Cond-F.Literal truth) = true
 solvable_step kinds (Cond-F.Flag operand) = is_kind_of (operand_kind no_locals kinds operand) Truth
 solvable_step kinds (Cond-F.Same left right equal) = may_equal (filled_side_kind kinds left) (filled_side_kind kinds right)
@@ -57,15 +57,15 @@ solvable_step kinds (Cond-F.And left right) = left && right
 solvable_step kinds (Cond-F.Or left right) = left && right
 
 -- whether a condition has no locals, is well typed for what the reads have, and has its linear forms within these limits
-unfoldable pub may_be_solved : Reads → Cond → Bool
+unfoldable pub may_be_solved : ReadKinds → Cond → Bool
 may_be_solved kinds = cond_gives Bool false (solvable_step kinds)
 
 -- the same by the fold, which does not compute
-abbrev pub may_be_solved_by_fold : Reads → Cond → Bool
+abbrev pub may_be_solved_by_fold : ReadKinds → Cond → Bool
 may_be_solved_by_fold kinds = fold-Cond Bool (solvable_step kinds)
 
 -- both are one
-pub may_be_solved_is : (kinds : Reads) (condition : Cond) → may_be_solved kinds condition ≡ may_be_solved_by_fold kinds condition
+pub may_be_solved_is : (kinds : ReadKinds) (condition : Cond) → may_be_solved kinds condition ≡ may_be_solved_by_fold kinds condition
 unfolding may_be_solved
 may_be_solved_is kinds condition = gives_fold Bool false (solvable_step kinds) condition
 

@@ -37,10 +37,10 @@ applied_if_any state None = state
 applied_if_any state (Some e) = applied state e
 
 -- the state so many microseconds later: only a volume changes by itself
-abbrev pub later : ℕ → CellState → CellState
-later dt (Counter n) = Counter n
-later dt (Register v f) = Register v f
-later dt (Volume v r) = volume_of (flowed (v, r) dt)
+abbrev pub state_after : ℕ → CellState → CellState
+state_after dt (Counter n) = Counter n
+state_after dt (Register v f) = Register v f
+state_after dt (Volume v r) = volume_of (flowed (v, r) dt)
 
 -- all numbers of a state are below 2^120 in magnitude
 abbrev pub IsSmallState : CellState → Type 0
@@ -82,10 +82,10 @@ set_and_marked = refl
 
 -- an accumulator over a time, and the ranges of its volume and its rate
 
-pub volume_rises : later 4 (Volume (pos 5) (pos 3)) ≡ Volume (pos 17) (pos 3)
+pub volume_rises : state_after 4 (Volume (pos 5) (pos 3)) ≡ Volume (pos 17) (pos 3)
 volume_rises = refl
 
-pub volume_falls : later 3 (Volume (pos 1) (negsuc 0)) ≡ Volume (negsuc 1) (negsuc 0)
+pub volume_falls : state_after 3 (Volume (pos 1) (negsuc 0)) ≡ Volume (negsuc 1) (negsuc 0)
 volume_falls = refl
 
 pub the_greatest_volume : is_in_range (Volume (pos 1_000_000_000_000_000_000) (pos 1_000_000_000_000)) ≡ true

@@ -6,18 +6,18 @@ use Rattle.effect_cells.specs.declared.effects.CellState.{CellState}
 use Rattle.effect_cells.specs.declared.pending.Pending.{Pending}
 
 -- whether a cell is one of these
-abbrev pub is_among : ℕ → List ℕ → Bool
-is_among cell [] = false
-is_among cell (other ∷ rest) = nat_eq other cell || is_among cell rest
+abbrev pub is_cell_among : ℕ → List ℕ → Bool
+is_cell_among cell [] = false
+is_cell_among cell (other ∷ rest) = nat_eq other cell || is_cell_among cell rest
 
 -- wherever something is pending, the cell is one of these
-abbrev pub Covers : List ℕ → List Pending → Type 0
-Covers touched pending = (cell : ℕ) → cell < length pending → is_some (pending_at pending cell).effect ≡ true → is_among cell touched ≡ true
+abbrev pub CoversPending : List ℕ → List Pending → Type 0
+CoversPending touched pending = (cell : ℕ) → cell < length pending → is_some (pending_at pending cell).effect ≡ true → is_cell_among cell touched ≡ true
 
 -- and each of these is one of the cells
 pub record Touches (touched : List ℕ) (pending : List Pending) : Type 0 where
-  pub covers : Covers touched pending
-  pub within : (cell : ℕ) → is_among cell touched ≡ true → cell < length pending
+  pub covers : CoversPending touched pending
+  pub within : (cell : ℕ) → is_cell_among cell touched ≡ true → cell < length pending
 
 -- ---- the first that would leave its range
 

@@ -10,19 +10,19 @@ abbrev mutual
   -- what an item gives, by a step over one level for items and one for trees
   pub part_gives : (A B : Type 0) → (Part-F A B → A) → (Tree-F A B → B) → Part → A
   part_gives A B part tree (Emit on effect) = part (Part-F.Emit on effect)
-  part_gives A B part tree (Child' _ items) = part (Part-F.Child (tree (record { items = row_gives A B part tree items })))
+  part_gives A B part tree (Child' _ items) = part (Part-F.Child (tree (record { items = items_give A B part tree items })))
 
   -- the same for each item of a child
-  pub row_gives : (A B : Type 0) → (Part-F A B → A) → (Tree-F A B → B) → {m : _} → Row_of-Part m → List A
-  row_gives A B part tree end_of-Part = []
-  row_gives A B part tree (more_of-Part item rest) = part_gives A B part tree item ∷ row_gives A B part tree rest
+  pub items_give : (A B : Type 0) → (Part-F A B → A) → (Tree-F A B → B) → {m : _} → Row_of-Part m → List A
+  items_give A B part tree end_of-Part = []
+  items_give A B part tree (more_of-Part item rest) = part_gives A B part tree item ∷ items_give A B part tree rest
 
 -- what a tree gives
 abbrev pub tree_gives : (A B : Type 0) → (Part-F A B → A) → (Tree-F A B → B) → Tree → B
 tree_gives A B part tree t = tree (record { items = map (part_gives A B part tree) t.items })
 
 module _ (A B : Type 0) (part : Part-F A B → A) (tree : Tree-F A B → B) where
-  row_is : (items : List Part) → row_gives A B part tree (hidden-the_row-Part-0 items) ≡ map (part_gives A B part tree) items
+  row_is : (items : List Part) → items_give A B part tree (hidden-the_row-Part-0 items) ≡ map (part_gives A B part tree) items
   unfolding hidden-the_row-Part-0 shape-the_row-Part-0 hidden
   row_is [] = refl
   row_is (item ∷ rest) = ap (λ (gifts : List A). part_gives A B part tree item ∷ gifts) (row_is rest)

@@ -99,5 +99,5 @@ abbrev pub tree_fits : Tree-F Bool Bool → Bool
 tree_fits tree = list_all (λ flag. flag) tree.items
 
 -- whether each effect in a tree is accepted on its cell
-abbrev pub fits : (ℕ → Effect → Bool) → Tree → Bool
-fits accepts = tree_gives Bool Bool (part_fits accepts) tree_fits
+abbrev pub all_accepted : (ℕ → Effect → Bool) → Tree → Bool
+all_accepted accepts = tree_gives Bool Bool (part_fits accepts) tree_fits

@@ -4,7 +4,7 @@
 use Rattle.std.specs.List.{list_any}
 use Rattle.std.proofs.Common.{◌≡◌, ℕ, Bool, true, false, ◌||◌, List, [], ◌∷◌, map, Option, Some, None, is_some, if◌then◌else◌, nat_eq, refl, ap, ◌∙◌}
 use Rattle.effect_cells.specs.Worth.{Before, in_front, beside, part_worth, tree_worth, items_worth, worth_of, part_is_on, tree_is_on, has_effect_on}
-use Rattle.effect_cells.specs.TreeRecursion.{part_gives, row_gives}
+use Rattle.effect_cells.specs.TreeRecursion.{part_gives, items_give}
 use Rattle.effect_cells.specs.declared.effects.Effect.{Effect}
 use Rattle.effect_cells.specs.declared.trees.Part.{Part, Emit, Child', Row_of-Part, end_of-Part, more_of-Part}
 use Rattle.effect_cells.specs.declared.trees.Tree.{Tree}
@@ -27,14 +27,14 @@ mutual
       is_some (part_gives Before (ℕ → Option Effect) part_worth tree_worth part cell rest) ≡ (part_gives Bool Bool (part_is_on cell) tree_is_on part || is_some rest)
   part_is_some (Emit on effect) cell rest = emit_is_some (nat_eq on cell) effect rest
   part_is_some (Child' _ items) cell rest =
-      beside_is_some (items_worth (row_gives Before (ℕ → Option Effect) part_worth tree_worth items) cell) rest
+      beside_is_some (items_worth (items_give Before (ℕ → Option Effect) part_worth tree_worth items) cell) rest
       ∙ ap (λ (some : Bool). some || is_some rest) (row_is_some items cell)
 
   row_is_some : {m : _} → (row : Row_of-Part m) (cell : ℕ) →
-      is_some (items_worth (row_gives Before (ℕ → Option Effect) part_worth tree_worth row) cell) ≡ list_any (λ flag. flag) (row_gives Bool Bool (part_is_on cell) tree_is_on row)
+      is_some (items_worth (items_give Before (ℕ → Option Effect) part_worth tree_worth row) cell) ≡ list_any (λ flag. flag) (items_give Bool Bool (part_is_on cell) tree_is_on row)
   row_is_some end_of-Part cell = refl
   row_is_some (more_of-Part part rest) cell =
-      part_is_some part cell (items_worth (row_gives Before (ℕ → Option Effect) part_worth tree_worth rest) cell)
+      part_is_some part cell (items_worth (items_give Before (ℕ → Option Effect) part_worth tree_worth rest) cell)
       ∙ ap (λ (some : Bool). part_gives Bool Bool (part_is_on cell) tree_is_on part || some) (row_is_some rest cell)
 
 items_are_some : (items : List Part) (cell : ℕ) →

@@ -1,5 +1,5 @@
 ghost use Rattle.std.specs.Prelude.{◌≡◌, ◌<◌, ◌^◌, true, length};
-ghost use Rattle.effect_cells.specs.States.{later as after_time, is_in_range};
+ghost use Rattle.effect_cells.specs.States.{state_after as after_time, is_in_range};
 ghost use Rattle.effect_cells.specs.Cells.{passed, verdict, AreInRange};
 
 use crate::cells::OutOfRange;

@@ -4,7 +4,7 @@ ghost use Rattle.effect_cells.specs.Worth.{magnitude_of, magnitude, magnitude_if
 ghost use Rattle.effect_cells.specs.Folded.{folded_worth, folded_part_worth, folded_magnitude, folded_part_magnitude, folded_fits, folded_part_fits};
 ghost use Rattle.effect_cells.specs.Pending.{ArePending, AreSmallPending, with_pending};
 ghost use Rattle.effect_cells.specs.Gathering.{gathered_with as front_gathered, is_nothing as does_nothing, GatherAll, AreReady, AreBlank, HaveRoom};
-ghost use Rattle.effect_cells.specs.TouchedCells.{is_among, Touches};
+ghost use Rattle.effect_cells.specs.TouchedCells.{is_cell_among, Touches};
 ghost use Rattle.effect_cells.specs.Cells.{accepts, committed_cells, fits_cells};
 
 use crate::effects::{CellState, Effect, concurrently, sequentially};
@@ -118,7 +118,7 @@ fn gather_folded(
 fn touch(cell: u16, pending: &[Pending], touched: &mut Vec<u16>) -> Option<()>
     requires cell { cell < length pending.now }
     requires touches { Touches touched.old.items pending.now }
-    ensures listed { IfSome result (λ _. is_among cell touched.new.items ≡ true) }
+    ensures listed { IfSome result (λ _. is_cell_among cell touched.new.items ≡ true) }
     ensures touches { Touches touched.new.items pending.now }
 {
     if pending[usize::from(cell)].effect.is_some() {

@@ -1,6 +1,6 @@
 ghost use Rattle.std.specs.Prelude.{◌≡◌, pos, ◌≤ℤ◌, nat_le, nat_abs};
 ghost use Rattle.std.specs.Int.RustNames.{unsigned_abs};
-ghost use Rattle.effect_cells.specs.States.{applied as after_effect, later as after_time, is_in_range as has_range, IsSmallState, IsWideState, CanPass};
+ghost use Rattle.effect_cells.specs.States.{applied as after_effect, state_after as after_time, is_in_range as has_range, IsSmallState, IsWideState, CanPass};
 
 use crate::accumulators::Accumulator;
 use crate::counters::Counter;

@@ -5,7 +5,7 @@ use Rattle.std.specs.List.{list_all}
 use Rattle.std.specs.Str.Parse.{digits_value}
 use Rattle.std.specs.Cmp.Lexicographic.{pointwise}
 use Rattle.epoch_text.specs.Dates.{is_between}
-use Rattle.epoch_text.specs.Forms.{has_form, number_at}
+use Rattle.epoch_text.specs.Forms.{has_form, written_number}
 
 -- the seconds since midnight at this hour, minute and second, where a day has them: there is no 24:00, and no leap second
 abbrev pub seconds_at : ℕ → ℕ → ℕ → Option ℕ
@@ -18,7 +18,7 @@ seconds_at hour minute second =
 abbrev pub seconds_of : List ℕ → Option ℕ
 seconds_of clock =
     if has_form clock (codes "00:00:00")
-    then seconds_at (number_at 0 2 clock) (number_at 3 2 clock) (number_at 6 2 clock)
+    then seconds_at (written_number 0 2 clock) (written_number 3 2 clock) (written_number 6 2 clock)
     else None
 
 -- the end of a start without the Z that may stand there

@@ -2,7 +2,7 @@
 use Rattle.std.specs.Prelude.{ℕ, ◌-◌, nat_le, ◌&&◌, List, Bool, Option, Some, None, if◌then◌else◌, codes, ℤ, pos, ◌+ℤ◌}
 use Rattle.jiff.specs.Words.{days_in_month, days_in_year}
 use Rattle.jiff_core.specs.Calendar.{days_from_civil}
-use Rattle.epoch_text.specs.Forms.{has_form, number_at}
+use Rattle.epoch_text.specs.Forms.{has_form, written_number}
 
 -- whether a number lies from the first to the last, both included
 abbrev pub is_between : ℕ → ℕ → ℕ → Bool
@@ -30,6 +30,6 @@ day_by_place year place =
 -- the day that the text of a date says, where it says one
 abbrev pub day_of : List ℕ → Option ℤ
 day_of date =
-    if has_form date (codes "0000-00-00") then day_by_month (number_at 0 4 date) (number_at 5 2 date) (number_at 8 2 date)
-    else if has_form date (codes "0000-000") then day_by_place (number_at 0 4 date) (number_at 5 3 date)
+    if has_form date (codes "0000-00-00") then day_by_month (written_number 0 4 date) (written_number 5 2 date) (written_number 8 2 date)
+    else if has_form date (codes "0000-000") then day_by_place (written_number 0 4 date) (written_number 5 3 date)
     else None

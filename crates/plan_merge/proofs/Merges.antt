@@ -11,7 +11,7 @@ use Rattle.plan_merge.specs.declared.answers.MergeError.{MergeError}
 use Rattle.plan_merge.specs.declared.answers.MergeError.TheVariants.{Conflicts, TooMany}
 use Rattle.plan_merge.specs.declared.answers.ConflictKind.{ConflictKind}
 use Rattle.plan_merge.specs.declared.answers.ConflictKind.TheVariants.{Anchor, Cycle}
-use Rattle.plan_merge.specs.Merging.{is_astray, is_on_cycle, conflicts_of, conflict_where, judged, made, unless, returns_within}
+use Rattle.plan_merge.specs.Merging.{is_astray, is_on_cycle, conflicts_of, conflict_where, made_or_conflicts, made, unless, returns_within}
 use Rattle.plan_merge.specs.Plans.{IsInOrder}
 use Rattle.plan_merge.specs.Answers.{UnlessOutOfMemory}
 use Rattle.plan_merge.proofs.Doubled.{nowhere}
@@ -79,7 +79,7 @@ module _ (target : Plan) (next : ℕ) (ds new : List Directive) (rising : IsTrue
           err_ok h = grind arith
       go false false is h = subst (λ (r : Result Merged MergeError). IfOk r (λ m. IsInOrder m.plan)) h (in_order anchors cycles (ltb-false directive_limit (length ds) is))
 
-  pub judged_order : (r : Result Merged MergeError) → UnlessOutOfMemory (judged target next ds new) r → IfOk r (λ m. IsInOrder m.plan)
+  pub judged_order : (r : Result Merged MergeError) → UnlessOutOfMemory (made_or_conflicts target next ds new) r → IfOk r (λ m. IsInOrder m.plan)
   judged_order (Err e) h = tt
   judged_order (Ok m) h = go (conflicts_of Anchor (is_astray ds) ds) refl (conflicts_of Cycle (is_on_cycle ds) ds) refl h
     where

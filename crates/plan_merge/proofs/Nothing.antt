@@ -12,8 +12,8 @@ use Rattle.plan_merge.specs.declared.answers.ConflictKind.TheVariants.{Anchor as
 use Rattle.plan_merge.specs.declared.answers.MergeError.TheVariants.{TooMany}
 use Rattle.plan_merge.specs.Renaming.{new_id, with_new_id, renamed, renamed_if_new, added, first_new}
 use Rattle.plan_merge.specs.Table.{same, row}
-use Rattle.plan_merge.specs.Merging.{becomes, source_with, clash_of, clashes, what_is_left, left_by, left, merged, conflicts_of, conflict_where, is_astray, is_on_cycle, returns_within, unless, made, judged, merge_of, next_after}
-use Rattle.plan_merge.specs.Plans.{InOrder}
+use Rattle.plan_merge.specs.Merging.{becomes, source_with, clash_of, clashes, what_is_left, left_by, left_of_target, merged, conflicts_of, conflict_where, is_astray, is_on_cycle, returns_within, unless, made, made_or_conflicts, merge_of, next_after}
+use Rattle.plan_merge.specs.Plans.{AreMergeable}
 use Rattle.plan_merge.proofs.Renames.{stays, id_found}
 use Rattle.plan_merge.proofs.Rising.{kept_id}
 use Rattle.plan_merge.proofs.Same.{decides_same}
@@ -42,7 +42,7 @@ each_passes test (y ∷ ys) all at x here = go at (test y) refl all here (each_p
     go zero true is all here others = ap test (sym (same_Some y x here)) ∙ is
     go (suc at) true is all here others = others all at x here
 
-module _ (base target : Plan) (order : InOrder base base target) where
+module _ (base target : Plan) (order : AreMergeable base base target) where
   id_stays : (id : ℕ) → new_id base.directives (first_new base target) base.directives id ≡ id
   id_stays id = go (with_id base.directives id) refl
     where
@@ -76,7 +76,7 @@ module _ (base target : Plan) (order : InOrder base base target) where
   none_added = gives_none (renamed_if_new base base target) base.directives
       (λ at d here. ap (λ (o : Option Directive). if not (is_some o) then Some (renamed base base target d) else None) (found_by_id base.next_id 0 base.directives at d order.base.ids here))
 
-  all_left : left base base target ≡ target.directives
+  all_left : left_of_target base base target ≡ target.directives
   all_left = gives_each (λ (d : Directive). left_by base base target d (with_id base.directives d.id)) target.directives each
     where
       each : (at : ℕ) (d : Directive) → slice_get target.directives at ≡ Some d → left_by base base target d (with_id base.directives d.id) ≡ Some d
@@ -90,7 +90,7 @@ module _ (base target : Plan) (order : InOrder base base target) where
               ∙ ap (with_id target.directives) same_id ∙ found_by_id target.next_id 0 target.directives at d order.target.ids here
 
   merged_same : merged base base target ≡ target.directives
-  merged_same = ap (λ ds. left base base target ++ ds) none_added ∙ append-nil (left base base target) ∙ all_left
+  merged_same = ap (λ ds. left_of_target base base target ++ ds) none_added ∙ append-nil (left_of_target base base target) ∙ all_left
 
   no_stray : conflicts_of Astray (is_astray target.directives) target.directives ≡ []
   no_stray = gives_none (λ (d : Directive). conflict_where Astray d.id (is_astray target.directives d)) target.directives
@@ -118,9 +118,9 @@ module _ (base target : Plan) (order : InOrder base base target) where
 
   pub unchanged : target.next_id < 2 ^ 32 → merge_of base base target ≡ Ok (record { plan = target; added = [] })
   unchanged small =
-      ap (λ cs. unless cs (judged target (next_after base target (length (added base base target))) (merged base base target) (added base base target))) no_clash
-      ∙ ap (λ (new : List Directive). judged target (next_after base target (length new)) (merged base base target) new) none_added
-      ∙ ap (λ (ds : List Directive). judged target target.next_id ds []) merged_same
+      ap (λ cs. unless cs (made_or_conflicts target (next_after base target (length (added base base target))) (merged base base target) (added base base target))) no_clash
+      ∙ ap (λ (new : List Directive). made_or_conflicts target (next_after base target (length new)) (merged base base target) new) none_added
+      ∙ ap (λ (ds : List Directive). made_or_conflicts target target.next_id ds []) merged_same
       ∙ ap (λ cs. unless cs (unless (conflicts_of Cycle (is_on_cycle target.directives) target.directives) (made target target.next_id target.directives []))) no_stray
       ∙ ap (λ cs. unless cs (made target target.next_id target.directives [])) no_cycle
       ∙ made_same small

@@ -9,7 +9,7 @@ use Rattle.aerie_base.specs.plans.RisingIds.{found_by_id}
 use Rattle.plan_merge.specs.declared.answers.ConflictKind.TheVariants.{Both, Removed}
 use Rattle.plan_merge.specs.Renaming.{has, new_id, with_new_ids, renamed, is_new, added, first_new}
 use Rattle.plan_merge.specs.Table.{same, row}
-use Rattle.plan_merge.specs.Merging.{source_with, what_is_left, left_by, left, merged, next_after}
+use Rattle.plan_merge.specs.Merging.{source_with, what_is_left, left_by, left_of_target, merged, next_after}
 use Rattle.plan_merge.proofs.Renames.{both, id_found, ids_given, given_are}
 
 and_too : (a b : Bool) → IsTrue a → IsTrue b → IsTrue (a && b)
@@ -137,10 +137,10 @@ module _ (base source target : Plan) (rising : IsTrue (rise_to target.next_id 0 
 
   pub merged_rise : IsTrue (rise_to (next_after base target (length (added base source target))) 0 (ids_of (merged base source target)))
   merged_rise =
-      subst (λ (ids : List ℕ). IsTrue (rise_to (next_after base target (length (added base source target))) 0 ids)) (sym (ids_append (left base source target) (added base source target)))
+      subst (λ (ids : List ℕ). IsTrue (rise_to (next_after base target (length (added base source target))) 0 ids)) (sym (ids_append (left_of_target base source target) (added base source target)))
       (go (added base source target) refl)
     where
-      left_rise : IsTrue (rise_to target.next_id 0 (ids_of (left base source target)))
+      left_rise : IsTrue (rise_to target.next_id 0 (ids_of (left_of_target base source target)))
       left_rise = some_rise target.next_id 0 (λ (d : Directive). left_by base source target d (with_id base.directives d.id)) target.directives left_id rising
 
       new_rises : (low : ℕ) → low < target.next_id → IsTrue (rise_to (first_new base target + length (added base source target)) low (ids_of (added base source target)))
@@ -148,8 +148,8 @@ module _ (base source target : Plan) (rising : IsTrue (rise_to target.next_id 0 
           new_rise base (new_id base.directives (first_new base target) source.directives) (first_new base target) low source.directives
           (sym (given_are base.directives source.next_id (first_new base target) 0 source.directives source_rising)) (lt_of_lt_of_le less target_first)
 
-      go : (new : List Directive) → added base source target ≡ new → IsTrue (rise_to (next_after base target (length new)) 0 (ids_of (left base source target) ++ ids_of new))
-      go [] none = rise_on target.next_id target.next_id 0 (ids_of (left base source target)) [] left_rise (λ low less. lt-ltb low target.next_id less)
+      go : (new : List Directive) → added base source target ≡ new → IsTrue (rise_to (next_after base target (length new)) 0 (ids_of (left_of_target base source target) ++ ids_of new))
+      go [] none = rise_on target.next_id target.next_id 0 (ids_of (left_of_target base source target)) [] left_rise (λ low less. lt-ltb low target.next_id less)
       go (x ∷ xs) are =
-          rise_on (first_new base target + suc (length xs)) target.next_id 0 (ids_of (left base source target)) (ids_of (x ∷ xs)) left_rise
+          rise_on (first_new base target + suc (length xs)) target.next_id 0 (ids_of (left_of_target base source target)) (ids_of (x ∷ xs)) left_rise
           (λ low less. subst (λ (new : List Directive). IsTrue (rise_to (first_new base target + length new) low (ids_of new))) are (new_rises low less))

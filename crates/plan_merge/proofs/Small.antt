@@ -7,7 +7,7 @@ use Rattle.aerie_base.specs.plans.OfModel.{rise_to, ids_of, is_there, anchored_t
 use Rattle.plan_merge.specs.declared.answers.ConflictKind.{ConflictKind}
 use Rattle.plan_merge.specs.declared.answers.ConflictKind.TheVariants.{Anchor}
 use Rattle.plan_merge.specs.Merging.{is_astray, conflict_where, conflicts_of}
-use Rattle.plan_merge.specs.Answers.{IsSmall, AreSmall}
+use Rattle.plan_merge.specs.Answers.{HasSmallIds, HaveSmallIds}
 use Rattle.plan_merge.proofs.Renames.{both}
 
 pub before_next : (next before : ℕ) (ids : List ℕ) → IsTrue (rise_to next before ids) → before < next
@@ -44,7 +44,7 @@ none_passes kind test (d ∷ rest) at other none within = go at (test d) refl no
     go zero false is none within others = is
     go (suc at) false is none within others = others at none (omega (arith, within))
 
-pub are_small : (next : ℕ) (ds : List Directive) → IsTrue (rise_to next 0 (ids_of ds)) → conflicts_of Anchor (is_astray ds) ds ≡ [] → next < 2 ^ 32 → AreSmall ds
+pub are_small : (next : ℕ) (ds : List Directive) → IsTrue (rise_to next 0 (ids_of ds)) → conflicts_of Anchor (is_astray ds) ds ≡ [] → next < 2 ^ 32 → HaveSmallIds ds
 are_small next ds rise none few at other within = record {
   id = lt_trans (below_next next 0 ds at other rise within) few;
   anchor = go (anchored_to (get_or ds at other)) (none_passes Anchor (is_astray ds) ds at other none within);
@@ -58,12 +58,12 @@ are_small next ds rise none few at other within = record {
         so true k = refl
         so false k = absurd (true≢false k)
 
-pub small_behind : (ds : List Directive) (kept : ℕ) → kept ≤ length ds → AreSmall ds → AreSmall (take (length ds - kept) (drop kept ds))
+pub small_behind : (ds : List Directive) (kept : ℕ) → kept ≤ length ds → HaveSmallIds ds → HaveSmallIds (take (length ds - kept) (drop kept ds))
 small_behind ds kept some small at other within =
     let long : length (take (length ds - kept) (drop kept ds)) ≡ length ds - kept = length-take-all in
     let inside : kept + at < length ds = omega (arith, within, long, some) in
     let front : at < length ds - kept = omega (arith, within, long) in
-    subst IsSmall (sym (get_or-take (length ds - kept) (drop kept ds) at other front ∙ get_or-drop kept ds at other)) (small (kept + at) other inside)
+    subst HasSmallIds (sym (get_or-take (length ds - kept) (drop kept ds) at other front ∙ get_or-drop kept ds at other)) (small (kept + at) other inside)
   where
     length-take-all : length (take (length ds - kept) (drop kept ds)) ≡ length ds - kept
     length-take-all = ap length (take_all (length ds - kept) (drop kept ds) (omega (arith, length-drop kept ds))) ∙ length-drop kept ds

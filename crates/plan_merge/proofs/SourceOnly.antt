@@ -11,8 +11,8 @@ use Rattle.plan_merge.specs.declared.answers.ConflictKind.TheVariants.{Anchor as
 use Rattle.plan_merge.specs.declared.answers.MergeError.TheVariants.{TooMany}
 use Rattle.plan_merge.specs.Renaming.{has, new_id, with_new_id, renamed, renamed_if_new, is_new, added, first_new}
 use Rattle.plan_merge.specs.Table.{same, row, IsSame}
-use Rattle.plan_merge.specs.Merging.{becomes, source_with, clash_of, clashes, what_is_left, left_by, left, merged, conflicts_of, conflict_where, is_astray, is_on_cycle, returns_within, unless, is_too_many, made, judged, merge_of, next_after}
-use Rattle.plan_merge.specs.Plans.{InOrder}
+use Rattle.plan_merge.specs.Merging.{becomes, source_with, clash_of, clashes, what_is_left, left_by, left_of_target, merged, conflicts_of, conflict_where, is_astray, is_on_cycle, returns_within, unless, is_too_many, made, made_or_conflicts, merge_of, next_after}
+use Rattle.plan_merge.specs.Plans.{AreMergeable}
 use Rattle.plan_merge.specs.SourceOnly.{IsAmong, GivesTheSource}
 use Rattle.plan_merge.proofs.Renames.{id_found}
 use Rattle.plan_merge.proofs.Rising.{kept_id, merged_rise}
@@ -34,7 +34,7 @@ equal d x id parts =
     the : ℕ → ℕ → Option Anchor → ℕ → List Value → Directive
     the i s a k values = record { id = i; start = s; anchor = a; kind = k; arguments = values }
 
-module _ (base source : Plan) (order : InOrder base source base) where
+module _ (base source : Plan) (order : AreMergeable base source base) where
   abbrev new : ℕ → ℕ
   new = new_id base.directives (first_new base base) source.directives
 
@@ -77,7 +77,7 @@ module _ (base source : Plan) (order : InOrder base source base) where
     where
       go : (o : Option Directive) → with_id base.directives x.id ≡ o → IsAmong result (renamed base source base x)
       go None none =
-          in_back (left base source base) (added base source base) (renamed base source base x)
+          in_back (left_of_target base source base) (added base source base) (renamed base source base x)
           (in_some (renamed_if_new base source base) source.directives at x (renamed base source base x) here
           (ap (λ (o : Option Directive). if not (is_some o) then Some (renamed base source base x) else None) none))
       go (Some d) is =
@@ -85,14 +85,14 @@ module _ (base source : Plan) (order : InOrder base source base) where
           let id = id_found base.directives x.id d is in
           let gives = left_is one.0 d one.1 ∙ ap (source_with base source base) id ∙ ap (option_map (renamed base source base)) (found_by_id source.next_id 0 source.directives at x order.source.ids here) in
           let there = in_some (λ (d : Directive). left_by base source base d (with_id base.directives d.id)) base.directives one.0 d (renamed base source base x) one.1 gives in
-          (there.0, in_front (left base source base) (added base source base) there.0 (renamed base source base x) there.1)
+          (there.0, in_front (left_of_target base source base) (added base source base) there.0 (renamed base source base x) there.1)
 
   -- it is a directive of the source, renamed
   abbrev IsOfSource : Directive → Type 0
   IsOfSource m = (x : Directive) × (IsAmong source.directives x × (renamed base source base x ≡ m))
 
   origin : (at : ℕ) (m : Directive) → slice_get result at ≡ Some m → IsOfSource m
-  origin at m here = go (from_either (left base source base) (added base source base) at m here)
+  origin at m here = go (from_either (left_of_target base source base) (added base source base) at m here)
     where
       of_source : (id : ℕ) (o : Option Directive) → with_id source.directives id ≡ o → option_map (renamed base source base) o ≡ Some m → IsOfSource m
       of_source id None none h = absurd (none-some m h)
@@ -102,7 +102,7 @@ module _ (base source : Plan) (order : InOrder base source base) where
       of_new x true h = same_Some (renamed base source base x) m h
       of_new x false h = absurd (none-some m h)
 
-      go : IsAmong (left base source base) m ⊎ IsAmong (added base source base) m → IsOfSource m
+      go : IsAmong (left_of_target base source base) m ⊎ IsAmong (added base source base) m → IsOfSource m
       go (inl one) =
           let of = from_some (λ (d : Directive). left_by base source base d (with_id base.directives d.id)) base.directives one.0 m one.1 in
           of_source of.1.0.id (with_id source.directives of.1.0.id) refl (sym (left_is of.0 of.1.0 of.1.1.0) ∙ of.1.1.1)
@@ -221,7 +221,7 @@ module _ (base source : Plan) (order : InOrder base source base) where
 
       answer : merge_of base source base ≡ made base next result (added base source base)
       answer =
-          ap (λ cs. unless cs (judged base next result (added base source base))) no_clash
+          ap (λ cs. unless cs (made_or_conflicts base next result (added base source base))) no_clash
           ∙ ap (λ cs. unless cs (unless (conflicts_of Cycle (is_on_cycle result) result) (made base next result (added base source base)))) no_stray
           ∙ ap (λ cs. unless cs (made base next result (added base source base))) no_cycle
 

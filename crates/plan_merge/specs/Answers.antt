@@ -13,9 +13,9 @@ UnlessOutOfMemory answer (Err (Conflicts conflicts)) = answer ≡ Err (Conflicts
 UnlessOutOfMemory answer (Err OutOfMemory) = Unit {0}
 
 -- a directive whose id, and that of its anchor, a plan can hold
-pub record IsSmall (directive : Directive) : Type 0 where
+pub record HasSmallIds (directive : Directive) : Type 0 where
   pub id : directive.id < 2 ^ 32
   pub anchor : IfSome (anchored_to directive) (λ to. to < 2 ^ 32)
 
-abbrev pub AreSmall : List Directive → Type 0
-AreSmall directives = (at : ℕ) (other : Directive) → at < length directives → IsSmall (get_or directives at other)
+abbrev pub HaveSmallIds : List Directive → Type 0
+HaveSmallIds directives = (at : ℕ) (other : Directive) → at < length directives → HasSmallIds (get_or directives at other)

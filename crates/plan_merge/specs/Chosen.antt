@@ -6,7 +6,7 @@ use Rattle.plan_merge.specs.declared.table.Choice.{Choice}
 use Rattle.plan_merge.specs.declared.table.Choice.TheVariants.{Target, Source, Clash}
 
 -- the source's or the target's directive, as far as it is there, or the conflict
-abbrev pub chosen : Choice → Option Directive → Option Directive → Result (Option Directive) ConflictKind
-chosen Target source target = Ok target
-chosen Source source target = Ok source
-chosen (Clash kind) source target = Err kind
+abbrev pub chosen_directive : Choice → Option Directive → Option Directive → Result (Option Directive) ConflictKind
+chosen_directive Target source target = Ok target
+chosen_directive Source source target = Ok source
+chosen_directive (Clash kind) source target = Err kind

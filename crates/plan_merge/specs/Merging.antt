@@ -44,13 +44,13 @@ left_by base source target directive None = Some directive
 left_by base source target directive (Some of_base) = what_is_left (becomes base source target of_base)
 
 -- what is left of the target's directives. A directive of the base that the target has not is never left.
-abbrev pub left : Plan → Plan → Plan → List Directive
-left base source target =
+abbrev pub left_of_target : Plan → Plan → Plan → List Directive
+left_of_target base source target =
     filter_map (λ (directive : Directive). left_by base source target directive (with_id base.directives directive.id)) target.directives
 
 -- the merged directives, in order of id: what is left of the target's, and the source's new ones
 abbrev pub merged : Plan → Plan → Plan → List Directive
-merged base source target = left base source target ++ added base source target
+merged base source target = left_of_target base source target ++ added base source target
 
 -- one more than the last id given, where so many were given, or the target's where none was given
 abbrev pub next_after : Plan → Plan → ℕ → ℕ
@@ -104,8 +104,8 @@ made target next_id directives new =
     else Ok (record { plan = record target { next_id = next_id; directives = directives }; added = ids_of new })
 
 -- the same, unless an anchor is astray or there is a cycle
-abbrev pub judged : Plan → ℕ → List Directive → List Directive → Result Merged MergeError
-judged target next_id directives new =
+abbrev pub made_or_conflicts : Plan → ℕ → List Directive → List Directive → Result Merged MergeError
+made_or_conflicts target next_id directives new =
     unless (conflicts_of Anchor (is_astray directives) directives)
     (unless (conflicts_of Cycle (is_on_cycle directives) directives) (made target next_id directives new))
 
@@ -113,4 +113,4 @@ judged target next_id directives new =
 abbrev pub merge_of : Plan → Plan → Plan → Result Merged MergeError
 merge_of base source target =
     unless (clashes base source target)
-    (judged target (next_after base target (length (added base source target))) (merged base source target) (added base source target))
+    (made_or_conflicts target (next_after base target (length (added base source target))) (merged base source target) (added base source target))

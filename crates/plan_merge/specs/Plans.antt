@@ -18,7 +18,7 @@ pub record IsInOrder (plan : Plan) : Type 0 where
   pub acyclic : (id steps : ℕ) → followed plan.directives (suc steps) id ≡ Some id → ⊥
 
 -- the condition on the three plans of a merge
-pub record InOrder (first second third : Plan) : Type 0 where
+pub record AreMergeable (first second third : Plan) : Type 0 where
   pub base : IsInOrder first
   pub source : IsInOrder second
   pub target : IsInOrder third

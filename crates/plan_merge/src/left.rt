@@ -4,9 +4,9 @@ ghost use Rattle.std.specs.Prelude.{◌≡◌, ◌++◌, Some, None, IfOk, optio
 ghost use Rattle.aerie_base.specs.plans.OfModel.{with_id};
 ghost use Rattle.plan_merge.specs.Renaming.{added};
 ghost use Rattle.aerie_base.specs.plans.RisingIds.{Rise};
-ghost use Rattle.plan_merge.specs.Merging.{becomes, source_with, clash_of, clashes, what_is_left, left_by, left};
-ghost use Rattle.plan_merge.specs.Chosen.{chosen};
-ghost use Rattle.plan_merge.specs.Plans.{InOrder, AreRenamed};
+ghost use Rattle.plan_merge.specs.Merging.{becomes, source_with, clash_of, clashes, what_is_left, left_by, left_of_target};
+ghost use Rattle.plan_merge.specs.Chosen.{chosen_directive};
+ghost use Rattle.plan_merge.specs.Plans.{AreMergeable, AreRenamed};
 
 use crate::answers::Conflict;
 use crate::lists::push_some;
@@ -35,9 +35,9 @@ fn choice_of(
     all: &[Numbered],
     directive: &Directive,
 ) -> Choice
-    requires order { InOrder base.now source.now target.now }
+    requires order { AreMergeable base.now source.now target.now }
     requires renamed { AreRenamed base.now source.now target.now all.now }
-    ensures { chosen result (source_with base.now source.now target.now directive.now.id) (with_id target.now.directives directive.now.id) ≡ becomes base.now source.now target.now directive.now }
+    ensures { chosen_directive result (source_with base.now source.now target.now directive.now.id) (with_id target.now.directives directive.now.id) ≡ becomes base.now source.now target.now directive.now }
 {
     choose(
         directive,
@@ -54,7 +54,7 @@ fn clash_of(
     all: &[Numbered],
     directive: &Directive,
 ) -> Option<Conflict>
-    requires order { InOrder base.now source.now target.now }
+    requires order { AreMergeable base.now source.now target.now }
     requires renamed { AreRenamed base.now source.now target.now all.now }
     ensures { result ≡ clash_of directive.now.id (becomes base.now source.now target.now directive.now) }
 {
@@ -75,7 +75,7 @@ pub fn clashes(
     target: &Plan,
     all: &[Numbered],
 ) -> Result<List<Conflict>, OutOfMemory>
-    requires order { InOrder base.now source.now target.now }
+    requires order { AreMergeable base.now source.now target.now }
     requires renamed { AreRenamed base.now source.now target.now all.now }
     ensures { IfOk result (λ conflicts. conflicts ≡ clashes base.now source.now target.now) }
 {
@@ -109,7 +109,7 @@ fn left_of_both(
     of_base: &Directive,
     directive: &Directive,
 ) -> Result<Option<Numbered>, OutOfMemory>
-    requires order { InOrder base.now source.now target.now }
+    requires order { AreMergeable base.now source.now target.now }
     requires renamed { AreRenamed base.now source.now target.now all.now }
     requires same { with_id target.now.directives of_base.now.id ≡ Some directive.now }
     ensures { IfOk result (λ one. one ≡ what_is_left (becomes base.now source.now target.now of_base.now)) }
@@ -133,7 +133,7 @@ fn left_of(
     all: &[Numbered],
     directive: &Directive,
 ) -> Result<Option<Numbered>, OutOfMemory>
-    requires order { InOrder base.now source.now target.now }
+    requires order { AreMergeable base.now source.now target.now }
     requires renamed { AreRenamed base.now source.now target.now all.now }
     requires same { with_id target.now.directives directive.now.id ≡ Some directive.now }
     ensures { IfOk result (λ one. one ≡ left_by base.now source.now target.now directive.now (with_id base.now.directives directive.now.id)) }
@@ -152,9 +152,9 @@ pub fn left(
     target: &Plan,
     all: &[Numbered],
 ) -> Result<List<Numbered>, OutOfMemory>
-    requires order { InOrder base.now source.now target.now }
+    requires order { AreMergeable base.now source.now target.now }
     requires renamed { AreRenamed base.now source.now target.now all.now }
-    ensures { IfOk result (λ directives. directives ≡ left base.now source.now target.now) }
+    ensures { IfOk result (λ directives. directives ≡ left_of_target base.now source.now target.now) }
 {
     let mut directives = List::new(alloc);
     for directive in target.directives.as_slice() {
@@ -184,7 +184,7 @@ pub fn push_added(
     all: &[Numbered],
     directives: &mut List<Numbered>,
 ) -> Result<(), OutOfMemory>
-    requires order { InOrder base.now source.now target.now }
+    requires order { AreMergeable base.now source.now target.now }
     requires renamed { AreRenamed base.now source.now target.now all.now }
     ensures { IfOk result (λ _. directives.new ≡ directives.old ++ added base.now source.now target.now) }
 {

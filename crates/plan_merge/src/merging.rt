@@ -4,9 +4,9 @@ ghost use Rattle.std.specs.Prelude.{◌≡◌, ◌≤◌, ◌<◌, ◌^◌, [], 
 ghost use Rattle.plan_merge.specs.Anchors.{shown_anchor};
 ghost use Rattle.aerie_base.specs.plans.OfModel.{ids_of, rise_to};
 ghost use Rattle.plan_merge.specs.declared.answers.ConflictKind.TheVariants.{Anchor as Astray};
-ghost use Rattle.plan_merge.specs.Merging.{merge_of, judged, made, next_after, conflicts_of, is_astray};
-ghost use Rattle.plan_merge.specs.Plans.{InOrder, IsInOrder};
-ghost use Rattle.plan_merge.specs.Answers.{UnlessOutOfMemory, IsSmall, AreSmall};
+ghost use Rattle.plan_merge.specs.Merging.{merge_of, made_or_conflicts, made, next_after, conflicts_of, is_astray};
+ghost use Rattle.plan_merge.specs.Plans.{AreMergeable, IsInOrder};
+ghost use Rattle.plan_merge.specs.Answers.{UnlessOutOfMemory, HasSmallIds, HaveSmallIds};
 
 use crate::anchors::strays;
 use crate::answers::{MergeError, Merged};
@@ -23,7 +23,7 @@ const DIRECTIVE_LIMIT: usize = 65_536;
 /// Does to the target what the source did since the base: a directive that only one of the two changed or removed is as that one has it, those
 /// new in the source get new ids, and those new in the target stay. It takes time near linear in the directives of the three plans.
 pub fn merge(alloc: Global, base: &Plan, source: &Plan, target: &Plan) -> Result<Merged, MergeError>
-    requires order { InOrder base.now source.now target.now }
+    requires order { AreMergeable base.now source.now target.now }
     ensures exact { UnlessOutOfMemory (merge_of base.now source.now target.now) result }
     ensures order { IfOk result (λ merged. IsInOrder merged.plan) }
 {
@@ -62,7 +62,7 @@ fn judged(
     requires rising { IsTrue (rise_to next 0 (ids_of directives.now)) }
     requires few { length directives.now < 2 ^ 32 }
     requires kept { kept ≤ length directives.now }
-    ensures { UnlessOutOfMemory (judged target.now next directives.now (drop kept directives.now)) result }
+    ensures { UnlessOutOfMemory (made_or_conflicts target.now next directives.now (drop kept directives.now)) result }
 {
     let astray = strays(alloc, directives)?;
     if !astray.is_empty() {
@@ -103,7 +103,7 @@ fn made(
 
 /// The directives as those of a plan.
 fn narrowed(alloc: Global, directives: &[Numbered]) -> Result<List<Directive>, OutOfMemory>
-    requires small { AreSmall directives.now }
+    requires small { HaveSmallIds directives.now }
     ensures { IfOk result (λ narrow. narrow ≡ directives.now) }
 {
     let mut narrow = List::with_capacity(alloc, directives.len())?;
@@ -115,7 +115,7 @@ fn narrowed(alloc: Global, directives: &[Numbered]) -> Result<List<Directive>, O
 
 /// The directive as one of a plan.
 fn narrowed_one(alloc: Global, directive: &Numbered) -> Result<Directive, OutOfMemory>
-    requires small { IsSmall directive.now }
+    requires small { HasSmallIds directive.now }
     ensures { IfOk result (λ narrow. narrow ≡ directive.now) }
 {
     Ok(Directive {
@@ -143,7 +143,7 @@ fn narrowed_far(far: Option<Far>) -> Option<Anchor>
 
 /// The ids of the directives.
 fn ids(alloc: Global, directives: &[Numbered]) -> Result<List<u32>, OutOfMemory>
-    requires small { AreSmall directives.now }
+    requires small { HaveSmallIds directives.now }
     ensures { IfOk result (λ ids. ids ≡ ids_of directives.now) }
 {
     let mut ids = List::with_capacity(alloc, directives.len())?;

@@ -4,7 +4,7 @@ ghost use Rattle.std.specs.Prelude.{◌≡◌, IsTrue};
 ghost use Rattle.std.specs.List.{list_all};
 ghost use Rattle.aerie_base.specs.plans.OfModel.{ids_of, rise_to};
 ghost use Rattle.plan_merge.specs.Unanchored.{is_unanchored};
-ghost use Rattle.plan_merge.specs.Plans.{InOrder, IsInOrder};
+ghost use Rattle.plan_merge.specs.Plans.{AreMergeable, IsInOrder};
 
 use super::*;
 use aerie_base::{Directive, List, Number, OutOfMemory, Plan, Time, Value};
@@ -79,7 +79,7 @@ fn is_in_order(plan: &Plan) -> bool
 
 /// Whether the plans may be merged, and no directive has an anchor.
 fn may_be_merged(base: &Plan, source: &Plan, target: &Plan) -> bool
-    ensures { IsTrue result → InOrder base.now source.now target.now }
+    ensures { IsTrue result → AreMergeable base.now source.now target.now }
 {
     is_in_order(base)
         && is_in_order(source)

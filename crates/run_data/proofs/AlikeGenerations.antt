@@ -13,7 +13,7 @@ use Rattle.run_data.specs.declared.frames.Item.TheVariants as item
 use Rattle.run_data.specs.Batches.{cost_of}
 use Rattle.run_data.specs.Steps.{Stepped}
 use Rattle.run_data.specs.Frames.{job_step}
-use Rattle.run_data.specs.laws.Generations.{PendingStep, child_jobs, deep_frame, Generation, step_generation, beside_generation, generation, beside_frames, further, generations, pending_of, AreAlike, AlikeFrames, AlikeByGenerations}
+use Rattle.run_data.specs.laws.Generations.{PendingStep, child_jobs, deep_frame, Generation, step_generation, beside_generation, generation, beside_frames, further, generations, pending_of, AreEquivalentFrames, AlikeFrames, AlikeByGenerations}
 use Rattle.run_data.specs.laws.Orders.{EachOf, EachTwo, AreApart}
 use Rattle.run_data.proofs.FramePaths.{HasPath, IsOf, AllOf, all_append, all_weaker, has_is_of, below_is}
 use Rattle.run_data.proofs.Generations.{one, all_down, down, down_append, none_beside, zero_down, all_is}
@@ -35,7 +35,7 @@ alike_trans (Some first) None third h k = absurd h
 alike_trans (Some first) (Some second) None h k = absurd k
 alike_trans (Some first) (Some second) (Some third) h k = record { cost = h.cost ∙ k.cost; fault = h.fault ∙ k.fault; sorted = h.sorted ∙ k.sorted }
 
-alike_behind : (first rest again : List Frame) → AreAlike rest again → AreAlike (first ++ rest) (first ++ again)
+alike_behind : (first rest again : List Frame) → AreEquivalentFrames rest again → AreEquivalentFrames (first ++ rest) (first ++ again)
 alike_behind first rest again h = record {
   cost = cost_append first rest ∙ ap (λ n. cost_of first + n) h.cost ∙ sym (cost_append first again);
   fault = least_behind first rest again h.fault;
@@ -50,10 +50,10 @@ alike_beside (Some first) (Some rest) None h = absurd h
 alike_beside (Some first) (Some rest) (Some again) h = alike_behind first rest again h
 
 -- parts with no path in common are exchanged behind one that stays
-regroup : (a x b y : List Frame) → ((path : List ℕ) → HasPath path x → HasPath path b → ⊥) → AreAlike ((a ++ x) ++ (b ++ y)) ((a ++ b) ++ (x ++ y))
+regroup : (a x b y : List Frame) → ((path : List ℕ) → HasPath path x → HasPath path b → ⊥) → AreEquivalentFrames ((a ++ x) ++ (b ++ y)) ((a ++ b) ++ (x ++ y))
 regroup a x b y apart =
-    subst (λ l. AreAlike l ((a ++ b) ++ (x ++ y))) (sym (append_assoc a x (b ++ y)))
-    (subst (λ l. AreAlike (a ++ (x ++ (b ++ y))) l) (sym (append_assoc a b (x ++ y)))
+    subst (λ l. AreEquivalentFrames l ((a ++ b) ++ (x ++ y))) (sym (append_assoc a x (b ++ y)))
+    (subst (λ l. AreEquivalentFrames (a ++ (x ++ (b ++ y))) l) (sym (append_assoc a b (x ++ y)))
     (alike_behind a (x ++ (b ++ y)) (b ++ (x ++ y)) (record {
       cost =
           cost_append x (b ++ y) ∙ ap (λ n. cost_of x + n) (cost_append b y) ∙ omega arith

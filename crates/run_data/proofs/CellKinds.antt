@@ -9,7 +9,7 @@ use Rattle.aerie_base.specs.declared.models.CellStart.TheVariants as start
 use Rattle.aerie_base.specs.declared.models.model.Parts.{Parts}
 use Rattle.aerie_base.specs.expressions.Arithmetic.{value_kind}
 use Rattle.aerie_base.specs.expressions.Readings.{MayHave, AreReadings, cell_of}
-use Rattle.aerie_base.specs.models.Cells.{NamedCells, cell_at, counter_kind, flag_kind, flow_kind, read_kind}
+use Rattle.aerie_base.specs.models.Cells.{NamedCells, cell_start_at, counter_kind, flag_kind, flow_kind, read_kind}
 use Rattle.effect_cells.specs.declared.effects.CellState.{CellState}
 use Rattle.effect_cells.specs.declared.effects.CellState.TheVariants.{Counter, Register, Volume}
 use Rattle.effect_cells.specs.declared.effects.Effect.{Effect}
@@ -67,11 +67,11 @@ flow_may cell (Some (start.Register kind value)) of e = absurd (cc)
 flow_may cell (Some (start.Accumulator volume rate)) of e = cc
 
 read_may : (cells : NamedCells) (what : CellRead) (of : Kind) → read_kind cells what ≡ Some of → MayHave what of
-read_may cells (read.Counter cell) of e = counter_may cell (cell_at cells cell) of e
+read_may cells (read.Counter cell) of e = counter_may cell (cell_start_at cells cell) of e
 read_may cells (read.Register cell) of e = tt
-read_may cells (read.Conflicted cell) of e = flag_may cell (cell_at cells cell) of e
-read_may cells (read.Volume cell) of e = flow_may cell (cell_at cells cell) of e
-read_may cells (read.Rate cell) of e = flow_may cell (cell_at cells cell) of e
+read_may cells (read.Conflicted cell) of e = flag_may cell (cell_start_at cells cell) of e
+read_may cells (read.Volume cell) of e = flow_may cell (cell_start_at cells cell) of e
+read_may cells (read.Rate cell) of e = flow_may cell (cell_start_at cells cell) of e
 
 -- what a step sees of the cells of a model has the types of the model
 pub seen_readings : (model : Parts) (view : List CellState) (items : List Item) → AreCellsOf model (after_items view items) → AreReadings (read_kind model.cells) (seen view items)

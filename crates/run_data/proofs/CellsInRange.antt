@@ -11,7 +11,7 @@ use Rattle.aerie_base.specs.declared.plans.Plan.{Plan}
 use Rattle.effect_cells.specs.declared.effects.CellState.{CellState}
 use Rattle.effect_cells.specs.declared.effects.CellState.TheVariants.{Counter, Register, Volume}
 use Rattle.effect_cells.specs.Cells.{initial, passed, first_out, first_out_from, AreInRange, committed_cells}
-use Rattle.effect_cells.specs.States.{is_in_range, later}
+use Rattle.effect_cells.specs.States.{is_in_range, state_after}
 use Rattle.run_data.specs.declared.jobs.Job.{Job}
 use Rattle.run_data.specs.declared.runs.Instant.{Instant}
 use Rattle.run_data.specs.declared.runs.Run.{Run}
@@ -82,7 +82,7 @@ number_between v r n d less h g =
 
 -- ---- cells between two times
 
-state_between : (n d : ℕ) (state : CellState) → n ≤ d → is_in_range state ≡ true → is_in_range (later d state) ≡ true → is_in_range (later n state) ≡ true
+state_between : (n d : ℕ) (state : CellState) → n ≤ d → is_in_range state ≡ true → is_in_range (state_after d state) ≡ true → is_in_range (state_after n state) ≡ true
 state_between n d (Counter number) less h g = h
 state_between n d (Register value conflicted) less h g = refl
 state_between n d (Volume volume rate) less h g =
@@ -104,8 +104,8 @@ cells_between : (from n d : ℕ) (cells : List CellState) → n ≤ d → first_
 cells_between from n d [] less h g = refl
 cells_between from n d (state ∷ rest) less h g =
     let now = parts_in from state rest h in
-    let then_ = parts_in from (later d state) (passed rest d) g in
-    both_in from (later n state) (passed rest n) (state_between n d state less now.0 then_.0) (cells_between (from + 1) n d rest less now.1 then_.1)
+    let then_ = parts_in from (state_after d state) (passed rest d) g in
+    both_in from (state_after n state) (passed rest n) (state_between n d state less now.0 then_.0) (cells_between (from + 1) n d rest less now.1 then_.1)
 
 -- an instant that is later changes nothing
 without_last : (from : ℕ) (cells : List CellState) (instants : List Instant) (last : Instant) (t : ℕ) → t < last.time → cells_from from cells (instants ++ last ∷ []) t ≡ cells_from from cells instants t

@@ -9,7 +9,7 @@ use Rattle.effect_cells.specs.declared.effects.CellState.{CellState}
 use Rattle.run_data.specs.declared.jobs.Job.{Job}
 use Rattle.run_data.specs.Endings.{is_open}
 use Rattle.run_data.specs.Tasks.{TaskPhase, anchored, ready, delayed, waiting, calling, over, Task, Table, with_task, on_each, ready_jobs, job_if_ready}
-use Rattle.run_data.specs.laws.OrderedTables.{Above, InOrder}
+use Rattle.run_data.specs.laws.OrderedTables.{Above, IsOrderedTable}
 use Rattle.run_data.specs.laws.Weights.{one_if, opens}
 use Rattle.run_data.proofs.OrderedTables.{path_itself, path_same, reversed}
 
@@ -113,7 +113,7 @@ first_if cells entry rest (waiting condition state) jobs e above found = first_f
 first_if cells entry rest (calling child into state) jobs e above found = first_further entry rest jobs above found
 first_if cells entry rest (over result) jobs e above found = first_further entry rest jobs above found
 
-pub first_found : (cells : List CellState) (table : Table) → InOrder table → FirstFound table (ready_jobs cells table)
+pub first_found : (cells : List CellState) (table : Table) → IsOrderedTable table → FirstFound table (ready_jobs cells table)
 first_found cells [] order = tt
 first_found cells (entry ∷ rest) order =
     first_if cells entry rest entry.1.phase (ready_jobs cells rest) refl order.0 (first_found cells rest order.1)

@@ -3,16 +3,17 @@ use Rattle.std.proofs.Common.{◌≡◌, ℕ, zero, suc, ◌+◌, ◌-◌, ◌<�
 use Rattle.std.proofs.lemmas.Bool.{false≢true}
 use Rattle.std.proofs.Math.Nat.{min-le_left, min-le_right, le-min}
 use Rattle.aerie_base.specs.declared.conditions.Cond.{Cond}
+use Rattle.aerie_base.specs.TimeOrder.{earlier}
 use Rattle.effect_cells.specs.declared.effects.CellState.{CellState}
 use Rattle.effect_cells.specs.declared.effects.CellState.TheVariants.{Counter, Register, Volume}
 use Rattle.effect_cells.specs.Cells.{passed}
-use Rattle.effect_cells.specs.States.{later, volume_of}
+use Rattle.effect_cells.specs.States.{state_after, volume_of}
 use Rattle.effect_cells.specs.SumLaws.{flowed_zero}
 use Rattle.effect_cells.specs.Searching.{found_or, least_from}
 use Rattle.effect_cells.specs.WakeTimes.{holds_on, holds_in, wake_time}
 use Rattle.run_data.specs.Tasks.{TaskPhase, anchored, ready, delayed, waiting, calling, over, Task, Table, on_each, woken, woken_phase, job_if_ready, ready_jobs}
 use Rattle.run_data.specs.declared.jobs.Job.{Job}
-use Rattle.run_data.specs.Fresh.{earlier, from_now, due_time, least_due}
+use Rattle.run_data.specs.Fresh.{from_now, due_time, least_due}
 use Rattle.run_data.proofs.Tables.{Each}
 
 -- a delay ends after this time
@@ -49,7 +50,7 @@ IsAfter now (Some time) = now < time
 
 -- ---- no time passes
 
-later_none : (state : CellState) → later 0 state ≡ state
+later_none : (state : CellState) → state_after 0 state ≡ state
 later_none (Counter number) = refl
 later_none (Register value flag) = refl
 later_none (Volume volume rate) = ap volume_of (flowed_zero (volume, rate))

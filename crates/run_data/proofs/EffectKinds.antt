@@ -16,7 +16,7 @@ use Rattle.effect_cells.specs.declared.trees.Part.{Part}
 use Rattle.effect_cells.specs.Cells.{committed_cells, emitted, passed, with_effects}
 use Rattle.effect_cells.specs.Changes.{change_in_turn, change_beside}
 use Rattle.effect_cells.specs.Reads.{state_kind}
-use Rattle.effect_cells.specs.States.{applied_if_any, later, volume_of}
+use Rattle.effect_cells.specs.States.{applied_if_any, state_after, volume_of}
 use Rattle.effect_cells.specs.TreeRecursion.{part_gives, gives-Child}
 use Rattle.effect_cells.specs.Worth.{Before, effect_in_turn, effect_beside, in_front, beside, part_worth, tree_worth, items_worth, worth_of}
 use Rattle.run_data.specs.declared.jobs.Job.{Job}
@@ -209,7 +209,7 @@ volume_kind (read.Conflicted cell) a b = refl
 volume_kind (read.Volume cell) a b = refl
 volume_kind (read.Rate cell) a b = refl
 
-later_kind : (dt : ℕ) (what : CellRead) (s : CellState) → state_kind what (Some (later dt s)) ≡ state_kind what (Some s)
+later_kind : (dt : ℕ) (what : CellRead) (s : CellState) → state_kind what (Some (state_after dt s)) ≡ state_kind what (Some s)
 later_kind dt what (Counter number) = refl
 later_kind dt what (Register value flag) = refl
 later_kind dt what (Volume volume rate) = volume_kind what _ (volume, rate)

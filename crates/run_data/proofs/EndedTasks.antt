@@ -12,8 +12,8 @@ use Rattle.run_data.specs.declared.frames.Status.TheVariants as status
 use Rattle.run_data.specs.Endings.{is_open, has_ended}
 use Rattle.run_data.specs.Tasks.{Task, Table, task_at, with_task, after_frame, task_after, phase_after, after_delay, children_made, children_in}
 use Rattle.run_data.specs.laws.EndedTasks.{open_is, EndedByOpenBodies, EndedByNumber, EndedBelow, NewlyEnded, is_open_status, OverUnder, first, later, EndedByFrames}
-use Rattle.run_data.specs.laws.NumberedTasks.{in_order, Distinct}
-use Rattle.run_data.specs.laws.OrderedTables.{InOrder}
+use Rattle.run_data.specs.laws.NumberedTasks.{sorted_tasks, Distinct}
+use Rattle.run_data.specs.laws.OrderedTables.{IsOrderedTable}
 use Rattle.run_data.proofs.NumberedTasks.{none_at, at_number, first_apart, distinct_rest, in_order_itself, distinct_of}
 use Rattle.run_data.proofs.OrderedTables.{at_with, is_same, path_itself, order_with}
 
@@ -39,10 +39,10 @@ module _ (path : List ℕ) where
       by Equal e n further = absurd (cc)
       by Greater e n further = rw (e, further n) (both_swap (stays entry) (stays (p, a)) (has_ended rest path))
 
-  pub ended_in_order : (tasks : Table) → Distinct tasks → has_ended (in_order tasks) path ≡ has_ended tasks path
+  pub ended_in_order : (tasks : Table) → Distinct tasks → has_ended (sorted_tasks tasks) path ≡ has_ended tasks path
   ended_in_order [] distinct = refl
   ended_in_order (entry ∷ rest) distinct =
-      ended_with (in_order rest) entry.0 entry.1 (none_at rest entry.0 (first_apart entry rest distinct))
+      ended_with (sorted_tasks rest) entry.0 entry.1 (none_at rest entry.0 (first_apart entry rest distinct))
       ∙ ap (λ b. stays entry && b) (ended_in_order rest (distinct_rest entry rest distinct))
 
   pub record Open (tasks : Table) : Type 0 where
@@ -85,7 +85,7 @@ pub ended_by_number : EndedByNumber
 ended_by_number tasks path distinct = ended_in_order path tasks distinct
 
 -- each task of a table in order stands at its path
-pub stands_at : (table : Table) (number : ℕ) (path : List ℕ) (task : Task) → InOrder table → slice_get table number ≡ Some (path, task) → task_at table path ≡ Some task
+pub stands_at : (table : Table) (number : ℕ) (path : List ℕ) (task : Task) → IsOrderedTable table → slice_get table number ≡ Some (path, task) → task_at table path ≡ Some task
 stands_at table number path task order at =
     sym (ap (λ t. task_at t path) (in_order_itself table order)) ∙ at_number table number path task (distinct_of table order) at
 
@@ -103,24 +103,24 @@ newly_ended tasks path new whose distinct before after = by (is_at (path_cmp o.w
     o : Open whose tasks
     o = open_place whose tasks (sym (ended_in_order whose tasks distinct) ∙ before)
 
-    stands : task_at (in_order tasks) o.whose ≡ Some o.task
+    stands : task_at (sorted_tasks tasks) o.whose ≡ Some o.task
     stands = at_number tasks o.at o.whose o.task distinct o.here
 
     closed : is_prefix whose path ≡ true → (b : Bool) → is_open new.phase ≡ b → b ≡ false
     closed under false e = refl
     closed under true e =
-        let here : task_at (with_task (in_order tasks) path new) path ≡ Some new =
-        at_with (in_order tasks) path path new ∙ ap (λ r. cond (is_eq r) (Some new) (task_at (in_order tasks) path)) (path_itself path) in
-        let k = open_stops whose path new under e (with_task (in_order tasks) path new) here in absurd (cc)
+        let here : task_at (with_task (sorted_tasks tasks) path new) path ≡ Some new =
+        at_with (sorted_tasks tasks) path path new ∙ ap (λ r. cond (is_eq r) (Some new) (task_at (sorted_tasks tasks) path)) (path_itself path) in
+        let k = open_stops whose path new under e (with_task (sorted_tasks tasks) path new) here in absurd (cc)
 
     by : (b : Bool) → is_at (path_cmp o.whose) path ≡ b → (is_prefix whose path ≡ true) × (is_open new.phase ≡ false)
     by true e =
         let under : is_prefix whose path ≡ true = subst (λ p. is_prefix whose p ≡ true) (is_same o.whose path e) o.under in
         (under, closed under (is_open new.phase) refl)
     by false e =
-        let there : task_at (with_task (in_order tasks) path new) o.whose ≡ Some o.task =
-        at_with (in_order tasks) path o.whose new ∙ ap (λ b. cond b (Some new) (task_at (in_order tasks) o.whose)) e ∙ stands in
-        let k = open_stops whose o.whose o.task o.under o.open_ (with_task (in_order tasks) path new) there in absurd (cc)
+        let there : task_at (with_task (sorted_tasks tasks) path new) o.whose ≡ Some o.task =
+        at_with (sorted_tasks tasks) path o.whose new ∙ ap (λ b. cond b (Some new) (task_at (sorted_tasks tasks) o.whose)) e ∙ stands in
+        let k = open_stops whose o.whose o.task o.under o.open_ (with_task (sorted_tasks tasks) path new) there in absurd (cc)
 
 -- ---- what is under an ended path
 

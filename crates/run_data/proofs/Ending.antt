@@ -21,14 +21,14 @@ use Rattle.run_data.specs.Batches.{Batch, limit, failed, committed, batch, judge
 use Rattle.run_data.specs.Endings.{is_open, after_batch, gone_on, due_phase, back, has_ended, has_come, result_of, with_result}
 use Rattle.run_data.specs.Transitions.{Next, more, finished, begins, onward, iterate}
 use Rattle.run_data.specs.Frames.{Made, Making, made_by_all}
-use Rattle.run_data.specs.Fresh.{SimulationState, start, next, next_by, woken_or_moved, moved, to_time, to_end, after_outcome, least_due, below, IsReached, IsFresh, after_turns}
+use Rattle.run_data.specs.Fresh.{SimulationState, start, next_state, next_by, woken_or_moved, moved, to_time, to_end, after_outcome, least_due, below, IsReached, IsFresh, after_turns}
 use Rattle.run_data.specs.TaskStates.{activity_begun, daemon_begun}
 use Rattle.run_data.specs.Tasks.{TaskPhase, anchored, ready, delayed, waiting, calling, over, Task, Table, task_at, with_task, on_each, planned, with_directives, with_daemons, children_made, children_in, after_delay, phase_after, task_after, after_frame, after_frames, ready_jobs, woken, woken_phase, rested, rested_phase}
 use Rattle.run_data.specs.laws.Ending.{enough_turns, TurnsFinish, HasFreshRun, FreshRunByTurns}
 use Rattle.run_data.specs.laws.Weights.{one_if, opens, idle, weigh, weight, WeightFalls, WeightBegins}
 use Rattle.run_data.specs.laws.Iteration.{result_stays, turns_come, same_result}
 use Rattle.run_data.proofs.FramePaths.{HasPath}
-use Rattle.run_data.specs.laws.OrderedTables.{InOrder}
+use Rattle.run_data.specs.laws.OrderedTables.{IsOrderedTable}
 use Rattle.run_data.proofs.OrderedTables.{order_with, order_each, path_same}
 use Rattle.run_data.proofs.Counting.{opens_each, standing, open_there, opens_with, standing_still, Found, FirstFound, first_found}
 use Rattle.run_data.proofs.DueTimes.{StillWaits, IsAfter, least_is_after, none_ready}
@@ -115,11 +115,11 @@ module _ (now : ℕ) (path : List ℕ) (task : Task) (open_ : is_open task.phase
 
 -- ---- the tasks after a batch
 
-pub order_frames : (now : ℕ) (frames : List Frame) (table : Table) → InOrder table → InOrder (after_frames now frames table)
+pub order_frames : (now : ℕ) (frames : List Frame) (table : Table) → IsOrderedTable table → IsOrderedTable (after_frames now frames table)
 order_frames now [] table order = order
 order_frames now (frame ∷ rest) table order = order_frames now rest (after_frame now frame table) (order_with table frame.path (new_task now frame table) order)
 
-pub order_batch : (now : ℕ) (frames : List Frame) (table : Table) → InOrder table → InOrder (after_batch now frames table)
+pub order_batch : (now : ℕ) (frames : List Frame) (table : Table) → IsOrderedTable table → IsOrderedTable (after_batch now frames table)
 order_batch now frames table order = order_each (gone_on (after_frames now frames table) now) (after_frames now frames table) (order_frames now frames table order)
 
 pub back_open : (table : Table) (path : List ℕ) (phase : TaskPhase) → is_open (back table path phase) ≡ is_open phase
@@ -276,10 +276,10 @@ by_waking open_ left time = omega arith
 
 module _ (model : Parts) (plan : Plan) (bound : ℕ) where
   abbrev Falls : SimulationState → Next SimulationState Run → Type 0
-  Falls at (more next_) = InOrder next_.table × (weight plan bound next_ < weight plan bound at)
+  Falls at (more next_) = IsOrderedTable next_.table × (weight plan bound next_ < weight plan bound at)
   Falls at (finished run) = Unit {0}
 
-  outcome_falls : (at : SimulationState) (outcome : Batch) (path : List ℕ) → InOrder at.table → Found path at.table → Commits bound at.spent path outcome → Falls at (after_outcome model plan bound at outcome)
+  outcome_falls : (at : SimulationState) (outcome : Batch) (path : List ℕ) → IsOrderedTable at.table → Found path at.table → Commits bound at.spent path outcome → Falls at (after_outcome model plan bound at outcome)
   outcome_falls at limit path order found commits = tt
   outcome_falls at (failed who fault) path order found commits = tt
   outcome_falls at (committed cells touched frames) path order found commits =
@@ -291,7 +291,7 @@ module _ (model : Parts) (plan : Plan) (bound : ℕ) where
             (omega (arith, fall, same)) (pay_cost frames commits.1) commits.0 (idle_most (ready_jobs cells table)),
       )
 
-  time_falls : (at : SimulationState) (time : ℕ) (cells : List CellState) (out : Option ℕ) → InOrder at.table → idle (ready_jobs at.cells at.table) ≡ 1 → at.time < time → time < plan.duration →
+  time_falls : (at : SimulationState) (time : ℕ) (cells : List CellState) (out : Option ℕ) → IsOrderedTable at.table → idle (ready_jobs at.cells at.table) ≡ 1 → at.time < time → time < plan.duration →
       Falls at (to_time model plan bound at time cells out)
   time_falls at time cells (Some cell) order none later below = tt
   time_falls at time cells None order none later below =
@@ -307,7 +307,7 @@ module _ (model : Parts) (plan : Plan) (bound : ℕ) where
   end_falls at (Some cell) = tt
   end_falls at None = tt
 
-  moved_falls : (at : SimulationState) (next_time : Option ℕ) → StandsWell plan at → InOrder at.table → idle (ready_jobs at.cells at.table) ≡ 1 →
+  moved_falls : (at : SimulationState) (next_time : Option ℕ) → StandsWell plan at → IsOrderedTable at.table → idle (ready_jobs at.cells at.table) ≡ 1 →
       below plan.duration (least_due at.time plan.duration at.cells at.table) ≡ next_time → Each (StillWaits at.cells) at.table → Falls at (moved model plan bound at next_time)
   moved_falls at None well order none e waits = end_falls at (first_out (passed at.cells (plan.duration - at.time)))
   moved_falls at (Some time) well order none e waits =
@@ -315,7 +315,7 @@ module _ (model : Parts) (plan : Plan) (bound : ℕ) where
       let later : at.time < time = subst (IsAfter at.time) is.0 (least_is_after at.time plan.duration at.cells at.table well.delays waits) in
       time_falls at time (passed at.cells (time - at.time)) (first_out (passed at.cells (time - at.time))) order none later is.1
 
-  judged_falls : (at : SimulationState) (jobs : List (ℕ × Job)) → StandsWell plan at → InOrder at.table → idle (ready_jobs at.cells at.table) ≡ 1 →
+  judged_falls : (at : SimulationState) (jobs : List (ℕ × Job)) → StandsWell plan at → IsOrderedTable at.table → idle (ready_jobs at.cells at.table) ≡ 1 →
       ready_jobs at.cells (on_each (woken at.cells) at.table) ≡ jobs → Falls at (woken_or_moved model plan bound at (on_each (woken at.cells) at.table) jobs)
   judged_falls at [] well order none e =
       moved_falls at (below plan.duration (least_due at.time plan.duration at.cells at.table)) well order none refl (none_ready at.cells at.table e)
@@ -330,28 +330,28 @@ module _ (model : Parts) (plan : Plan) (bound : ℕ) where
             (by_waking (opens at.table) (bound - at.spent) (plan.duration - at.time)))),
       )
 
-  next_by_falls : (at : SimulationState) (jobs : List (ℕ × Job)) → StandsWell plan at → InOrder at.table → ready_jobs at.cells at.table ≡ jobs → FirstFound at.table jobs → Falls at (next_by model plan bound at jobs)
+  next_by_falls : (at : SimulationState) (jobs : List (ℕ × Job)) → StandsWell plan at → IsOrderedTable at.table → ready_jobs at.cells at.table ≡ jobs → FirstFound at.table jobs → Falls at (next_by model plan bound at jobs)
   next_by_falls at [] well order e found = judged_falls at (ready_jobs at.cells (on_each (woken at.cells) at.table)) well order (ap idle e) refl
   next_by_falls at (job ∷ rest) well order e found =
       outcome_falls at (batch model bound at.spent at.cells (job ∷ rest)) job.1.path order found (batch_commits model bound at.spent at.cells job rest)
 
-  next_falls : (at : SimulationState) → StandsWell plan at → InOrder at.table → Falls at (next model plan bound at)
+  next_falls : (at : SimulationState) → StandsWell plan at → IsOrderedTable at.table → Falls at (next_state model plan bound at)
   next_falls at well order = next_by_falls at (ready_jobs at.cells at.table) well order refl (first_found at.cells at.table order)
 
   abbrev Good : SimulationState → Type 0
-  Good at = StandsWell plan at × InOrder at.table
+  Good at = StandsWell plan at × IsOrderedTable at.table
 
-  both_fall : (at : SimulationState) (place : Next SimulationState Run) → GoesWell plan place → Falls at place → FallsTo SimulationState Run (next model plan bound) Good (weight plan bound) at place
+  both_fall : (at : SimulationState) (place : Next SimulationState Run) → GoesWell plan place → Falls at place → FallsTo SimulationState Run (next_state model plan bound) Good (weight plan bound) at place
   both_fall at (more place) well fall = ((well, fall.0), fall.1)
   both_fall at (finished run) well fall = tt
 
   -- ---- at the start
 
-  order_directives : (directives : List Directive) (table : Table) → InOrder table → InOrder (with_directives model directives table)
+  order_directives : (directives : List Directive) (table : Table) → IsOrderedTable table → IsOrderedTable (with_directives model directives table)
   order_directives [] table order = order
   order_directives (directive ∷ rest) table order = order_directives rest _ (order_with table (root directive.id) _ order)
 
-  order_daemons : (number : ℕ) (daemons : List Daemon) (table : Table) → InOrder table → InOrder (with_daemons number daemons table)
+  order_daemons : (number : ℕ) (daemons : List Daemon) (table : Table) → IsOrderedTable table → IsOrderedTable (with_daemons number daemons table)
   order_daemons number [] table order = order
   order_daemons number (daemon ∷ rest) table order = order_daemons (number + 1) rest _ (order_with table (daemon_root number) _ order)
 
@@ -382,7 +382,7 @@ module _ (model : Parts) (plan : Plan) (bound : ℕ) where
   opens_daemons number (daemon ∷ rest) table =
       omega (arith, opens_daemons (number + 1) rest (with_task table (daemon_root number) (daemon_task number daemon)), one_more table (daemon_root number) (daemon_task number daemon))
 
-  order_start : InOrder (start model plan).table
+  order_start : IsOrderedTable (start model plan).table
   order_start = order_each (rested 0) _ (order_directives plan.directives _ (order_daemons 0 model.daemons [] tt))
 
   opens_start : opens (start model plan).table ≤ length plan.directives + length model.daemons
@@ -399,7 +399,7 @@ module _ (model : Parts) (plan : Plan) (bound : ℕ) where
 
   pub run_ends : (run : Run) × (after_turns model plan bound (enough_turns model plan bound) ≡ finished run)
   run_ends =
-      ends SimulationState Run (next model plan bound) Good (weight plan bound) (λ at good. both_fall at (next model plan bound at) (next_well model plan bound at good.0) (next_falls at good.0 good.1))
+      ends SimulationState Run (next_state model plan bound) Good (weight plan bound) (λ at good. both_fall at (next_state model plan bound at) (next_well model plan bound at good.0) (next_falls at good.0 good.1))
       (enough_turns model plan bound) (start model plan) (start_well model plan bound, order_start) start_weight
 
 pub turns_finish : TurnsFinish
@@ -408,7 +408,7 @@ turns_finish model plan bound = run_ends model plan bound
 turns_are_fresh : (model : Parts) (plan : Plan) (bound : ℕ) (run : Run) → after_turns model plan bound (enough_turns model plan bound) ≡ finished run → IsFresh model plan bound run
 turns_are_fresh model plan bound run e =
     subst (IsReached model plan bound) e
-    (turns_come SimulationState Run (next model plan bound) (enough_turns model plan bound) (start model plan) (more (start model plan)) begins)
+    (turns_come SimulationState Run (next_state model plan bound) (enough_turns model plan bound) (start model plan) (more (start model plan)) begins)
 
 pub has_fresh_run : HasFreshRun
 has_fresh_run model plan bound =
@@ -418,20 +418,20 @@ has_fresh_run model plan bound =
 pub fresh_by_turns : FreshRunByTurns
 fresh_by_turns model plan bound run =
     let found = run_ends model plan bound in (
-      λ fresh. found.1 ∙ ap finished (same_result SimulationState Run (next model plan bound) (start model plan) found.0 run (turns_are_fresh model plan bound found.0 found.1) fresh),
+      λ fresh. found.1 ∙ ap finished (same_result SimulationState Run (next_state model plan bound) (start model plan) found.0 run (turns_are_fresh model plan bound found.0 found.1) fresh),
       turns_are_fresh model plan bound run,
     )
 
 -- ---- each turn
 
 abbrev OrderedPlace : Next SimulationState Run → Type 0
-OrderedPlace (more at) = InOrder at.table
+OrderedPlace (more at) = IsOrderedTable at.table
 OrderedPlace (finished run) = Unit {0}
 
 standing_good : (model : Parts) (plan : Plan) (bound : ℕ) (place : Next SimulationState Run) → IsReached model plan bound place → OrderedPlace place
 standing_good model plan bound (more at) begins = order_start model plan bound
 standing_good model plan bound place (onward {place = at} before) =
-    ordered_next (next model plan bound at) (next_falls model plan bound at (stands_well model plan bound (more at) before) (standing_good model plan bound (more at) before))
+    ordered_next (next_state model plan bound at) (next_falls model plan bound at (stands_well model plan bound (more at) before) (standing_good model plan bound (more at) before))
   where
     ordered_next : (later : Next SimulationState Run) → Falls model plan bound at later → OrderedPlace later
     ordered_next (more later) falls = falls.0

@@ -6,7 +6,7 @@ use Rattle.aerie_base.specs.declared.models.model.Parts.{Parts}
 use Rattle.aerie_base.specs.declared.plans.Plan.{Plan}
 use Rattle.effect_cells.specs.declared.effects.CellState.{CellState}
 use Rattle.effect_cells.specs.declared.effects.Effect.{Effect}
-use Rattle.effect_cells.specs.States.{later}
+use Rattle.effect_cells.specs.States.{state_after}
 use Rattle.effect_cells.specs.Cells.{first_state, passed, first_out, emitted, emitted_on, with_effects, committed_cells}
 use Rattle.effect_cells.specs.Worth.{worth_of}
 use Rattle.run_data.specs.declared.jobs.Job.{Job}
@@ -171,7 +171,7 @@ module _ (model : Parts) (plan : Plan) (bound : ℕ) where
 
   time_counts : (at : SimulationState) (time : ℕ) (out : Option ℕ) → length at.cells ≡ length model.cells → Counts (to_time model plan bound at time (passed at.cells (time - at.time)) out)
   time_counts at time (Some cell) e = tt
-  time_counts at time None e = length-map at.cells (later (time - at.time)) ∙ e
+  time_counts at time None e = length-map at.cells (state_after (time - at.time)) ∙ e
 
   end_counts : (at : SimulationState) (out : Option ℕ) → Counts (to_end model plan bound at out)
   end_counts at (Some cell) = tt

@@ -9,18 +9,18 @@ use Rattle.run_data.specs.declared.tasks.TaskState.{TaskState}
 use Rattle.run_data.specs.Endings.{is_open, has_ended, back, due_phase, has_come, has_begun, result_of, result_of_phase, with_result, gone_on}
 use Rattle.run_data.specs.Tasks.{TaskPhase, anchored, ready, delayed, waiting, calling, over, Task, Table, task_at, on_each, after_delay}
 use Rattle.run_data.specs.laws.GoingOn.{EndsAs, GoOnInTurn, AllGoneOn}
-use Rattle.run_data.specs.laws.NumberedTasks.{in_order, Distinct}
+use Rattle.run_data.specs.laws.NumberedTasks.{sorted_tasks, Distinct}
 use Rattle.run_data.proofs.EndedTasks.{ended_in_order}
 use Rattle.run_data.proofs.NumberedTasks.{in_order_set, at_number, keys_set, same_keys, each_set}
 use Rattle.run_data.proofs.OrderedTables.{at_with, is_same}
 
 -- ---- judged on either table
 
-come_same : (whole tasks : Table) → EndsAs whole tasks → (to : ℕ) (edge : Edge) → has_come (in_order tasks) to edge ≡ has_come whole to edge
+come_same : (whole tasks : Table) → EndsAs whole tasks → (to : ℕ) (edge : Edge) → has_come (sorted_tasks tasks) to edge ≡ has_come whole to edge
 come_same whole tasks ends to Start = ends.begun (root to)
 come_same whole tasks ends to End = ends.ended (root to)
 
-back_same : (whole tasks : Table) → EndsAs whole tasks → (path : List ℕ) (phase : TaskPhase) → back (in_order tasks) path phase ≡ back whole path phase
+back_same : (whole tasks : Table) → EndsAs whole tasks → (path : List ℕ) (phase : TaskPhase) → back (sorted_tasks tasks) path phase ≡ back whole path phase
 back_same whole tasks ends path (calling child into state) = rw (ends.ended (child_path path child), ends.results (child_path path child)) refl
 back_same whole tasks ends path (anchored to edge start state) = refl
 back_same whole tasks ends path (ready state) = refl
@@ -28,7 +28,7 @@ back_same whole tasks ends path (delayed until state) = refl
 back_same whole tasks ends path (waiting condition state) = refl
 back_same whole tasks ends path (over result) = refl
 
-due_same : (whole tasks : Table) → EndsAs whole tasks → (now : ℕ) (phase : TaskPhase) → due_phase (in_order tasks) now phase ≡ due_phase whole now phase
+due_same : (whole tasks : Table) → EndsAs whole tasks → (now : ℕ) (phase : TaskPhase) → due_phase (sorted_tasks tasks) now phase ≡ due_phase whole now phase
 due_same whole tasks ends now (anchored to edge start state) = rw (come_same whole tasks ends to edge) refl
 due_same whole tasks ends now (ready state) = refl
 due_same whole tasks ends now (delayed until state) = refl
@@ -36,10 +36,10 @@ due_same whole tasks ends now (waiting condition state) = refl
 due_same whole tasks ends now (calling child into state) = refl
 due_same whole tasks ends now (over result) = refl
 
-gone_same : (whole tasks : Table) → EndsAs whole tasks → (now : ℕ) (path : List ℕ) (task : Task) → gone_on (in_order tasks) now path task ≡ gone_on whole now path task
+gone_same : (whole tasks : Table) → EndsAs whole tasks → (now : ℕ) (path : List ℕ) (task : Task) → gone_on (sorted_tasks tasks) now path task ≡ gone_on whole now path task
 gone_same whole tasks ends now path task =
-    let k : due_phase (in_order tasks) now (back (in_order tasks) path task.phase) ≡ due_phase whole now (back whole path task.phase) =
-    due_same whole tasks ends now (back (in_order tasks) path task.phase) ∙ ap (due_phase whole now) (back_same whole tasks ends path task.phase) in
+    let k : due_phase (sorted_tasks tasks) now (back (sorted_tasks tasks) path task.phase) ≡ due_phase whole now (back whole path task.phase) =
+    due_same whole tasks ends now (back (sorted_tasks tasks) path task.phase) ∙ ap (due_phase whole now) (back_same whole tasks ends path task.phase) in
     ap (λ (phase : TaskPhase). record task { phase = phase }) k
 
 -- ---- what stays with a task that goes on
@@ -125,20 +125,20 @@ ended_set (entry ∷ rest) zero path old new whose at same = let k : entry.0 ≡
 ended_set (entry ∷ rest) (suc number) path old new whose at same = ap (λ b. (not (is_prefix whose entry.0) || not (is_open entry.1.phase)) && b) (ended_set rest number path old new whose at same)
 
 module _ (tasks : Table) (number : ℕ) (path : List ℕ) (old new : Task) (distinct : Distinct tasks) (at : slice_get tasks number ≡ Some (path, old)) where
-  ended_after : is_open new.phase ≡ is_open old.phase → (whose : List ℕ) → has_ended (in_order (slice_set tasks number (path, new))) whose ≡ has_ended (in_order tasks) whose
+  ended_after : is_open new.phase ≡ is_open old.phase → (whose : List ℕ) → has_ended (sorted_tasks (slice_set tasks number (path, new))) whose ≡ has_ended (sorted_tasks tasks) whose
   ended_after same whose =
       ended_in_order whose (slice_set tasks number (path, new)) (same_keys tasks (slice_set tasks number (path, new)) (keys_set tasks number path old new at) distinct)
       ∙ ended_set tasks number path old new whose at same ∙ sym (ended_in_order whose tasks distinct)
 
   -- what is the same of both tasks is the same at each path
-  look_after : {X : Type 0} (look : Option Task → X) → look (Some new) ≡ look (Some old) → (whose : List ℕ) → look (task_at (in_order (slice_set tasks number (path, new))) whose) ≡ look (task_at (in_order tasks) whose)
+  look_after : {X : Type 0} (look : Option Task → X) → look (Some new) ≡ look (Some old) → (whose : List ℕ) → look (task_at (sorted_tasks (slice_set tasks number (path, new))) whose) ≡ look (task_at (sorted_tasks tasks) whose)
   look_after look same whose =
-      ap look (ap (λ t. task_at t whose) (in_order_set tasks number path old new distinct at) ∙ at_with (in_order tasks) path whose new) ∙ by (is_at (path_cmp whose) path) refl
+      ap look (ap (λ t. task_at t whose) (in_order_set tasks number path old new distinct at) ∙ at_with (sorted_tasks tasks) path whose new) ∙ by (is_at (path_cmp whose) path) refl
     where
-      by : (b : Bool) → is_at (path_cmp whose) path ≡ b → look (cond b (Some new) (task_at (in_order tasks) whose)) ≡ look (task_at (in_order tasks) whose)
+      by : (b : Bool) → is_at (path_cmp whose) path ≡ b → look (cond b (Some new) (task_at (sorted_tasks tasks) whose)) ≡ look (task_at (sorted_tasks tasks) whose)
       by true e =
           let k : whose ≡ path = is_same whose path e in
-          let there : task_at (in_order tasks) whose ≡ Some old = subst (λ p. task_at (in_order tasks) p ≡ Some old) (sym k) (at_number tasks number path old distinct at) in
+          let there : task_at (sorted_tasks tasks) whose ≡ Some old = subst (λ p. task_at (sorted_tasks tasks) p ≡ Some old) (sym k) (at_number tasks number path old distinct at) in
           same ∙ ap look (sym there)
       by false e = refl
 

@@ -18,7 +18,7 @@ use Rattle.aerie_base.specs.expressions.Arithmetic.{value_kind}
 use Rattle.aerie_base.specs.expressions.Soundness.{Within, more_known}
 use Rattle.aerie_base.specs.expressions.Typing.{kind_of, same_kind, slot_kinds}
 use Rattle.aerie_base.specs.models.Scopes.{Scope, known}
-use Rattle.aerie_base.specs.models.Conditions.{Locals, Reads, is_coefficient, is_term, is_linear, side_kind, may_equal, is_typed_condition, cond_depth, is_condition}
+use Rattle.aerie_base.specs.models.Conditions.{Locals, ReadKinds, is_coefficient, is_term, is_linear, side_kind, may_equal, is_typed_condition, cond_depth, is_condition}
 use Rattle.aerie_base.specs.expressions.Typing.{operand_kind}
 use Rattle.aerie_base.specs.models.Expressions.{typed, has_literals, expr_depth, is_kind_of}
 use Rattle.aerie_base.specs.models.Limits.{depth_limit}
@@ -77,7 +77,7 @@ may_by (Some left) (Some right) left_more right_more a b h =
     subst (λ (k : Option Kind). IsTrue (may_equal k right_more)) (sym (a left refl))
     (subst (λ (k : Option Kind). IsTrue (may_equal (Some left) k)) (sym (b right refl)) h)
 
-module _ (enums : List EnumType) (some more : Locals) (reads : Reads) (within : Within some more) where
+module _ (enums : List EnumType) (some more : Locals) (reads : ReadKinds) (within : Within some more) where
   pub typed_within : (expr : Expr) (of : Kind) → typed enums some reads expr ≡ Some of → kind_of expr more reads ≡ Some of
   unfolding typed
   typed_within expr of e =

@@ -4,11 +4,12 @@ use Rattle.std.specs.declared.cmp.Ordering.{Ordering}
 use Rattle.std.specs.declared.cmp.Ordering.TheVariants.{Less, Equal, Greater}
 use Rattle.std.specs.Ordering.{is_eq}
 use Rattle.aerie_base.specs.Paths.{path_cmp}
+use Rattle.aerie_base.specs.TimeOrder.{earlier}
 use Rattle.effect_cells.specs.declared.effects.CellState.{CellState}
-use Rattle.run_data.specs.Fresh.{earlier, due_time, least_due}
+use Rattle.run_data.specs.Fresh.{due_time, least_due}
 use Rattle.run_data.specs.Tasks.{TaskPhase, anchored, ready, delayed, waiting, calling, over, Task, Table, task_at, with_task}
 use Rattle.run_data.specs.laws.NextTimes.{delay_in, least_delay, wake_in, least_wake, DueSplits, LeastDelayByNumber, LeastWakeByNumber, NoneDueBefore, LeastDueIs, NoneIsDue}
-use Rattle.run_data.specs.laws.NumberedTasks.{in_order, Distinct}
+use Rattle.run_data.specs.laws.NumberedTasks.{sorted_tasks, Distinct}
 use Rattle.run_data.proofs.NumberedTasks.{none_at, first_apart, distinct_rest}
 
 -- ---- the least time of tasks, by number and in order
@@ -35,10 +36,10 @@ module _ (time_of : TaskPhase → Option ℕ) where
       by Equal e n further = absurd (cc)
       by Greater e n further = rw (e, further n) (earlier_swap (time_of entry.1.phase) (time_of a.phase) (least rest))
 
-  least_in_order : (tasks : Table) → Distinct tasks → least (in_order tasks) ≡ least tasks
+  least_in_order : (tasks : Table) → Distinct tasks → least (sorted_tasks tasks) ≡ least tasks
   least_in_order [] distinct = refl
   least_in_order (entry ∷ rest) distinct =
-      least_with (in_order rest) entry.0 entry.1 (none_at rest entry.0 (first_apart entry rest distinct))
+      least_with (sorted_tasks rest) entry.0 entry.1 (none_at rest entry.0 (first_apart entry rest distinct))
       ∙ ap (earlier (time_of entry.1.phase)) (least_in_order rest (distinct_rest entry rest distinct))
 
 delay_is : (tasks : Table) → least delay_in tasks ≡ least_delay tasks
@@ -50,11 +51,11 @@ wake_is now horizon cells [] = refl
 wake_is now horizon cells (entry ∷ rest) = ap (earlier (wake_in now horizon cells entry.1.phase)) (wake_is now horizon cells rest)
 
 pub least_delay_by_number : LeastDelayByNumber
-least_delay_by_number tasks distinct = sym (delay_is (in_order tasks)) ∙ least_in_order delay_in tasks distinct ∙ delay_is tasks
+least_delay_by_number tasks distinct = sym (delay_is (sorted_tasks tasks)) ∙ least_in_order delay_in tasks distinct ∙ delay_is tasks
 
 pub least_wake_by_number : LeastWakeByNumber
 least_wake_by_number now horizon cells tasks distinct =
-    sym (wake_is now horizon cells (in_order tasks)) ∙ least_in_order (wake_in now horizon cells) tasks distinct ∙ wake_is now horizon cells tasks
+    sym (wake_is now horizon cells (sorted_tasks tasks)) ∙ least_in_order (wake_in now horizon cells) tasks distinct ∙ wake_is now horizon cells tasks
 
 -- ---- delays and waits
 

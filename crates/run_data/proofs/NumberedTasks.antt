@@ -8,15 +8,15 @@ use Rattle.std.specs.List.{slice_get}
 use Rattle.std.specs.Map.{keys_of}
 use Rattle.aerie_base.specs.Paths.{path_cmp}
 use Rattle.run_data.specs.Tasks.{Task, Table, task_at, with_task, on_each}
-use Rattle.run_data.specs.laws.OrderedTables.{Above, InOrder}
-use Rattle.run_data.specs.laws.NumberedTasks.{in_order, Distinct, AreInOrder, OrderIsDistinct, OrderIsItself, FoundByNumber, NewIsNotThere, SetByNumber, PushedByNumber, SetKeepsDistinct, PushKeepsDistinct, ChangedByNumber, ChangedInTurn}
+use Rattle.run_data.specs.laws.OrderedTables.{Above, IsOrderedTable}
+use Rattle.run_data.specs.laws.NumberedTasks.{sorted_tasks, Distinct, AreInOrder, OrderIsDistinct, OrderIsItself, FoundByNumber, NewIsNotThere, SetByNumber, PushedByNumber, SetKeepsDistinct, PushKeepsDistinct, ChangedByNumber, ChangedInTurn}
 use Rattle.run_data.proofs.OrderedTables.{path_itself, is_same, order_with, with_twice, with_with, at_with, each_with}
 
 -- ---- every task changed
 
-pub each_in_order : (change : List ℕ → Task → Task) (tasks : Table) → on_each change (in_order tasks) ≡ in_order (on_each change tasks)
+pub each_in_order : (change : List ℕ → Task → Task) (tasks : Table) → on_each change (sorted_tasks tasks) ≡ sorted_tasks (on_each change tasks)
 each_in_order change [] = refl
-each_in_order change (entry ∷ rest) = each_with change (in_order rest) entry.0 entry.1 ∙ ap (λ t. with_task t entry.0 (change entry.0 entry.1)) (each_in_order change rest)
+each_in_order change (entry ∷ rest) = each_with change (sorted_tasks rest) entry.0 entry.1 ∙ ap (λ t. with_task t entry.0 (change entry.0 entry.1)) (each_in_order change rest)
 
 pub each_set : (change : List ℕ → Task → Task) (tasks : Table) (i : ℕ) (path : List ℕ) (old new : Task) → slice_get tasks i ≡ Some (path, old) → change path new ≡ change path old →
     on_each change (slice_set tasks i (path, new)) ≡ on_each change tasks
@@ -34,52 +34,52 @@ pub first_apart : (entry : List ℕ × Task) (rest : Table) → Distinct (entry 
 first_apart entry rest distinct i other x same = let k : 0 ≡ suc i = distinct 0 (suc i) entry other refl x same in omega arith
 
 pub in_order_set : (tasks : Table) (i : ℕ) (path : List ℕ) (old new : Task) → Distinct tasks → slice_get tasks i ≡ Some (path, old) →
-    in_order (slice_set tasks i (path, new)) ≡ with_task (in_order tasks) path new
+    sorted_tasks (slice_set tasks i (path, new)) ≡ with_task (sorted_tasks tasks) path new
 in_order_set [] i path old new distinct here = absurd (cc)
 in_order_set (entry ∷ rest) zero path old new distinct here =
     let k : entry.0 ≡ path = cc in
-    sym (with_twice (in_order rest) path entry.1 new) ∙ ap (λ p. with_task (with_task (in_order rest) p entry.1) path new) (sym k)
+    sym (with_twice (sorted_tasks rest) path entry.1 new) ∙ ap (λ p. with_task (with_task (sorted_tasks rest) p entry.1) path new) (sym k)
 in_order_set (entry ∷ rest) (suc i) path old new distinct here =
     ap (λ t. with_task t entry.0 entry.1) (in_order_set rest i path old new (distinct_rest entry rest distinct) here)
-    ∙ with_with (in_order rest) path entry.0 new entry.1 (λ same. first_apart entry rest distinct i (path, old) here (sym same))
+    ∙ with_with (sorted_tasks rest) path entry.0 new entry.1 (λ same. first_apart entry rest distinct i (path, old) here (sym same))
 
 pub in_order_push : (tasks : Table) (path : List ℕ) (new : Task) → ((i : ℕ) (other : List ℕ × Task) → slice_get tasks i ≡ Some other → path ≡ other.0 → ⊥) →
-    in_order (tasks ++ (path, new) ∷ []) ≡ with_task (in_order tasks) path new
+    sorted_tasks (tasks ++ (path, new) ∷ []) ≡ with_task (sorted_tasks tasks) path new
 in_order_push [] path new apart = refl
 in_order_push (entry ∷ rest) path new apart =
     ap (λ t. with_task t entry.0 entry.1) (in_order_push rest path new (λ i other x. apart (suc i) other x))
-    ∙ with_with (in_order rest) path entry.0 new entry.1 (λ same. apart 0 entry refl same)
+    ∙ with_with (sorted_tasks rest) path entry.0 new entry.1 (λ same. apart 0 entry refl same)
 
 -- ---- what stands at a path and at a number
 
-pub none_at : (tasks : Table) (path : List ℕ) → ((i : ℕ) (other : List ℕ × Task) → slice_get tasks i ≡ Some other → path ≡ other.0 → ⊥) → task_at (in_order tasks) path ≡ None
+pub none_at : (tasks : Table) (path : List ℕ) → ((i : ℕ) (other : List ℕ × Task) → slice_get tasks i ≡ Some other → path ≡ other.0 → ⊥) → task_at (sorted_tasks tasks) path ≡ None
 none_at [] path apart = refl
 none_at (entry ∷ rest) path apart =
-    at_with (in_order rest) entry.0 path entry.1 ∙ by (is_at (path_cmp path) entry.0) refl (none_at rest path (λ i other x. apart (suc i) other x))
+    at_with (sorted_tasks rest) entry.0 path entry.1 ∙ by (is_at (path_cmp path) entry.0) refl (none_at rest path (λ i other x. apart (suc i) other x))
   where
-    by : (b : Bool) → is_at (path_cmp path) entry.0 ≡ b → task_at (in_order rest) path ≡ None → cond b (Some entry.1) (task_at (in_order rest) path) ≡ None
+    by : (b : Bool) → is_at (path_cmp path) entry.0 ≡ b → task_at (sorted_tasks rest) path ≡ None → cond b (Some entry.1) (task_at (sorted_tasks rest) path) ≡ None
     by true e further = absurd (apart 0 entry refl (is_same path entry.0 e))
     by false e further = further
 
-pub at_number : (tasks : Table) (i : ℕ) (path : List ℕ) (task : Task) → Distinct tasks → slice_get tasks i ≡ Some (path, task) → task_at (in_order tasks) path ≡ Some task
+pub at_number : (tasks : Table) (i : ℕ) (path : List ℕ) (task : Task) → Distinct tasks → slice_get tasks i ≡ Some (path, task) → task_at (sorted_tasks tasks) path ≡ Some task
 at_number [] i path task distinct here = absurd (cc)
 at_number (entry ∷ rest) zero path task distinct here =
     let k : entry.0 ≡ path = cc in let v : entry.1 ≡ task = cc in
-    at_with (in_order rest) entry.0 path entry.1 ∙ rw (k, v) (ap (λ o. cond (is_eq o) (Some task) (task_at (in_order rest) path)) (path_itself path))
+    at_with (sorted_tasks rest) entry.0 path entry.1 ∙ rw (k, v) (ap (λ o. cond (is_eq o) (Some task) (task_at (sorted_tasks rest) path)) (path_itself path))
 at_number (entry ∷ rest) (suc i) path task distinct here =
-    at_with (in_order rest) entry.0 path entry.1 ∙ by (is_at (path_cmp path) entry.0) refl (at_number rest i path task (distinct_rest entry rest distinct) here)
+    at_with (sorted_tasks rest) entry.0 path entry.1 ∙ by (is_at (path_cmp path) entry.0) refl (at_number rest i path task (distinct_rest entry rest distinct) here)
   where
-    by : (b : Bool) → is_at (path_cmp path) entry.0 ≡ b → task_at (in_order rest) path ≡ Some task → cond b (Some entry.1) (task_at (in_order rest) path) ≡ Some task
+    by : (b : Bool) → is_at (path_cmp path) entry.0 ≡ b → task_at (sorted_tasks rest) path ≡ Some task → cond b (Some entry.1) (task_at (sorted_tasks rest) path) ≡ Some task
     by true e further = absurd (first_apart entry rest distinct i (path, task) here (sym (is_same path entry.0 e)))
     by false e further = further
 
 -- ---- tables in order are their own
 
-pub in_order_sorted : (tasks : Table) → InOrder (in_order tasks)
+pub in_order_sorted : (tasks : Table) → IsOrderedTable (sorted_tasks tasks)
 in_order_sorted [] = tt
-in_order_sorted (entry ∷ rest) = order_with (in_order rest) entry.0 entry.1 (in_order_sorted rest)
+in_order_sorted (entry ∷ rest) = order_with (sorted_tasks rest) entry.0 entry.1 (in_order_sorted rest)
 
-pub in_order_itself : (table : Table) → InOrder table → in_order table ≡ table
+pub in_order_itself : (table : Table) → IsOrderedTable table → sorted_tasks table ≡ table
 in_order_itself [] order = refl
 in_order_itself (entry ∷ rest) order = ap (λ t. with_task t entry.0 entry.1) (in_order_itself rest order.1) ∙ front rest order.0
   where
@@ -95,7 +95,7 @@ above_at path (entry ∷ rest) above (suc i) other at = above_at path rest above
 pub not_same : (p q : List ℕ) → path_cmp p q ≡ Less → p ≡ q → ⊥
 not_same p q less same = let k : path_cmp p p ≡ Less = subst (λ z. path_cmp p z ≡ Less) (sym same) less in let f : ◌≡◌ {A = Ordering} Less Equal = sym k ∙ path_itself p in absurd (cc)
 
-pub distinct_of : (table : Table) → InOrder table → Distinct table
+pub distinct_of : (table : Table) → IsOrderedTable table → Distinct table
 distinct_of [] order i j one other x y same = absurd (cc)
 distinct_of (entry ∷ rest) order zero zero one other x y same = refl
 distinct_of (entry ∷ rest) order zero (suc j) one other x y same =

@@ -8,7 +8,7 @@ use Rattle.std.specs.BTreeMap.{is_at}
 use Rattle.std.proofs.lemmas.Map.Lookups.{exact_bytes}
 use Rattle.aerie_base.specs.Paths.{path_cmp}
 use Rattle.run_data.specs.Tasks.{Task, Table, task_at, with_task, on_each}
-use Rattle.run_data.specs.laws.OrderedTables.{Above, InOrder, PutKeepsOrder, ChangesKeepOrder, PutIsThere, LaterPutStands, PutsExchange, PutThenChanged}
+use Rattle.run_data.specs.laws.OrderedTables.{Above, IsOrderedTable, PutKeepsOrder, ChangesKeepOrder, PutIsThere, LaterPutStands, PutsExchange, PutThenChanged}
 
 -- ---- the order of paths
 
@@ -57,8 +57,8 @@ pub order_with : PutKeepsOrder
 order_with [] path task order = (tt, tt)
 order_with (entry ∷ rest) path task order = by (path_cmp path entry.0) refl (order_with rest path task order.1)
   where
-    by : (r : Ordering) → path_cmp path entry.0 ≡ r → InOrder (with_task rest path task) →
-        InOrder (match_ordering r ((path, task) ∷ entry ∷ rest) ((entry.0, task) ∷ rest) (entry ∷ with_task rest path task))
+    by : (r : Ordering) → path_cmp path entry.0 ≡ r → IsOrderedTable (with_task rest path task) →
+        IsOrderedTable (match_ordering r ((path, task) ∷ entry ∷ rest) ((entry.0, task) ∷ rest) (entry ∷ with_task rest path task))
     by Less e further = ((e, above_all path entry.0 rest e order.0), order)
     by Equal e further = order
     by Greater e further = (above_with entry.0 path task rest order.0 (reversed path entry.0 Greater e), further)

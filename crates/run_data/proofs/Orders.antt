@@ -1,6 +1,6 @@
 -- A batch does not depend on the order of its jobs.
 use Rattle.std.specs.List.{list_all}
-use Rattle.std.proofs.Common.{◌≡◌, ℕ, ℤ, zero, suc, ◌+◌, ◌+ℤ◌, ◌<◌, Bool, true, false, ◌&&◌, if◌then◌else◌, nat_eq, nat_lt, List, [], ◌∷◌, ◌++◌, map, length, Option, Some, None, slice_get, refl, sym, ap, ◌∙◌, subst, arith}
+use Rattle.std.proofs.Common.{◌≡◌, ℕ, ℤ, zero, suc, ◌+◌, ◌+ℤ◌, ◌<◌, Bool, true, false, ◌&&◌, if◌then◌else◌, nat_eq, nat_lt, List, [], ◌∷◌, ◌++◌, map, length, Option, Some, None, is_some, slice_get, refl, sym, ap, ◌∙◌, subst, arith}
 use Rattle.std.proofs.lemmas.Int.{ints}
 use Rattle.aerie_base.specs.declared.models.model.Parts.{Parts}
 use Rattle.effect_cells.specs.declared.effects.CellState.{CellState}
@@ -14,11 +14,11 @@ use Rattle.effect_cells.specs.Cells.{accepts, accepted_by, fits_cells, with_effe
 use Rattle.effect_cells.specs.ChangeLaws.{sides_commute, sides_associate}
 use Rattle.effect_cells.specs.Changes.{change_beside}
 use Rattle.effect_cells.specs.States.{applied_if_any, is_of_kind}
-use Rattle.effect_cells.specs.TreeRecursion.{part_gives, row_gives, gives-Child}
+use Rattle.effect_cells.specs.TreeRecursion.{part_gives, items_give, gives-Child}
 use Rattle.effect_cells.specs.Worth.{Before, effect_beside, in_front, beside, part_worth, tree_worth, items_worth, worth_of, part_fits, tree_fits}
 use Rattle.run_data.specs.declared.jobs.Job.{Job}
 use Rattle.run_data.specs.declared.frames.Frame.{Frame}
-use Rattle.run_data.specs.Batches.{committed, judged, when_within, when_no_fault, unless_out, is_there, touched_from, Blame, least_fault, tree_of, cost_of, by_path}
+use Rattle.run_data.specs.Batches.{committed, judged, when_within, when_no_fault, unless_out, touched_from, Blame, least_fault, tree_of, cost_of, by_path}
 use Rattle.run_data.specs.Frames.{Made, Making, with_child, made_by, made_by_all}
 use Rattle.run_data.specs.laws.Orders.{EachOf, EachTwo, AreApart, FitsCells, OrderDoesNotMatter}
 use Rattle.run_data.proofs.FramePaths.{NoPathInBoth, frames_apart}
@@ -121,12 +121,12 @@ module _ (cells : List CellState) (cell : ℕ) where
     part_fitting (Emit on effect) rest h k = emit_fits on effect rest h k
     part_fitting (Child' _ items) rest h k = beside_fits (slice_get cells cell) _ rest (row_fitting items h) k
 
-    row_fitting : {m : _} → (row : Row_of-Part m) → list_all (λ flag. flag) (row_gives Bool Bool (part_fits (accepts cells)) tree_fits row) ≡ true →
-        Fits (items_worth (row_gives Before (ℕ → Option Effect) part_worth tree_worth row) cell)
+    row_fitting : {m : _} → (row : Row_of-Part m) → list_all (λ flag. flag) (items_give Bool Bool (part_fits (accepts cells)) tree_fits row) ≡ true →
+        Fits (items_worth (items_give Before (ℕ → Option Effect) part_worth tree_worth row) cell)
     row_fitting end_of-Part h = none_fits (slice_get cells cell)
     row_fitting (more_of-Part part rest) h =
-        let fit = both (part_gives Bool Bool (part_fits (accepts cells)) tree_fits part) (list_all (λ flag. flag) (row_gives Bool Bool (part_fits (accepts cells)) tree_fits rest)) h in
-        part_fitting part (items_worth (row_gives Before (ℕ → Option Effect) part_worth tree_worth rest) cell) fit.0 (row_fitting rest fit.1)
+        let fit = both (part_gives Bool Bool (part_fits (accepts cells)) tree_fits part) (list_all (λ flag. flag) (items_give Bool Bool (part_fits (accepts cells)) tree_fits rest)) h in
+        part_fitting part (items_worth (items_give Before (ℕ → Option Effect) part_worth tree_worth rest) cell) fit.0 (row_fitting rest fit.1)
 
   parts_fitting : (parts : List Part) → list_all (λ flag. flag) (map (part_gives Bool Bool (part_fits (accepts cells)) tree_fits) parts) ≡ true →
       Fits (items_worth (map (part_gives Before (ℕ → Option Effect) part_worth tree_worth) parts) cell)
@@ -283,7 +283,7 @@ touched_alike : (from : ℕ) (tree other : Tree) (cells : List CellState) → ((
 touched_alike from tree other [] h = refl
 touched_alike from tree other (s ∷ rest) h =
     let further = touched_alike (from + 1) tree other rest (λ cell less. h cell (omega arith)) in
-    λ i. if is_there (h from (omega arith) i) then from ∷ further i else further i
+    λ i. if is_some (h from (omega arith) i) then from ∷ further i else further i
 
 module _ (bound spent : ℕ) (cells : List CellState) (made other : Made) (alike : Alike cells made other) where
   next_same : committed_cells cells (tree_of made) ≡ committed_cells cells (tree_of other)

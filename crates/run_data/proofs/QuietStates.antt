@@ -27,7 +27,7 @@ use Rattle.run_data.specs.laws.QuietStates.{ReachedIsQuiet}
 use Rattle.run_data.specs.Tasks.{TaskPhase, anchored, ready, delayed, waiting, calling, over, Task, Table, task_at, with_task, on_each, planned, with_directives, with_daemons, woken, woken_phase, rested, rested_phase, after_frames, ready_jobs}
 use Rattle.run_data.specs.TaskStates.{activity_begun}
 use Rattle.run_data.specs.laws.GoingOn.{IsQuiet, AllQuiet}
-use Rattle.run_data.specs.laws.OrderedTables.{InOrder}
+use Rattle.run_data.specs.laws.OrderedTables.{IsOrderedTable}
 use Rattle.run_data.proofs.EndedTasks.{open_stops, stands_at}
 use Rattle.run_data.proofs.Ending.{rested_open, woken_open}
 use Rattle.run_data.proofs.FramePaths.{under_itself}
@@ -95,7 +95,7 @@ module _ (model : Parts) (plan : Plan) where
     phase : PlannedPhase task.phase
 
   record AllPlanned (table : Table) : Type 0 where
-    order : InOrder table
+    order : IsOrderedTable table
     tasks : (path : List ℕ) (task : Task) → task_at table path ≡ Some task → PlannedTask task
 
   put_planned : (table : Table) (path : List ℕ) (task : Task) → AllPlanned table → PlannedTask task → AllPlanned (with_task table path task)

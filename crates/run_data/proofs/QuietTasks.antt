@@ -9,7 +9,7 @@ use Rattle.run_data.specs.declared.frames.Frame.{Frame}
 use Rattle.run_data.specs.Endings.{is_open, has_ended, back, due_phase, has_come, has_begun, result_of, with_result, gone_on}
 use Rattle.run_data.specs.Tasks.{TaskPhase, anchored, ready, delayed, waiting, calling, over, Task, Table, task_at, on_each, after_frame, after_frames, task_after, after_delay, children_made, children_in}
 use Rattle.run_data.specs.laws.GoingOn.{HasFrame, at_first, at_later, IsQuiet, AllQuiet, MayComeBy, MayGoOnBy, OthersStay, QuietAfter, NoneGoesOn, GoOnOnce}
-use Rattle.run_data.specs.laws.OrderedTables.{InOrder}
+use Rattle.run_data.specs.laws.OrderedTables.{IsOrderedTable}
 use Rattle.run_data.proofs.EndedTasks.{ended_by_frames}
 use Rattle.run_data.proofs.Ending.{back_open, due_open}
 use Rattle.run_data.proofs.OrderedTables.{at_with, is_same}
@@ -28,7 +28,7 @@ begun_by_frames now (frame ∷ rest) table path before after =
     by true e further = at_first (sym (is_same path frame.path e))
     by false e further = at_later (further (ap has_begun (at_with table frame.path path new ∙ ap (λ b. cond b (Some new) (task_at table path)) e) ∙ before))
 
-module _ (now : ℕ) (frames : List Frame) (table : Table) (path : List ℕ) (order : InOrder table) where
+module _ (now : ℕ) (frames : List Frame) (table : Table) (path : List ℕ) (order : IsOrderedTable table) where
   not_come : (to : ℕ) (edge : Edge) → has_come table to edge ≡ false → (MayComeBy frames to edge → ⊥) → has_come (after_frames now frames table) to edge ≡ false
   not_come to Start before none = by (has_come (after_frames now frames table) to Start) refl
     where

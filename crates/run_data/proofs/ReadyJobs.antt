@@ -14,7 +14,7 @@ use Rattle.run_data.specs.declared.jobs.Job.{Job}
 use Rattle.run_data.specs.Jobs.{IsModest, AreCellsOf, IsJobOf}
 use Rattle.run_data.specs.Tasks.{TaskPhase, anchored, ready, delayed, waiting, calling, over, Task, Table, task_at, ready_jobs, job_if_ready}
 use Rattle.run_data.specs.Magnitudes.{state_magnitude, AreWithin}
-use Rattle.run_data.specs.laws.OrderedTables.{InOrder}
+use Rattle.run_data.specs.laws.OrderedTables.{IsOrderedTable}
 use Rattle.run_data.specs.laws.SmallSteps.{IsJobWithin}
 use Rattle.run_data.specs.laws.Orders.{EachOf, EachTwo, AreApart}
 use Rattle.run_data.specs.laws.ReachedStates.{MayGoOn, IsPhaseOf, ComesFrom, directive, daemon, maker, IsTableOf}
@@ -139,7 +139,7 @@ module _ (model : Parts) (cells : List CellState) (table : Table) (is : IsTableO
       by false e = e
       by true e = let clash : ◌≡◌ {A = Option Task} (Some second) None = sym its ∙ none_to_come model table is path task there number from other e in absurd (cc)
 
-  ready_two : (others : Table) → InOrder others → ((number : ℕ) (path : List ℕ) (task : Task) → slice_get others number ≡ Some (path, task) → task_at table path ≡ Some task) → EachTwo AreApart (ready_jobs cells others)
+  ready_two : (others : Table) → IsOrderedTable others → ((number : ℕ) (path : List ℕ) (task : Task) → slice_get others number ≡ Some (path, task) → task_at table path ≡ Some task) → EachTwo AreApart (ready_jobs cells others)
   ready_two [] order stands = tt
   ready_two (entry ∷ rest) order stands = by entry.1.phase (ready_two rest order.1 (λ n path task at. stands (suc n) path task at))
     where

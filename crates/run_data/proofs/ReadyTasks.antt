@@ -15,8 +15,8 @@ use Rattle.aerie_base.specs.Paths.{path_cmp}
 use Rattle.effect_cells.specs.declared.effects.CellState.{CellState}
 use Rattle.run_data.specs.declared.jobs.Job.{Job}
 use Rattle.run_data.specs.Tasks.{TaskPhase, anchored, ready, delayed, waiting, calling, over, Task, Table, task_at, ready_jobs, job_if_ready}
-use Rattle.run_data.specs.laws.NumberedTasks.{in_order}
-use Rattle.run_data.specs.laws.OrderedTables.{Above, InOrder}
+use Rattle.run_data.specs.laws.NumberedTasks.{sorted_tasks}
+use Rattle.run_data.specs.laws.OrderedTables.{Above, IsOrderedTable}
 use Rattle.run_data.specs.laws.ReadyTasks.{is_ready_phase, is_ready, jobs_by, ReadyByIndex}
 use Rattle.run_data.proofs.NumberedTasks.{at_number, in_order_sorted}
 
@@ -27,7 +27,7 @@ all_above : (path : List ℕ) (table : Table) → Above path table → AllByRecu
 all_above path [] above = tt
 all_above path (entry ∷ rest) above = (above.0, all_above path rest above.1)
 
-sorted_from : (table : Table) → InOrder table → IsSorted table
+sorted_from : (table : Table) → IsOrderedTable table → IsSorted table
 unfolding IsStrictlySortedBy
 sorted_from [] order = tt
 sorted_from (entry ∷ rest) order = (all_above entry.0 rest order.0, sorted_from rest order.1)
@@ -125,24 +125,24 @@ ready_by_index cells tasks readies distinct sorted holds has =
     from_table cells look table places ∙ ap (jobs_from cells look) (sym same) ∙ from_index cells tasks look readies.entries index
   where
     table : Table
-    table = in_order tasks
+    table = sorted_tasks tasks
 
-    table_sorted : IsSorted (in_order tasks)
-    table_sorted = sorted_from (in_order tasks) (in_order_sorted tasks)
+    table_sorted : IsSorted (sorted_tasks tasks)
+    table_sorted = sorted_from (sorted_tasks tasks) (in_order_sorted tasks)
 
     look : List ℕ → Option Task
-    look path = task_at (in_order tasks) path
+    look path = task_at (sorted_tasks tasks) path
 
-    places : (i : ℕ) (path : List ℕ) (task : Task) → slice_get (in_order tasks) i ≡ Some (path, task) → task_at (in_order tasks) path ≡ Some task
-    places i path task at = lookup_from_place (eq_by_cmp_equiv nat_list_cmp_total) (in_order tasks) i path task (IsDistinct-from_sorted path_cmp (keys_of (in_order tasks)) table_sorted) at
+    places : (i : ℕ) (path : List ℕ) (task : Task) → slice_get (sorted_tasks tasks) i ≡ Some (path, task) → task_at (sorted_tasks tasks) path ≡ Some task
+    places i path task at = lookup_from_place (eq_by_cmp_equiv nat_list_cmp_total) (sorted_tasks tasks) i path task (IsDistinct-from_sorted path_cmp (keys_of (sorted_tasks tasks)) table_sorted) at
 
-    ready_some : (path : List ℕ) (task : Task) → task_at (in_order tasks) path ≡ Some task → is_ready_phase task.phase ≡ true → is_ready (task_at (in_order tasks) path) ≡ true
+    ready_some : (path : List ℕ) (task : Task) → task_at (sorted_tasks tasks) path ≡ Some task → is_ready_phase task.phase ≡ true → is_ready (task_at (sorted_tasks tasks) path) ≡ true
     ready_some path task e r = rw e r
 
-    tells : (q : List ℕ) → list_any (is_at (path_cmp q)) (keys_of readies.entries) ≡ list_any (is_at (path_cmp q)) (ready_paths (in_order tasks))
-    tells q = by (list_any (is_at (path_cmp q)) (keys_of readies.entries)) (is_ready (task_at (in_order tasks) q)) refl refl ∙ sym (any_ready q (in_order tasks) table_sorted)
+    tells : (q : List ℕ) → list_any (is_at (path_cmp q)) (keys_of readies.entries) ≡ list_any (is_at (path_cmp q)) (ready_paths (sorted_tasks tasks))
+    tells q = by (list_any (is_at (path_cmp q)) (keys_of readies.entries)) (is_ready (task_at (sorted_tasks tasks) q)) refl refl ∙ sym (any_ready q (sorted_tasks tasks) table_sorted)
       where
-        by : (a b : Bool) → list_any (is_at (path_cmp q)) (keys_of readies.entries) ≡ a → is_ready (task_at (in_order tasks) q) ≡ b → a ≡ b
+        by : (a b : Bool) → list_any (is_at (path_cmp q)) (keys_of readies.entries) ≡ a → is_ready (task_at (sorted_tasks tasks) q) ≡ b → a ≡ b
         by true true x y = refl
         by false false x y = refl
         by true false x y =
@@ -151,10 +151,10 @@ ready_by_index cells tasks readies distinct sorted holds has =
             let r = ready_some q t.0 (at_number tasks f.0 q t.0 distinct t.1) t.2 in absurd (cc)
         by false true x y = let f = has q y in let k = any_key q readies.entries f.0 f.1 in absurd (cc)
 
-    same : keys_of readies.entries ≡ ready_paths (in_order tasks)
-    same = btree_set_from_contains nat_list_cmp_total (record { keys = keys_of readies.entries }) (record { keys = ready_paths (in_order tasks) }) sorted (sorted_ready (in_order tasks) table_sorted) tells exact_bytes
+    same : keys_of readies.entries ≡ ready_paths (sorted_tasks tasks)
+    same = btree_set_from_contains nat_list_cmp_total (record { keys = keys_of readies.entries }) (record { keys = ready_paths (sorted_tasks tasks) }) sorted (sorted_ready (sorted_tasks tasks) table_sorted) tells exact_bytes
 
-    index : (i : ℕ) (path : List ℕ) (number : ℕ) → slice_get readies.entries i ≡ Some (path, number) → (task : Task) × (slice_get tasks number ≡ Some (path, task)) × (task_at (in_order tasks) path ≡ Some task)
+    index : (i : ℕ) (path : List ℕ) (number : ℕ) → slice_get readies.entries i ≡ Some (path, number) → (task : Task) × (slice_get tasks number ≡ Some (path, task)) × (task_at (sorted_tasks tasks) path ≡ Some task)
     index i path number at =
         let t = holds path number (btree_map_get_place nat_list_cmp_total readies i path number sorted at) in
         (t.0, t.1, at_number tasks number path t.0 distinct t.1)

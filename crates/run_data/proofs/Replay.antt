@@ -1,5 +1,5 @@
 -- The instants of a run give the cells of its simulation.
-use Rattle.std.proofs.Common.{◌≡◌, ℕ, ◌+◌, ◌-◌, ◌<◌, ◌≤◌, nat_eq, nat_le, nat_lt, Bool, true, false, ◌||◌, if◌then◌else◌, List, [], ◌∷◌, ◌++◌, length, Option, Some, None, slice_set, refl, sym, ap, ◌∙◌, append_assoc, subst, arith}
+use Rattle.std.proofs.Common.{◌≡◌, ℕ, ◌+◌, ◌-◌, ◌<◌, ◌≤◌, nat_eq, nat_le, nat_lt, Bool, true, false, ◌||◌, if◌then◌else◌, List, [], ◌∷◌, ◌++◌, length, Option, Some, None, is_some, slice_set, refl, sym, ap, ◌∙◌, append_assoc, subst, arith}
 use Rattle.std.specs.List.{list_any}
 use Rattle.std.proofs.lemmas.Bool.{false≢true, eq-eqb}
 use Rattle.aerie_base.specs.declared.models.model.Parts.{Parts}
@@ -13,7 +13,7 @@ use Rattle.effect_cells.specs.Worth.{worth_of}
 use Rattle.run_data.specs.declared.jobs.Job.{Job}
 use Rattle.run_data.specs.declared.runs.Instant.{Instant}
 use Rattle.run_data.specs.declared.runs.Run.{Run}
-use Rattle.run_data.specs.Batches.{Batch, limit, failed, committed, batch, judged as judged_batch, when_within, when_no_fault, unless_out, is_there, touched_from, Blame, least_fault, tree_of, cost_of}
+use Rattle.run_data.specs.Batches.{Batch, limit, failed, committed, batch, judged as judged_batch, when_within, when_no_fault, unless_out, touched_from, Blame, least_fault, tree_of, cost_of}
 use Rattle.run_data.specs.Transitions.{Next, more, finished, begins, onward}
 use Rattle.run_data.specs.Frames.{Made, Making, made_by_all}
 use Rattle.run_data.specs.Fresh.{SimulationState, start, states_from, instant_at, settled, next_by, woken_or_moved, moved, to_time, to_end, after_outcome, least_due, below, IsReached}
@@ -82,12 +82,12 @@ or_true : (here : Bool) → (here || true) ≡ true
 or_true true = refl
 or_true false = refl
 
-touches : (from : ℕ) (tree : Tree) (cells : List CellState) (cell : ℕ) → from ≤ cell → cell < from + length cells → is_there (worth_of tree cell) ≡ true → is_in cell (touched_from from tree cells) ≡ true
+touches : (from : ℕ) (tree : Tree) (cells : List CellState) (cell : ℕ) → from ≤ cell → cell < from + length cells → is_some (worth_of tree cell) ≡ true → is_in cell (touched_from from tree cells) ≡ true
 touches from tree [] cell above under h = absurd (omega arith)
 touches from tree (state ∷ rest) cell above under h = by (nat_eq cell from) refl (λ later. touches (from + 1) tree rest cell later (omega arith) h)
   where
-    here_true : cell ≡ from → is_there (worth_of tree from) ≡ true
-    here_true e = ap (λ c. is_there (worth_of tree c)) (sym e) ∙ h
+    here_true : cell ≡ from → is_some (worth_of tree from) ≡ true
+    here_true e = ap (λ c. is_some (worth_of tree c)) (sym e) ∙ h
 
     elsewhere : (there : Bool) → is_in cell (touched_from (from + 1) tree rest) ≡ true →
         is_in cell (if there then from ∷ touched_from (from + 1) tree rest else touched_from (from + 1) tree rest) ≡ true
@@ -101,14 +101,14 @@ touches from tree (state ∷ rest) cell above under h = by (nat_eq cell from) re
         ∙ ap (λ b. b || is_in cell (touched_from (from + 1) tree rest)) e
     by false e further =
         let other : cell ≡ from → ⊥ = (λ same. false≢true (sym e ∙ eq-eqb cell from same)) in
-        elsewhere (is_there (worth_of tree from)) (further (omega (arith, other)))
+        elsewhere (is_some (worth_of tree from)) (further (omega (arith, other)))
 
 not_there : (tree : Tree) (cells : List CellState) (cell : ℕ) → cell < length cells → is_in cell (touched_from 0 tree cells) ≡ false → worth_of tree cell ≡ None
 not_there tree cells cell less out = by (worth_of tree cell) refl
   where
     by : (worth : Option Effect) → worth_of tree cell ≡ worth → worth ≡ None
     by None e = refl
-    by (Some effect) e = absurd (false≢true (sym out ∙ touches 0 tree cells cell (omega arith) (omega arith) (ap is_there e)))
+    by (Some effect) e = absurd (false≢true (sym out ∙ touches 0 tree cells cell (omega arith) (omega arith) (ap is_some e)))
 
 changes_elsewhere : (from : ℕ) (touched further : List ℕ) (on : ℕ → Option Effect) (cells states : List CellState) →
     ((cell : ℕ) → cell < from + length states → is_in cell further ≡ false → on cell ≡ None) → SameElsewhere from touched cells states →

@@ -8,11 +8,11 @@ use Rattle.aerie_base.specs.declared.statements.Stmt.TheOpen.{Stmt-F}
 use Rattle.aerie_base.specs.declared.models.Activity.{Activity}
 use Rattle.aerie_base.specs.declared.models.model.Parts.{Parts}
 use Rattle.aerie_base.specs.declared.expressions.Expr.{Expr}
-use Rattle.aerie_base.specs.expressions.Arithmetic.{Outcome, value_kind, number_in, truth_in}
+use Rattle.aerie_base.specs.expressions.Arithmetic.{ValueOrFault, value_kind, number_in, truth_in}
 use Rattle.aerie_base.specs.expressions.Evaluation.{Evaluated}
 use Rattle.aerie_base.specs.expressions.Soundness.{Gives, sound}
 use Rattle.aerie_base.specs.models.Activities.{is_return, is_return_step}
-use Rattle.aerie_base.specs.models.Signatures.{result_of}
+use Rattle.aerie_base.specs.models.Signatures.{activity_result}
 use Rattle.aerie_base.specs.models.Cells.{read_kind}
 use Rattle.aerie_base.specs.models.ValidModel.{valid_model}
 use Rattle.aerie_base.specs.statements.Places.{Placed, placed, left, block_size, simple_step}
@@ -24,7 +24,7 @@ use Rattle.run_data.specs.declared.jobs.Job.{Job}
 use Rattle.run_data.specs.Frames.{job_step}
 use Rattle.run_data.specs.StepStates.{StepState, after_items, starting, seen, valued, with_flags, paid}
 use Rattle.run_data.specs.Jobs.{is_state_of, AreCellsOf}
-use Rattle.run_data.specs.Steps.{Turn, onward, ended, act, with_evaluated, valued_all, emission_expr, delay_of, behind, Stepped, after, after_test, perform, steps}
+use Rattle.run_data.specs.Steps.{Turn, onward, ended, act, with_evaluated, valued_all, emission_expr, delay_of, state_behind, Stepped, after, after_test, perform, steps}
 use Rattle.run_data.specs.TaskStates.{body_of, activity_body}
 use Rattle.run_data.specs.Typed.{AreLeft, kind_here}
 use Rattle.run_data.specs.laws.Typing.{body_result}
@@ -81,7 +81,7 @@ module _ (model : Parts) (valid : IsTrue (valid_model model)) (kind : BodyId) wh
   value_has : (so_far : StepState) (expr : Expr) (of : Kind) (value : Value) → AreCellsOf model (after_items so_far.view so_far.items) →
       kind_here so_far.locals (read_kind model.cells) expr ≡ Some of → (valued so_far expr).0 ≡ Ok value → value_kind value ≡ of
   value_has so_far expr of value cells e is =
-      subst (λ (o : Outcome). Gives of o) is
+      subst (λ (o : ValueOrFault). Gives of o) is
       (sound expr so_far.locals (read_kind model.cells) (seen so_far.view so_far.items) so_far.read_flags of (seen_readings model so_far.view so_far.items cells) e)
 
   delay_under : (by : ℤ) (next : TaskState) → IsUnderWay model next → EndsAsDeclared model kind (delay_of by next)
@@ -113,7 +113,7 @@ module _ (model : Parts) (valid : IsTrue (valid_model model)) (kind : BodyId) wh
     turn_ends (Stmt-F.Emit cell what) e fit on simple = any_turn Ended so_far (valued so_far (emission_expr what)) _ (λ fault read_flags. tt) (λ value read_flags is. tt)
     turn_ends (Stmt-F.Delay expr) e fit on simple =
         any_turn Ended so_far (valued so_far expr) _ (λ fault read_flags. tt)
-        (λ value read_flags is. delay_under (number_in value) (behind kind here.at (with_flags so_far read_flags)) (goes_on (Stmt-F.Delay expr) e refl on.2))
+        (λ value read_flags is. delay_under (number_in value) (state_behind kind here.at (with_flags so_far read_flags)) (goes_on (Stmt-F.Delay expr) e refl on.2))
     turn_ends (Stmt-F.WaitUntil condition) e fit on simple = goes_on (Stmt-F.WaitUntil condition) e refl on.2
     turn_ends (Stmt-F.Spawn child exprs) e fit on simple =
         all_turn Ended (λ result. Unit {0}) so_far (valued_all exprs so_far) _ (all_notes exprs so_far) tt (λ fault read_flags. tt) (λ values read_flags given. tt)
@@ -230,7 +230,7 @@ results_fit model budget job status so_far valid is under e = step_declared mode
 
 -- ---- where an activity begins
 
-begins_by : (model : Parts) (valid : IsTrue (valid_model model)) (kind : ℕ) (found : Option Activity) → slice_get model.activities kind ≡ found → left (activity_body found) 0 ≡ [] → result_of found ≡ None
+begins_by : (model : Parts) (valid : IsTrue (valid_model model)) (kind : ℕ) (found : Option Activity) → slice_get model.activities kind ≡ found → left (activity_body found) 0 ≡ [] → activity_result found ≡ None
 begins_by model valid kind None e none = refl
 begins_by model valid kind (Some activity) e none =
     unless_some activity.result (λ some. first_left activity.body (activity_ends model valid kind activity e some) none)

@@ -20,7 +20,7 @@ use Rattle.run_data.specs.declared.runs.Run.{Run}
 use Rattle.run_data.specs.Batches.{Batch, limit, failed, committed, batch}
 use Rattle.run_data.specs.Endings.{after_batch, gone_on, due_phase, back, has_ended, has_come, result_of, with_result}
 use Rattle.run_data.specs.Transitions.{Next, more, finished, begins, onward}
-use Rattle.run_data.specs.Fresh.{SimulationState, start, next, next_by, woken_or_moved, moved, to_time, to_end, after_outcome, settled, instant_at, least_due, below, IsReached}
+use Rattle.run_data.specs.Fresh.{SimulationState, start, next_state, next_by, woken_or_moved, moved, to_time, to_end, after_outcome, settled, instant_at, least_due, below, IsReached}
 use Rattle.run_data.specs.TaskStates.{activity_begun}
 use Rattle.run_data.specs.Tasks.{TaskPhase, anchored, ready, delayed, waiting, calling, over, Table, task_at, on_each, planned, with_directives, with_daemons, children_made, children_in, after_delay, phase_after, task_after, after_frame, after_frames, ready_jobs, woken, woken_phase, rested, rested_phase}
 use Rattle.run_data.specs.laws.Rising.{RiseAbove, RiseFromStart, AreBefore, InstantsRise, InstantsAreBeforeEnd}
@@ -251,7 +251,7 @@ module _ (model : Parts) (plan : Plan) (bound : ℕ) where
   next_by_well at [] well = judged_well at (ready_jobs at.cells (on_each (woken at.cells) at.table)) refl well
   next_by_well at (job ∷ rest) well = outcome_well at (batch model bound at.spent at.cells (job ∷ rest)) well
 
-  pub next_well : (at : SimulationState) → StandsWell plan at → GoesWell plan (next model plan bound at)
+  pub next_well : (at : SimulationState) → StandsWell plan at → GoesWell plan (next_state model plan bound at)
   next_well at well = next_by_well at (ready_jobs at.cells at.table) well
 
   pub start_well : StandsWell plan (start model plan)

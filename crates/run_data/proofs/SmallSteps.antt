@@ -14,15 +14,15 @@ use Rattle.aerie_base.specs.declared.expressions.Operator.{Operator}
 use Rattle.aerie_base.specs.declared.expressions.Operator.TheVariants as operator
 use Rattle.aerie_base.specs.declared.expressions.Expr.{Expr, Literal, Operand, Not', Negate', Binary', end_of-Expr, more_of-Expr}
 use Rattle.aerie_base.specs.declared.models.EnumType.{EnumType}
-use Rattle.aerie_base.specs.expressions.Arithmetic.{Outcome, number_in, truth_in, ranged, is_zero, combined, decided, negated, denied}
-use Rattle.aerie_base.specs.expressions.Evaluation.{Evaluated, evaluated, then_made, on_value, unless_decided, in_order}
+use Rattle.aerie_base.specs.expressions.Arithmetic.{ValueOrFault, number_in, truth_in, ranged, is_zero, combined, decided, negated, denied}
+use Rattle.aerie_base.specs.expressions.Evaluation.{Evaluated, evaluated, then_made, on_value, unless_decided, left_to_right}
 use Rattle.aerie_base.specs.expressions.Readings.{reading, on_number, rate_ranged}
 use Rattle.aerie_base.specs.models.Expressions.{has_literals}
 use Rattle.run_data.specs.Numbers.{HasNumber}
 use Rattle.run_data.specs.laws.Orders.{EachOf}
 
 -- a value in range, or a fault
-abbrev pub InRange : Outcome → Type 0
+abbrev pub InRange : ValueOrFault → Type 0
 InRange outcome = IfOk outcome HasNumber
 
 at_most : (a b : ℕ) → nat_le a b ≡ true → a ≤ b
@@ -53,7 +53,7 @@ combined_in operator.Times left right = ranged_in (number_in left *ℤ number_in
 combined_in operator.Divide left right = if_divided (is_zero (number_in right)) (int_div (number_in left) (number_in right))
 combined_in operator.Remainder left right = if_divided (is_zero (number_in right)) (int_rem (number_in left) (number_in right))
 
-then_in : (f : Value → Outcome) (outcome : Outcome) → ((value : Value) → InRange (f value)) → InRange (then_made f outcome)
+then_in : (f : Value → ValueOrFault) (outcome : ValueOrFault) → ((value : Value) → InRange (f value)) → InRange (then_made f outcome)
 then_in f (Ok value) h = h value
 then_in f (Err fault) h = tt
 
@@ -80,11 +80,11 @@ unless_in : (o : Operator) (left : Value) (d : Option Value) (go : List Bool →
 unless_in o left None go flags h = then_in (combined o left) (go flags).0 (combined_in o left)
 unless_in o left (Some value) go flags h = h value refl
 
-order_in : (o : Operator) (left : Evaluated) (go : List Bool → Evaluated) → InRange (in_order o left go).0
+order_in : (o : Operator) (left : Evaluated) (go : List Bool → Evaluated) → InRange (left_to_right o left go).0
 order_in o (Ok value, flags) go = unless_in o value (decided o value) go flags (decided_in o value)
 order_in o (Err fault, flags) go = tt
 
-number_read : (f : ℤ → Outcome) (value : Value) → ((number : ℤ) → InRange (f number)) → InRange (on_number f value)
+number_read : (f : ℤ → ValueOrFault) (value : Value) → ((number : ℤ) → InRange (f number)) → InRange (on_number f value)
 number_read f (Int number) h = h number
 number_read f (Truth truth) h = tt
 number_read f (Variant of number) h = tt

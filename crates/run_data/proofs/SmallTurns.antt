@@ -32,7 +32,7 @@ use Rattle.run_data.specs.Jobs.{AreCellsOf}
 use Rattle.run_data.specs.Magnitudes.{effect_magnitude}
 use Rattle.run_data.specs.Numbers.{HasNumber}
 use Rattle.run_data.specs.StepStates.{StepState, after_items, seen, starting, valued, with_flags, paid}
-use Rattle.run_data.specs.Steps.{Turn, onward, ended, act, Stepped, after, after_test, perform, steps, with_evaluated, with_first, first_of, valued_all, emission_expr, effect_of, delay_of, behind}
+use Rattle.run_data.specs.Steps.{Turn, onward, ended, act, Stepped, after, after_test, perform, steps, with_evaluated, with_first, first_of, valued_all, emission_expr, effect_of, delay_of, state_behind}
 use Rattle.run_data.specs.Typed.{AreLeft, kind_here, has_kind, is_typed_stmt, is_typed_emission}
 use Rattle.run_data.specs.laws.Orders.{EachOf}
 use Rattle.run_data.specs.laws.SmallSteps.{IsSmallItem, EndsInRange, IsSmallStep, StepsAreSmall}
@@ -158,7 +158,7 @@ module _ (model : Parts) (valid : IsTrue (valid_model model)) (view : List CellS
     one_more : (more : Item) → IsSmallItem view more → SmallItems (so_far.items ++ more ∷ []) × (length (so_far.items ++ more ∷ []) ≤ length so_far.items + 1)
     one_more more h = (each_more (IsSmallItem view) so_far.items more small h, omega (arith, length-append so_far.items (more ∷ [])))
 
-    delay_small : (by : ℤ) → EndsInRange (delay_of by (behind kind at so_far))
+    delay_small : (by : ℤ) → EndsInRange (delay_of by (state_behind kind at so_far))
     delay_small (pos micros) = numbers
     delay_small (negsuc below) = tt
 
@@ -174,7 +174,7 @@ module _ (model : Parts) (valid : IsTrue (valid_model model)) (view : List CellS
         (numbers, more.0, more.1)))
     act_small (Stmt-F.Delay expr) good typed = delay_turn (valued so_far expr)
       where
-        delay_turn : (result : Evaluated) → Small (with_evaluated so_far result (λ value c. ended (delay_of (number_in value) (behind kind at c)) c))
+        delay_turn : (result : Evaluated) → Small (with_evaluated so_far result (λ value c. ended (delay_of (number_in value) (state_behind kind at c)) c))
         delay_turn (Ok value, flags) = (delay_small (number_in value), small, omega arith)
         delay_turn (Err fault, flags) = faults fault flags
     act_small (Stmt-F.WaitUntil condition) good typed = (numbers, small, omega arith)

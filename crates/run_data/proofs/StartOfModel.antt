@@ -24,7 +24,7 @@ use Rattle.aerie_base.specs.declared.plans.Plan.{Plan}
 use Rattle.aerie_base.specs.expressions.Arithmetic.{value_kind}
 use Rattle.aerie_base.specs.expressions.Readings.{cell_of}
 use Rattle.aerie_base.specs.expressions.Typing.{same_kind}
-use Rattle.aerie_base.specs.models.Cells.{NamedCells, cell_at, counter_kind, register_kind, flag_kind, flow_kind, read_kind, is_cell}
+use Rattle.aerie_base.specs.models.Cells.{NamedCells, cell_start_at, counter_kind, register_kind, flag_kind, flow_kind, read_kind, is_cell}
 use Rattle.aerie_base.specs.models.ValidModel.{valid_model, has_good_cells}
 use Rattle.aerie_base.specs.models.ValidParts.{are_good}
 use Rattle.aerie_base.specs.models.Values.{is_kind, is_value, is_value_of}
@@ -44,7 +44,7 @@ use Rattle.run_data.specs.laws.Orders.{EachOf}
 use Rattle.run_data.proofs.StepEndings.{unset_numbers, begun_goes}
 use Rattle.run_data.specs.Tasks.{TaskPhase, anchored, ready, delayed, waiting, calling, over, Task, Table, task_at, with_task, planned, with_directives, with_daemons, rested}
 use Rattle.run_data.specs.TaskStates.{body_of, activity_begun, daemon_begun, unset}
-use Rattle.run_data.specs.laws.OrderedTables.{InOrder}
+use Rattle.run_data.specs.laws.OrderedTables.{IsOrderedTable}
 use Rattle.run_data.specs.laws.ReachedStates.{MayGoOn, IsPhaseOf, ComesFrom, directive, daemon, IsTableOf}
 use Rattle.run_data.proofs.BodyPlaces.{first_place, its_state}
 use Rattle.run_data.proofs.Children.{HaveKinds, child_begins}
@@ -69,7 +69,7 @@ module _ (model : Parts) where
   IsRoot path = (table : Table) → ComesFrom table path
 
   record IsFirst (table : Table) : Type 0 where
-    order : InOrder table
+    order : IsOrderedTable table
     phases : (path : List ℕ) (task : Task) → task_at table path ≡ Some task → FirstPhase task.phase
     made : (path : List ℕ) (task : Task) → task_at table path ≡ Some task → task.made ≡ 0
     roots : (path : List ℕ) (task : Task) → task_at table path ≡ Some task → (others : Table) → ComesFrom others path
@@ -260,7 +260,7 @@ module _ (model : Parts) (valid : IsTrue (valid_model model)) where
   begun_kind (read.Rate cell) (Some (start.Register kind value)) h = refl
   begun_kind (read.Rate cell) (Some (start.Accumulator volume rate)) h = refl
 
-  read_is : (what : CellRead) (cells : NamedCells) → kind_at what (cell_at cells (cell_of what)) ≡ read_kind cells what
+  read_is : (what : CellRead) (cells : NamedCells) → kind_at what (cell_start_at cells (cell_of what)) ≡ read_kind cells what
   read_is (read.Counter cell) cells = refl
   read_is (read.Register cell) cells = refl
   read_is (read.Conflicted cell) cells = refl
@@ -270,12 +270,12 @@ module _ (model : Parts) (valid : IsTrue (valid_model model)) where
   abbrev begun : NamedCells → List CellState
   begun cells = map (λ cell. first_state cell.1) cells
 
-  begun_at : (cells : NamedCells) (cell : ℕ) → slice_get (begun cells) cell ≡ option_map first_state (cell_at cells cell)
+  begun_at : (cells : NamedCells) (cell : ℕ) → slice_get (begun cells) cell ≡ option_map first_state (cell_start_at cells cell)
   begun_at [] cell = refl
   begun_at (one ∷ rest) zero = refl
   begun_at (one ∷ rest) (suc cell) = begun_at rest cell
 
-  good_at : (cells : NamedCells) (cell : ℕ) → IsTrue (list_all (λ (one : Name × CellStart). is_cell model.enums one.1) cells) → IsGoodStart (cell_at cells cell)
+  good_at : (cells : NamedCells) (cell : ℕ) → IsTrue (list_all (λ (one : Name × CellStart). is_cell model.enums one.1) cells) → IsGoodStart (cell_start_at cells cell)
   good_at [] cell h = tt
   good_at (one ∷ rest) zero h = (both_hold (is_cell model.enums one.1) (list_all (λ (other : Name × CellStart). is_cell model.enums other.1) rest) h).0
   good_at (one ∷ rest) (suc cell) h = good_at rest cell (both_hold (is_cell model.enums one.1) (list_all (λ (other : Name × CellStart). is_cell model.enums other.1) rest) h).1
@@ -288,7 +288,7 @@ module _ (model : Parts) (valid : IsTrue (valid_model model)) where
   start_cells = record {
     count = begun_length model.cells;
     kinds = λ what.
-        ap (state_kind what) (begun_at model.cells (cell_of what)) ∙ begun_kind what (cell_at model.cells (cell_of what)) (good_at model.cells (cell_of what) good_cells)
+        ap (state_kind what) (begun_at model.cells (cell_of what)) ∙ begun_kind what (cell_start_at model.cells (cell_of what)) (good_at model.cells (cell_of what) good_cells)
         ∙ read_is what model.cells;
   }
 

@@ -22,7 +22,7 @@ use Rattle.run_data.specs.declared.frames.Status.TheVariants.{Delayed, Waiting, 
 use Rattle.run_data.specs.StepStates.{StepState, after_items, seen, starting, valued, with_flags, paid, giving}
 use Rattle.run_data.specs.Frames.{job_step}
 use Rattle.run_data.specs.Jobs.{is_state_of, AreCellsOf}
-use Rattle.run_data.specs.Steps.{Turn, onward, ended, Stepped, act, after, after_test, perform, steps, with_evaluated, valued_all, emission_expr, effect_of, delay_of, behind}
+use Rattle.run_data.specs.Steps.{Turn, onward, ended, Stepped, act, after, after_test, perform, steps, with_evaluated, valued_all, emission_expr, effect_of, delay_of, state_behind}
 use Rattle.run_data.specs.Typed.{AreLeft, kind_here, is_typed_stmt, is_typed_emission}
 use Rattle.run_data.specs.declared.jobs.Job.{Job}
 use Rattle.run_data.specs.laws.Typing.{last_child, or_this}
@@ -94,7 +94,7 @@ module _ (model : Parts) (valid : IsTrue (valid_model model)) (kind : BodyId) wh
         effect_more model so_far.items cell (effect_of what value) fit
         (λ others are. (let leaves = emission_leaves model so_far.locals others cell what are typed in leaves.2 value (gives leaves.0 leaves.1)))
 
-    delay_leaves : (by : ℤ) (read_flags : List Bool) → TurnLeaves (ended (delay_of by (behind kind here.at (with_flags so_far read_flags))) (with_flags so_far read_flags))
+    delay_leaves : (by : ℤ) (read_flags : List Bool) → TurnLeaves (ended (delay_of by (state_behind kind here.at (with_flags so_far read_flags))) (with_flags so_far read_flags))
     delay_leaves (pos micros) read_flags = (fit, refl)
     delay_leaves (negsuc below) read_flags = (fit, tt)
 

@@ -18,7 +18,7 @@ use Rattle.aerie_base.specs.expressions.Soundness.{Within}
 use Rattle.aerie_base.specs.expressions.Typing.{same_kind, slot_kinds}
 use Rattle.aerie_base.specs.models.Bodies.{Setting, checked, is_in, kind_in, is_wanted_kind, is_assigned, is_emission, are_arguments, is_invoked, is_returned, behind_call}
 use Rattle.aerie_base.specs.models.Scopes.{Scope, known}
-use Rattle.aerie_base.specs.models.Signatures.{Signature, signature_of, signatures_of, signature_result, result_of, signature_at, result_at}
+use Rattle.aerie_base.specs.models.Signatures.{Signature, signature_of, signatures_of, signature_result, activity_result, signature_at, result_at}
 use Rattle.aerie_base.specs.models.Cells.{read_kind}
 use Rattle.aerie_base.specs.models.Expressions.{is_kind_of}
 use Rattle.aerie_base.specs.models.Conditions.{is_condition}
@@ -85,7 +85,7 @@ module _ (model : Parts) (parameters : ℕ) (result : Option Kind) (scope : Scop
   Fits next (Stmt-F.Spawn kind arguments) = IsTrue (is_typed_child model locals (slice_get model.activities kind) arguments) × (next ≡ scope)
   Fits next (Stmt-F.Call kind arguments into) =
       IsTrue (is_typed_child model locals (slice_get model.activities kind) arguments)
-      × (behind_call into (result_of (slice_get model.activities kind)) scope ≡ Some next)
+      × (behind_call into (activity_result (slice_get model.activities kind)) scope ≡ Some next)
   Fits next (Stmt-F.If test block other) = kind_here locals (read_kind model.cells) test ≡ Some Truth
   Fits next (Stmt-F.While test body) = kind_here locals (read_kind model.cells) test ≡ Some Truth
   Fits next (Stmt-F.Return None) = (result ≡ None) × (next ≡ scope)
@@ -222,8 +222,8 @@ module _ (model : Parts) (parameters : ℕ) (result : Option Kind) (scope : Scop
   fits_typed (Stmt-F.WaitUntil condition) next small fit = fit.0
   fits_typed (Stmt-F.Spawn kind arguments) next small fit = fit.0
   fits_typed (Stmt-F.Call kind arguments into) next small fit =
-      and_holds (is_typed_child model locals (slice_get model.activities kind) arguments) (is_taken locals into (result_of (slice_get model.activities kind)))
-      fit.0 (taken_typed into (result_of (slice_get model.activities kind)) next fit.1 small)
+      and_holds (is_typed_child model locals (slice_get model.activities kind) arguments) (is_taken locals into (activity_result (slice_get model.activities kind)))
+      fit.0 (taken_typed into (activity_result (slice_get model.activities kind)) next fit.1 small)
   fits_typed (Stmt-F.If test block other) next small fit = found_kind (kind_here locals (read_kind model.cells) test) Truth fit
   fits_typed (Stmt-F.While test body) next small fit = found_kind (kind_here locals (read_kind model.cells) test) Truth fit
   fits_typed (Stmt-F.Return None) next small fit = refl

@@ -18,7 +18,7 @@ use Rattle.aerie_base.specs.expressions.Soundness.{Gives, sound}
 use Rattle.aerie_base.specs.expressions.Typing.{same_kind}
 use Rattle.aerie_base.specs.models.Scopes.{Scope, known}
 use Rattle.aerie_base.specs.models.Bodies.{behind_call}
-use Rattle.aerie_base.specs.models.Signatures.{result_of}
+use Rattle.aerie_base.specs.models.Signatures.{activity_result}
 use Rattle.aerie_base.specs.models.Cells.{read_kind}
 use Rattle.aerie_base.specs.models.Expressions.{is_kind_of}
 use Rattle.aerie_base.specs.statements.Places.{Placed}
@@ -180,19 +180,19 @@ module _ (model : Parts) (valid : IsTrue (valid_model model)) (kind : BodyId) (i
   delay_waits (negsuc below) = tt
 
   -- a caller goes on with the result of its callee
-  call_goes : (child : ℕ) (values : List Value) (into : Option ℕ) → behind_call into (result_of (slice_get model.activities child)) scope ≡ Some next →
+  call_goes : (child : ℕ) (values : List Value) (into : Option ℕ) → behind_call into (activity_result (slice_get model.activities child)) scope ≡ Some next →
       Reaches (its_setting model kind is) is.slots (its_scopes model kind is) (its_lefts model kind is) next (here.at + 1) → (result : Option Value) →
       option_map value_kind result ≡ option_and_then (result_kind model) (last_child (so_far.items ++ item.Child child values ∷ [])) →
       IsTrue (is_state_of model (with_result into result StateBehind))
   call_goes child values None e reach result has =
       let same : scope ≡ next = cc in state_on so_far.locals reach count (next_suit (sym same))
   call_goes child values (Some slot) e reach None has =
-      let taken = takes slot (result_of (slice_get model.activities child)) scope next e in
+      let taken = takes slot (activity_result (slice_get model.activities child)) scope next e in
       let nothing : ◌≡◌ {A = Option Kind} None (Some taken.of) =
       has ∙ ap (λ (found : Option ℕ). option_and_then (result_kind model) found) (child_made so_far.items child values) ∙ taken.kind_is in
       absurd (cc)
   call_goes child values (Some slot) e reach (Some value) has =
-      let taken = takes slot (result_of (slice_get model.activities child)) scope next e in
+      let taken = takes slot (activity_result (slice_get model.activities child)) scope next e in
       let its_kind : Some (value_kind value) ≡ Some taken.of =
       has ∙ ap (λ (found : Option ℕ). option_and_then (result_kind model) found) (child_made so_far.items child values) ∙ taken.kind_is in
       let one : value_kind value ≡ taken.of = cc in

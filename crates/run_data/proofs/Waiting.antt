@@ -23,7 +23,7 @@ use Rattle.aerie_base.specs.conditions.Filling.{filled, filled_side, with_cell, 
 use Rattle.aerie_base.specs.conditions.Holding.{local_value}
 use Rattle.aerie_base.specs.expressions.Arithmetic.{value_kind, number_in}
 use Rattle.aerie_base.specs.expressions.Typing.{slot_kinds}
-use Rattle.aerie_base.specs.models.Conditions.{Reads, is_coefficient, is_term, is_linear, side_kind, is_typed_condition, cond_depth, is_condition}
+use Rattle.aerie_base.specs.models.Conditions.{ReadKinds, is_coefficient, is_term, is_linear, side_kind, is_typed_condition, cond_depth, is_condition}
 use Rattle.aerie_base.specs.expressions.Typing.{operand_kind}
 use Rattle.aerie_base.specs.models.Expressions.{is_kind_of}
 use Rattle.aerie_base.specs.models.Limits.{coefficient_limit, depth_limit, term_limit}
@@ -49,7 +49,7 @@ product_small : (a b : ℤ) → unsigned_abs a ≤ coefficient_limit → unsigne
 product_small a b h k =
     subst (λ (n : ℕ). n ≤ coefficient_limit * number_limit) (sym (unsigned_abs-mul a b)) (mul-le (unsigned_abs a) (unsigned_abs b) coefficient_limit number_limit h k)
 
-module _ (enums : List EnumType) (locals : List Value) (kinds : Reads) (numbers : All HasNumber locals) where
+module _ (enums : List EnumType) (locals : List Value) (kinds : ReadKinds) (numbers : All HasNumber locals) where
   -- ---- linear forms
 
   part_small : (operand : Operand) (coefficient : ℤ) → unsigned_abs coefficient ≤ coefficient_limit → IsTrue (is_kind_of (operand_kind (slot_kinds locals) kinds operand) kind.Int) →

@@ -1,5 +1,5 @@
 -- What a batch does: the steps of all ready tasks and of the children that they make, on the same cells.
-use Rattle.std.specs.Prelude.{ℕ, ◌+◌, Bool, true, false, List, [], ◌∷◌, Option, Some, None, if◌then◌else◌, nat_lt}
+use Rattle.std.specs.Prelude.{ℕ, ◌+◌, Bool, true, false, List, [], ◌∷◌, Option, Some, None, is_some, if◌then◌else◌, nat_lt}
 use Rattle.std.specs.declared.cmp.Ordering.{Ordering}
 use Rattle.std.specs.declared.cmp.Ordering.TheVariants.{Less, Equal, Greater}
 use Rattle.aerie_base.specs.declared.faults.Fault.{Fault}
@@ -76,15 +76,11 @@ by_path (frame ∷ rest) = put_by_path frame (by_path rest)
 
 -- ---- cells
 
-abbrev pub is_there : Option Effect → Bool
-is_there None = false
-is_there (Some effect) = true
-
 -- the cells from a number on on which a tree has an effect
 abbrev pub touched_from : ℕ → Tree → List CellState → List ℕ
 touched_from cell tree [] = []
 touched_from cell tree (state ∷ rest) =
-    if is_there (worth_of tree cell) then cell ∷ touched_from (cell + 1) tree rest else touched_from (cell + 1) tree rest
+    if is_some (worth_of tree cell) then cell ∷ touched_from (cell + 1) tree rest else touched_from (cell + 1) tree rest
 
 -- ---- the batch
 

@@ -1,9 +1,10 @@
 -- A fresh run: the simulation of a plan from its start.
-use Rattle.std.specs.Prelude.{ℕ, ◌+◌, ◌-◌, min, List, [], ◌∷◌, ◌++◌, Option, Some, None, if◌then◌else◌, nat_eq, nat_lt}
+use Rattle.std.specs.Prelude.{ℕ, ◌+◌, ◌-◌, List, [], ◌∷◌, ◌++◌, Option, Some, None, if◌then◌else◌, nat_eq, nat_lt}
 use Rattle.std.specs.List.{list_any}
 use Rattle.aerie_base.specs.declared.faults.Fault.TheVariants.{Range}
 use Rattle.aerie_base.specs.declared.models.model.Parts.{Parts}
 use Rattle.aerie_base.specs.declared.plans.Plan.{Plan}
+use Rattle.aerie_base.specs.TimeOrder.{earlier}
 use Rattle.effect_cells.specs.declared.effects.CellState.{CellState}
 use Rattle.effect_cells.specs.Cells.{initial, passed, first_out}
 use Rattle.effect_cells.specs.WakeTimes.{wake_time}
@@ -20,11 +21,6 @@ use Rattle.run_data.specs.Endings.{after_batch}
 use Rattle.run_data.specs.Transitions.{Next, more, finished, Reaches, iterate}
 
 -- ---- the next time
-
-abbrev pub earlier : Option ℕ → Option ℕ → Option ℕ
-earlier None other = other
-earlier (Some time) None = Some time
-earlier (Some time) (Some other) = Some (min time other)
 
 abbrev pub from_now : ℕ → Option ℕ → Option ℕ
 from_now now None = None
@@ -149,12 +145,12 @@ module _ (model : Parts) (plan : Plan) (bound : ℕ) where
   next_by at (job ∷ rest) = after_outcome at (batch model bound at.spent at.cells (job ∷ rest))
 
   -- the next batch of the ready tasks, or the judging of the waiting ones, or the next time
-  abbrev pub next : SimulationState → Next SimulationState Run
-  next at = next_by at (ready_jobs at.cells at.table)
+  abbrev pub next_state : SimulationState → Next SimulationState Run
+  next_state at = next_by at (ready_jobs at.cells at.table)
 
   -- the run stands there at some time
   abbrev pub IsReached : Next SimulationState Run → Type 0
-  IsReached = Reaches SimulationState Run next (start model plan)
+  IsReached = Reaches SimulationState Run next_state (start model plan)
 
   -- this is the fresh run of the plan
   abbrev pub IsFresh : Run → Type 0
@@ -162,4 +158,4 @@ module _ (model : Parts) (plan : Plan) (bound : ℕ) where
 
   -- where the run stands after so many turns
   abbrev pub after_turns : ℕ → Next SimulationState Run
-  after_turns count = iterate SimulationState Run next count (more (start model plan))
+  after_turns count = iterate SimulationState Run next_state count (more (start model plan))

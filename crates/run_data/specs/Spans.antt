@@ -141,10 +141,10 @@ abbrev pub put_span : SpanOf → List SpanOf → List SpanOf
 put_span span [] = span ∷ []
 put_span span (first ∷ rest) = if comes_first span first then span ∷ first ∷ rest else first ∷ put_span span rest
 
-abbrev pub in_order : List SpanOf → List SpanOf
-in_order [] = []
-in_order (span ∷ rest) = put_span span (in_order rest)
+abbrev pub sorted_spans : List SpanOf → List SpanOf
+sorted_spans [] = []
+sorted_spans (span ∷ rest) = put_span span (sorted_spans rest)
 
 -- the spans of a run: one for each activity that began in a settled instant, by start and then by path
 abbrev pub spans_of : Parts → Run → List SpanOf
-spans_of model run = let all = timed run.instants in in_order (spans_from all model [] all)
+spans_of model run = let all = timed run.instants in sorted_spans (spans_from all model [] all)

@@ -78,8 +78,8 @@ abbrev pub with_values : StepState → List Expr → (List Value → StepState �
 with_values so_far exprs go = with_all (valued_all exprs so_far) go
 
 -- the state directly behind a place
-abbrev pub behind : BodyId → ℕ → StepState → TaskState
-behind kind at so_far = record { kind = kind; at = at + 1; locals = so_far.locals }
+abbrev pub state_behind : BodyId → ℕ → StepState → TaskState
+state_behind kind at so_far = record { kind = kind; at = at + 1; locals = so_far.locals }
 
 -- a statement without blocks, at its place
 abbrev pub act : {A : Type 0} → BodyId → ℕ → Stmt-F A → StepState → Turn
@@ -88,13 +88,13 @@ act kind at (Stmt-F.Assign slot expr) so_far = with_value so_far expr (λ value 
 act kind at (Stmt-F.Emit cell what) so_far =
     with_value so_far (emission_expr what) (λ value c. onward (giving c (item.Emit cell (effect_of what value))))
 act kind at (Stmt-F.Delay expr) so_far =
-    with_value so_far expr (λ value c. ended (delay_of (number_in value) (behind kind at c)) c)
+    with_value so_far expr (λ value c. ended (delay_of (number_in value) (state_behind kind at c)) c)
 act kind at (Stmt-F.WaitUntil condition) so_far =
-    ended (Waiting (filled condition so_far.locals) (behind kind at so_far)) so_far
+    ended (Waiting (filled condition so_far.locals) (state_behind kind at so_far)) so_far
 act kind at (Stmt-F.Spawn child exprs) so_far =
     with_values so_far exprs (λ values c. onward (giving c (item.Child child values)))
 act kind at (Stmt-F.Call child exprs into) so_far =
-    with_values so_far exprs (λ values c. ended (Calling into (behind kind at c)) (giving c (item.Child child values)))
+    with_values so_far exprs (λ values c. ended (Calling into (state_behind kind at c)) (giving c (item.Child child values)))
 act kind at (Stmt-F.Return (Some expr)) so_far = with_value so_far expr (λ value c. ended (Done (Some value)) c)
 act kind at (Stmt-F.Return None) so_far = ended (Done None) so_far
 act kind at (Stmt-F.If test block other) so_far = ended (Done None) so_far

@@ -15,9 +15,9 @@ use Rattle.aerie_base.specs.declared.models.model.Parts.{Parts}
 use Rattle.aerie_base.specs.expressions.Typing.{kind_of, slot_kinds}
 use Rattle.aerie_base.specs.statements.Places.{Placed, left}
 use Rattle.aerie_base.specs.models.Bodies.{is_wanted_kind}
-use Rattle.aerie_base.specs.models.Signatures.{result_of}
+use Rattle.aerie_base.specs.models.Signatures.{activity_result}
 use Rattle.aerie_base.specs.models.Cells.{read_kind}
-use Rattle.aerie_base.specs.models.Conditions.{is_condition}
+use Rattle.aerie_base.specs.models.Conditions.{ReadKinds, is_condition}
 use Rattle.aerie_base.specs.models.Expressions.{is_kind_of}
 use Rattle.run_data.specs.declared.tasks.BodyId.{BodyId}
 use Rattle.run_data.specs.TaskStates.{body_of}
@@ -25,20 +25,16 @@ use Rattle.run_data.specs.Jobs.{is_state_of}
 
 -- ---- expressions
 
--- the type of each read of the cells of a model
-abbrev pub Reads : Type 0
-Reads = CellRead → Option Kind
-
 -- the type of an expression, by the locals' values and the types of the reads
-abbrev pub kind_here : List Value → Reads → Expr → Option Kind
+abbrev pub kind_here : List Value → ReadKinds → Expr → Option Kind
 kind_here locals kinds expr = kind_of expr (slot_kinds locals) kinds
 
 -- whether it has a type
-abbrev pub is_typed : List Value → Reads → Expr → Bool
+abbrev pub is_typed : List Value → ReadKinds → Expr → Bool
 is_typed locals kinds expr = is_some (kind_here locals kinds expr)
 
 -- whether it has this type
-abbrev pub has_kind : List Value → Reads → Expr → Kind → Bool
+abbrev pub has_kind : List Value → ReadKinds → Expr → Kind → Bool
 has_kind locals kinds expr kind = is_kind_of (kind_here locals kinds expr) kind
 
 -- ---- what statements evaluate
@@ -90,7 +86,7 @@ is_typed_stmt model locals (Stmt-F.Spawn kind arguments) =
     is_typed_child model locals (slice_get model.activities kind) arguments
 is_typed_stmt model locals (Stmt-F.Call kind arguments into) =
     is_typed_child model locals (slice_get model.activities kind) arguments
-    && is_taken locals into (result_of (slice_get model.activities kind))
+    && is_taken locals into (activity_result (slice_get model.activities kind))
 is_typed_stmt model locals (Stmt-F.If test block other) = has_kind locals (read_kind model.cells) test Truth
 is_typed_stmt model locals (Stmt-F.While test body) = has_kind locals (read_kind model.cells) test Truth
 is_typed_stmt model locals (Stmt-F.Return value) = is_typed_result model locals value

@@ -45,8 +45,8 @@ resource_on cells (Discrete read) = value_on cells read
 resource_on cells (resource.Linear form) = Int (linear_value (value_on cells) [] form)
 
 -- the value of a resource at a time below the run's reach
-abbrev pub value_at : Parts → Run → Resource → ℕ → Value
-value_at model run resource t = resource_on (cells_at model run t) resource
+abbrev pub resource_value : Parts → Run → Resource → ℕ → Value
+resource_value model run resource t = resource_on (cells_at model run t) resource
 
 -- by how much a volume rises each microsecond; a counter does not
 abbrev pub rate_on : List CellState → CellRead → ℤ

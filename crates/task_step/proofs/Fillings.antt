@@ -14,7 +14,7 @@ use Rattle.aerie_base.specs.declared.conditions.Cond.{Cond, Literal, Flag, Same,
 use Rattle.aerie_base.specs.declared.conditions.Cond.TheBlock.{hidden-the_row-Cond-0, shape-the_row-Cond-0}
 use Rattle.aerie_base.specs.declared.models.EnumType.{EnumType}
 use Rattle.aerie_base.specs.conditions.Filling.{with_cell, cell_terms, local_part, local_parts}
-use Rattle.aerie_base.specs.models.Conditions.{Locals, Reads, is_coefficient, is_term, is_linear, is_typed_condition, cond_depth, is_condition}
+use Rattle.aerie_base.specs.models.Conditions.{Locals, ReadKinds, is_coefficient, is_term, is_linear, is_typed_condition, cond_depth, is_condition}
 use Rattle.aerie_base.specs.models.Limits.{term_limit, depth_limit}
 use Rattle.task_step.specs.Fillable.{is_modest_sum, is_fillable}
 use denote.Hole.Carrier.{hidden}
@@ -67,7 +67,7 @@ second_of a b h = grind arith
 both_are : (a b : Bool) → IsTrue a → IsTrue b → IsTrue (a && b)
 both_are a b h k = grind arith
 
-module _ (enums : List EnumType) (locals : Locals) (reads : Reads) where
+module _ (enums : List EnumType) (locals : Locals) (reads : ReadKinds) where
   coefficients_of : (terms : List Term) → IsTrue (list_all (is_term locals reads) terms) → IsTrue (list_all is_coefficient terms)
   coefficients_of [] h = h
   coefficients_of (term ∷ rest) h =

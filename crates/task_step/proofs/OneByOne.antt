@@ -26,7 +26,7 @@ use Rattle.run_data.specs.Steps.{Stepped}
 use Rattle.run_data.specs.TaskStates.{activity_body, daemon_body, body_of}
 use Rattle.run_data.specs.Waves.{with_step, frames_of, unless_spent, wave_of, last_count, RoseAlike}
 use Rattle.run_data.specs.laws.Budgets.{CostIsWithin, SameWithinCost}
-use Rattle.task_step.specs.Directs.{place_of}
+use Rattle.task_step.specs.Directs.{code_place}
 
 -- ---- codes
 
@@ -51,18 +51,18 @@ module _ (model : Parts) (codes : List (List Instruction)) (stands : AreCodesOf 
   of_daemon number None at locals e h = absurd (cc)
   of_daemon number (Some daemon) at locals e h = stands.daemons number daemon e
 
-  code_in : (kind : BodyId) (at : ℕ) (locals : List Value) → IsTrue (is_state_in model kind at locals) → HasCode (place_of model kind) (body_of model kind)
+  code_in : (kind : BodyId) (at : ℕ) (locals : List Value) → IsTrue (is_state_in model kind at locals) → HasCode (code_place model kind) (body_of model kind)
   code_in (body.Activity kind) at locals h = of_activity kind (slice_get model.activities kind) at locals refl h
   code_in (body.Daemon number) at locals h = of_daemon number (slice_get model.daemons number) at locals refl h
 
-  has_code : (state : TaskState) → IsTrue (is_state_of model state) → HasCode (place_of model state.kind) (body_of model state.kind)
+  has_code : (state : TaskState) → IsTrue (is_state_of model state) → HasCode (code_place model state.kind) (body_of model state.kind)
   unfolding is_state_of
   has_code state h = code_in state.kind state.at state.locals h
 
-  pub place_within : (state : TaskState) → IsTrue (is_state_of model state) → place_of model state.kind < length codes
-  place_within state h = let has = has_code state h in slice_get_within codes (place_of model state.kind) has.0 has.1
+  pub place_within : (state : TaskState) → IsTrue (is_state_of model state) → code_place model state.kind < length codes
+  place_within state h = let has = has_code state h in slice_get_within codes (code_place model state.kind) has.0 has.1
 
-  pub code_stands : (state : TaskState) → IsTrue (is_state_of model state) → (at : ℕ) → at ≡ place_of model state.kind → (code : List Instruction) → slice_get codes at ≡ Some code → IsCodeOf (body_of model state.kind) code
+  pub code_stands : (state : TaskState) → IsTrue (is_state_of model state) → (at : ℕ) → at ≡ code_place model state.kind → (code : List Instruction) → slice_get codes at ≡ Some code → IsCodeOf (body_of model state.kind) code
   code_stands state h at here code is =
       let has = has_code state h in
       subst (IsCodeOf (body_of model state.kind)) (value_is has.0 code (sym has.1 ∙ ap (slice_get codes) (sym here) ∙ is)) has.2

@@ -13,9 +13,9 @@ pub record DirectStepper : Type 0 where
   pub codes_at : ℕ
 
 -- where the code of a body stands among a model's codes: those of the daemons behind those of all activity types
-abbrev pub place_of : Parts → BodyId → ℕ
-place_of model (body.Activity kind) = kind
-place_of model (body.Daemon number) = length model.activities + number
+abbrev pub code_place : Parts → BodyId → ℕ
+code_place model (body.Activity kind) = kind
+code_place model (body.Daemon number) = length model.activities + number
 
 -- the cost of a frame, where there is one
 abbrev pub cost_in : Option Frame → ℕ

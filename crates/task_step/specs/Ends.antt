@@ -5,7 +5,7 @@ use Rattle.run_data.specs.declared.frames.Status.TheVariants as status
 use Rattle.run_data.specs.declared.tasks.BodyId.{BodyId}
 use Rattle.run_data.specs.declared.tasks.TaskState.{TaskState}
 use Rattle.run_data.specs.StepStates.{StepState}
-use Rattle.run_data.specs.Steps.{behind}
+use Rattle.run_data.specs.Steps.{state_behind}
 use Rattle.task_step.specs.declared.ends.End.{End}
 use Rattle.task_step.specs.declared.ends.End.TheVariants.{Delayed, Waiting, Calling, Done, Faulted}
 
@@ -19,4 +19,4 @@ status_from (Faulted fault) next = status.Faulted fault
 
 -- the same of a step that ends so at a place of a body
 abbrev pub status_of : End → BodyId → ℕ → StepState → Status
-status_of end kind at so_far = status_from end (behind kind at so_far)
+status_of end kind at so_far = status_from end (state_behind kind at so_far)

@@ -9,12 +9,12 @@ use Rattle.aerie_base.specs.declared.conditions.Cond.TheOpen.{Cond-F}
 use Rattle.aerie_base.specs.declared.models.EnumType.{EnumType}
 use Rattle.aerie_base.specs.conditions.Filling.{filled, filled_step}
 use Rattle.aerie_base.specs.conditions.Recursion.{cond_gives, gives_fold}
-use Rattle.aerie_base.specs.models.Conditions.{Locals, Reads, is_coefficient, is_condition}
+use Rattle.aerie_base.specs.models.Conditions.{Locals, ReadKinds, is_coefficient, is_condition}
 use Rattle.aerie_base.specs.models.Limits.{term_limit}
 
 -- this is a condition of a model, for some types of the locals and of the reads
 abbrev pub IsConditionOfSome : Cond → Type 0
-IsConditionOfSome condition = (enums : List EnumType) × (locals : Locals) × (reads : Reads) × IsTrue (is_condition enums locals reads condition)
+IsConditionOfSome condition = (enums : List EnumType) × (locals : Locals) × (reads : ReadKinds) × IsTrue (is_condition enums locals reads condition)
 
 -- a sum of at most 16 terms with coefficients of at most 10^6, and of a constant of at most 16 numbers
 abbrev pub is_modest_sum : Linear → Bool

@@ -25,7 +25,7 @@ pub record Leads (model : Parts) (code : List Instruction) (kind : BodyId) (at :
   pub same : (budget : ℕ) → steps kind (suc budget) (left (body_of model kind) at) before ≡ steps kind budget (left (body_of model kind) to) behind
 
 -- what a way means: the step goes on, or it ends so
-abbrev pub Goes : Parts → List Instruction → BodyId → ℕ → StepState → Way → StepState → Type 0
-Goes model code kind at before (Onward to) behind = Leads model code kind at before to behind
-Goes model code kind at before (Ended end) behind =
+abbrev pub TakesWay : Parts → List Instruction → BodyId → ℕ → StepState → Way → StepState → Type 0
+TakesWay model code kind at before (Onward to) behind = Leads model code kind at before to behind
+TakesWay model code kind at before (Ended end) behind =
     (budget : ℕ) → steps kind (suc budget) (left (body_of model kind) at) before ≡ Some (status_of end kind at behind, behind)

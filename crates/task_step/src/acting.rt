@@ -9,7 +9,7 @@ ghost use Rattle.run_data.specs.declared.frames.Item.TheVariants.{Emit, Child};
 ghost use Rattle.run_data.specs.declared.frames.Status.TheVariants as status;
 ghost use Rattle.run_data.specs.declared.tasks.BodyId.{BodyId as Body};
 ghost use Rattle.run_data.specs.StepStates.{assigned, giving};
-ghost use Rattle.run_data.specs.Steps.{onward, ended, with_value, with_values, act, behind, delay_of, effect_of, emission_expr};
+ghost use Rattle.run_data.specs.Steps.{onward, ended, with_value, with_values, act, state_behind, delay_of, effect_of, emission_expr};
 ghost use Rattle.task_step.specs.Doable.{HasType, have_types, IsDoable, cells_of};
 ghost use Rattle.task_step.specs.Fillable.{IsConditionOfSome};
 ghost use Rattle.task_step.specs.Moves.{turn_of};
@@ -57,7 +57,7 @@ fn act_emit(cell: u16, what: &Emission, so_far: &mut StepState) -> Result<Option
 /// `delay`
 fn act_delay(expr: &Expr, so_far: &mut StepState) -> End
     requires typed { HasType so_far.old expr.now }
-    ensures { (body : Body) (at : ℕ) → turn_of (Some result) body at so_far.new ≡ with_value so_far.old expr.now (λ value c. ended (delay_of (number_in value) (behind body at c)) c) }
+    ensures { (body : Body) (at : ℕ) → turn_of (Some result) body at so_far.new ≡ with_value so_far.old expr.now (λ value c. ended (delay_of (number_in value) (state_behind body at c)) c) }
 {
     match so_far.value(expr) {
         Err(fault) => End::Faulted(fault),
@@ -68,7 +68,7 @@ fn act_delay(expr: &Expr, so_far: &mut StepState) -> End
 /// `wait until`
 fn act_wait(alloc: Global, condition: &Cond, so_far: &StepState) -> Result<End, OutOfMemory>
     requires { IsConditionOfSome condition.now }
-    ensures { IfOk result (λ end. (body : Body) (at : ℕ) → turn_of (Some end) body at so_far.now ≡ ended (status.Waiting (filled condition.now so_far.now.locals) (behind body at so_far.now)) so_far.now) }
+    ensures { IfOk result (λ end. (body : Body) (at : ℕ) → turn_of (Some end) body at so_far.now ≡ ended (status.Waiting (filled condition.now so_far.now.locals) (state_behind body at so_far.now)) so_far.now) }
 {
     let condition = fill(alloc, condition, so_far.locals())?;
     Ok(End::Waiting(Boxed::new(alloc, condition)?))
@@ -104,7 +104,7 @@ fn act_call(
 ) -> Result<End, OutOfMemory>
     requires typed { IsTrue (have_types so_far.old arguments.now) }
     requires few { length so_far.old.items < most_items }
-    ensures { IfOk result (λ end. (body : Body) (at : ℕ) → turn_of (Some end) body at so_far.new ≡ with_values so_far.old arguments.now (λ values c. ended (status.Calling into (behind body at c)) (giving c (Child child values)))) }
+    ensures { IfOk result (λ end. (body : Body) (at : ℕ) → turn_of (Some end) body at so_far.new ≡ with_values so_far.old arguments.now (λ values c. ended (status.Calling into (state_behind body at c)) (giving c (Child child values)))) }
 {
     match values(alloc, arguments, so_far)? {
         Err(fault) => Ok(End::Faulted(fault)),

@@ -2,7 +2,7 @@
 
 ghost use Rattle.std.specs.Prelude.{◌≡◌, ◌+◌, ◌^◌, ◌<◌, ℕ};
 ghost use Rattle.aerie_base.specs.expressions.Arithmetic.{number_in};
-ghost use Rattle.run_data.specs.Steps.{delay_of, behind};
+ghost use Rattle.run_data.specs.Steps.{delay_of, state_behind};
 ghost use Rattle.run_data.specs.StepStates.{StepState};
 ghost use Rattle.run_data.specs.declared.tasks.BodyId.{BodyId as Body};
 ghost use Rattle.task_step.specs.Ends.{status_from, status_of};
@@ -28,7 +28,7 @@ pub(crate) enum End {
 
 /// How a delay by a value ends the step: a negative delay is a fault.
 pub(crate) fn delay_of(value: &Value) -> End
-    ensures { (kind : Body) (at : ℕ) (so_far : StepState) → status_of result kind at so_far ≡ delay_of (number_in value.now) (behind kind at so_far) }
+    ensures { (kind : Body) (at : ℕ) (so_far : StepState) → status_of result kind at so_far ≡ delay_of (number_in value.now) (state_behind kind at so_far) }
 {
     match Number::new(number_in(value)) {
         Some(by) => {

@@ -9,7 +9,7 @@ ghost use Rattle.run_data.specs.Frames.{job_frame};
 ghost use Rattle.run_data.specs.Jobs.{IsJobOf, is_state_of};
 ghost use Rattle.run_data.specs.TaskStates.{body_of};
 ghost use Rattle.run_data.specs.Waves.{wave_of, last_count, IsFrugal, RoseAlike};
-ghost use Rattle.task_step.specs.Directs.{place_of, cost_in};
+ghost use Rattle.task_step.specs.Directs.{code_place, cost_in};
 
 use crate::running::run_step;
 use crate::step_end::StepEnd;
@@ -22,8 +22,8 @@ use std::sync::ledger::Ledger;
 
 /// The place of a body's code among a model's codes.
 fn place(model: &Model, body: BodyId) -> usize
-    requires { place_of model.now body < 2 ^ 63 }
-    ensures { result ≡ place_of model.now body }
+    requires { code_place model.now body < 2 ^ 63 }
+    ensures { result ≡ code_place model.now body }
 {
     match body {
         BodyId::Activity(kind) => usize::from(kind),

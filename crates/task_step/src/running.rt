@@ -14,7 +14,7 @@ ghost use Rattle.task_step.specs.Doable.{cells_of};
 ghost use Rattle.task_step.specs.Ends.{status_of};
 ghost use Rattle.task_step.specs.Moves.{is_end, is_jump, is_work};
 ghost use Rattle.task_step.specs.OwnCells.{most_items};
-ghost use Rattle.task_step.specs.Ways.{Goes};
+ghost use Rattle.task_step.specs.Ways.{TakesWay};
 ghost use Rattle.task_step.specs.declared.step_end.StepEnd.TheVariants.{Fuel};
 
 use crate::acting::act;
@@ -79,7 +79,7 @@ fn take(
     requires cells { AreCellsOf model.now (cells_of so_far.old) }
     requires few { length so_far.old.items < most_items }
     requires cheap { so_far.old.cost < most_items }
-    ensures { IfOk result (λ way. Goes model.now code.now kind at so_far.old way so_far.new) }
+    ensures { IfOk result (λ way. TakesWay model.now code.now kind at so_far.old way so_far.new) }
 {
     statements_are_typed();
     so_far.pay();

@@ -232,7 +232,7 @@ fn step(
 
 /// What a test tells of a step.
 #[derive(Clone, Copy, Debug, PartialEq, Eq)]
-enum Seen {
+enum SeenStep {
     /// It costs more than it may.
     Spent,
     /// It delays by so much, and goes on at a place.
@@ -245,20 +245,20 @@ enum Seen {
     Other,
 }
 
-fn seen_of(status: &Status) -> Seen {
+fn seen_of(status: &Status) -> SeenStep {
     match status {
-        Status::Delayed { by, next } => Seen::Delayed(by.get(), next.at),
+        Status::Delayed { by, next } => SeenStep::Delayed(by.get(), next.at),
         Status::Waiting {
             condition: Cond::Compare { right, .. },
             ..
-        } => Seen::Waiting(right.constant),
-        Status::Faulted(fault) => Seen::Faulted(*fault),
-        _ => Seen::Other,
+        } => SeenStep::Waiting(right.constant),
+        Status::Faulted(fault) => SeenStep::Faulted(*fault),
+        _ => SeenStep::Other,
     }
 }
 
 /// How a step ends, what it costs, and how many cells it read and items it has.
-type Told = (Seen, u64, usize, usize);
+type Told = (SeenStep, u64, usize, usize);
 
 /// The same of a step, whose frame is opened.
 fn told<L: Ledger>(step: Result<Fresh, StepEnd>, steps: &mut Steps<L>) -> Told {
@@ -268,8 +268,8 @@ fn told<L: Ledger>(step: Result<Fresh, StepEnd>, steps: &mut Steps<L>) -> Told {
             let seen = seen_of(&frame.status);
             (seen, frame.cost, frame.reads.len(), frame.items.len())
         }
-        Err(StepEnd::Fuel) => (Seen::Spent, 0, 0, 0),
-        Err(StepEnd::OutOfMemory) => (Seen::Other, 0, 0, 0),
+        Err(StepEnd::Fuel) => (SeenStep::Spent, 0, 0, 0),
+        Err(StepEnd::OutOfMemory) => (SeenStep::Other, 0, 0, 0),
     }
 }
 
@@ -308,13 +308,13 @@ fn runs_each_daemon(rt: HostRuntime) {
     let codes = compile_all(alloc, &model).expect(&rt, "memory");
     let codes = codes.as_slice();
     let expected = [
-        (Seen::Delayed(5, 6), 12, 1, 3),
-        (Seen::Spent, 0, 0, 0),
-        (Seen::Faulted(Fault::Divide), 1, 1, 0),
-        (Seen::Faulted(Fault::NegativeDelay), 2, 0, 0),
-        (Seen::Delayed(0, 2), 2, 0, 0),
-        (Seen::Spent, 0, 0, 0),
-        (Seen::Waiting(7), 2, 0, 0),
+        (SeenStep::Delayed(5, 6), 12, 1, 3),
+        (SeenStep::Spent, 0, 0, 0),
+        (SeenStep::Faulted(Fault::Divide), 1, 1, 0),
+        (SeenStep::Faulted(Fault::NegativeDelay), 2, 0, 0),
+        (SeenStep::Delayed(0, 2), 2, 0, 0),
+        (SeenStep::Spent, 0, 0, 0),
+        (SeenStep::Waiting(7), 2, 0, 0),
     ];
     let told = all_told::<Brand>(Blank::new(1), alloc, &model, codes);
     for at in 0..7 {

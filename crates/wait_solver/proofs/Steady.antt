@@ -19,16 +19,17 @@ use Rattle.aerie_base.specs.declared.conditions.Simple.{Simple}
 use Rattle.aerie_base.specs.declared.conditions.Simple.TheVariants as simple
 use Rattle.aerie_base.specs.declared.conditions.Cond.{Compare}
 use Rattle.aerie_base.specs.declared.conditions.Cond.TheOpen.{Cond-F}
+use Rattle.aerie_base.specs.TimeOrder.{earlier}
 use Rattle.effect_cells.specs.Cells.{passed}
 use Rattle.effect_cells.specs.Reads.{state_value, value_on, kind_on}
 use Rattle.effect_cells.specs.Solvable.{filled_side_kind}
-use Rattle.effect_cells.specs.States.{later}
+use Rattle.effect_cells.specs.States.{state_after}
 use Rattle.effect_cells.specs.WakeTimes.{holds_in}
 use Rattle.effect_cells.specs.declared.effects.CellState.{CellState}
 use Rattle.effect_cells.specs.declared.effects.CellState.TheVariants.{Counter, Register, Volume}
-use Rattle.wait_solver.specs.Lines.{value_at, form_line, gap_from}
+use Rattle.wait_solver.specs.Lines.{line_value, form_line, gap_from}
 use Rattle.wait_solver.specs.Changes.{until_change}
-use Rattle.wait_solver.specs.Outlooks.{IsBefore, earlier}
+use Rattle.wait_solver.specs.Outlooks.{IsBefore}
 use Rattle.wait_solver.specs.declared.lines.Line.{Line}
 use Rattle.wait_solver.proofs.FormLaws.{form_at}
 use Rattle.wait_solver.proofs.Products.{difference_times}
@@ -36,7 +37,7 @@ use Rattle.wait_solver.proofs.Signs.{answer, sign_of, compared_by_sign, keeps_si
 
 -- ---- what stands while time passes
 
-truth_stands : (read : CellRead) (state : Option CellState) (dt : ℕ) → truth_in (state_value read (option_map (later dt) state)) ≡ truth_in (state_value read state)
+truth_stands : (read : CellRead) (state : Option CellState) (dt : ℕ) → truth_in (state_value read (option_map (state_after dt) state)) ≡ truth_in (state_value read state)
 truth_stands (read.Counter cell) None dt = refl
 truth_stands (read.Counter cell) (Some (Counter number)) dt = refl
 truth_stands (read.Counter cell) (Some (Register value conflicted)) dt = refl
@@ -58,7 +59,7 @@ truth_stands (read.Rate cell) (Some (Counter number)) dt = refl
 truth_stands (read.Rate cell) (Some (Register value conflicted)) dt = refl
 truth_stands (read.Rate cell) (Some (Volume volume rate)) dt = refl
 
-register_stands : (cell : ℕ) (state : Option CellState) (dt : ℕ) → state_value (read.Register cell) (option_map (later dt) state) ≡ state_value (read.Register cell) state
+register_stands : (cell : ℕ) (state : Option CellState) (dt : ℕ) → state_value (read.Register cell) (option_map (state_after dt) state) ≡ state_value (read.Register cell) state
 register_stands cell None dt = refl
 register_stands cell (Some (Counter number)) dt = refl
 register_stands cell (Some (Register value conflicted)) dt = refl
@@ -67,7 +68,7 @@ register_stands cell (Some (Volume volume rate)) dt = refl
 module _ (cells : List CellState) where
   pub flag_stands : (operand : Operand) (dt : ℕ) → truth_in (operand_value (value_on (passed cells dt)) [] operand) ≡ truth_in (operand_value (value_on cells) [] operand)
   flag_stands (Read read) dt =
-      ap (λ (state : Option CellState). truth_in (state_value read state)) (slice_get-map (later dt) cells (cell_of read))
+      ap (λ (state : Option CellState). truth_in (state_value read state)) (slice_get-map (state_after dt) cells (cell_of read))
       ∙ truth_stands read (slice_get cells (cell_of read)) dt
   flag_stands (Local slot) dt = refl
 
@@ -75,7 +76,7 @@ module _ (cells : List CellState) where
   pub side_stands : (side : Simple) (dt : ℕ) → IsSome (filled_side_kind (kind_on cells) side) → side_value (value_on (passed cells dt)) [] side ≡ side_value (value_on cells) [] side
   side_stands (simple.Literal value) dt typed = refl
   side_stands (simple.Operand (Read (read.Register cell))) dt typed =
-      ap (state_value (read.Register cell)) (slice_get-map (later dt) cells cell) ∙ register_stands cell (slice_get cells cell) dt
+      ap (state_value (read.Register cell)) (slice_get-map (state_after dt) cells cell) ∙ register_stands cell (slice_get cells cell) dt
   side_stands (simple.Operand (Read (read.Counter cell))) dt typed = absurd (cc)
   side_stands (simple.Operand (Read (read.Conflicted cell))) dt typed = absurd (cc)
   side_stands (simple.Operand (Read (read.Volume cell))) dt typed = absurd (cc)
@@ -84,16 +85,16 @@ module _ (cells : List CellState) where
 
 -- ---- comparisons
 
-gap_at : (a b : Line) (dt n : ℕ) → value_at a (dt + n) -ℤ value_at b (dt + n) ≡ (gap_from dt a b).value +ℤ (gap_from dt a b).rate *ℤ pos n
+gap_at : (a b : Line) (dt n : ℕ) → line_value a (dt + n) -ℤ line_value b (dt + n) ≡ (gap_from dt a b).value +ℤ (gap_from dt a b).rate *ℤ pos n
 gap_at a b dt n = let spread = difference_times a.rate b.rate n in omega (arith, ints, spread)
 
 compared_alike : (how : Comparison) (a b : Line) (dt n : ℕ) → IsBefore n (until_change (gap_from dt a b)) →
-    compared how (value_at a (dt + n)) (value_at b (dt + n)) ≡ compared how (value_at a dt) (value_at b dt)
+    compared how (line_value a (dt + n)) (line_value b (dt + n)) ≡ compared how (line_value a dt) (line_value b dt)
 compared_alike how a b dt n before =
-    compared_by_sign how (value_at a (dt + n)) (value_at b (dt + n))
+    compared_by_sign how (line_value a (dt + n)) (line_value b (dt + n))
     ∙ ap (λ (d : ℤ). answer how (sign_of d)) (gap_at a b dt n)
     ∙ ap (answer how) (keeps_sign (gap_from dt a b).value (gap_from dt a b).rate n before)
-    ∙ sym (compared_by_sign how (value_at a dt) (value_at b dt))
+    ∙ sym (compared_by_sign how (line_value a dt) (line_value b dt))
 
 pub before_left : (n : ℕ) (a b : Option ℕ) → IsBefore n (earlier a b) → IsBefore n a
 before_left n None b h = tt

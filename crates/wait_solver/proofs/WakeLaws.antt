@@ -8,7 +8,7 @@ use Rattle.effect_cells.specs.declared.effects.CellState.{CellState}
 use Rattle.effect_cells.specs.declared.effects.CellState.TheVariants.{Counter, Register, Volume}
 use Rattle.effect_cells.specs.States.{volume_of}
 use Rattle.effect_cells.specs.SumLaws.{flowed_zero}
-use Rattle.wait_solver.specs.Outlooks.{IsBefore, Tells}
+use Rattle.wait_solver.specs.Outlooks.{IsBefore, IsOutlookOf}
 use Rattle.wait_solver.specs.declared.outlooks.Outlook.{Outlook}
 
 -- the condition holds at no time before this one
@@ -24,14 +24,14 @@ module _ (cells : List CellState) (condition : Cond) where
   past_the_limit limit dt past none = none_is (holds_in cells condition) 0 limit (λ n from below. none n (omega arith))
 
   -- at no time before the end of an outlook by which it does not hold
-  pub none_further : (dt n : ℕ) (outlook : Outlook) (stays : Option ℕ) → Tells cells condition dt outlook → outlook.holds ≡ false → outlook.stays ≡ stays → dt ≤ n →
+  pub none_further : (dt n : ℕ) (outlook : Outlook) (stays : Option ℕ) → IsOutlookOf cells condition dt outlook → outlook.holds ≡ false → outlook.stays ≡ stays → dt ≤ n →
       IsBefore (n - dt) stays → holds_in cells condition n ≡ false
   none_further dt n outlook stays tells fails is from before =
       let same : dt + (n - dt) ≡ n = omega arith in
       let stands : holds_in cells condition (dt + (n - dt)) ≡ false = tells.on (n - dt) (rw is before) ∙ fails in
       rw same at stands
 
-  pub none_before_the_change : (dt change : ℕ) (outlook : Outlook) → Tells cells condition dt outlook → outlook.holds ≡ false → NoneBefore cells condition dt →
+  pub none_before_the_change : (dt change : ℕ) (outlook : Outlook) → IsOutlookOf cells condition dt outlook → outlook.holds ≡ false → NoneBefore cells condition dt →
       outlook.stays ≡ Some change → NoneBefore cells condition (dt + change)
   none_before_the_change dt change outlook tells fails none is n below = go (nat_le dt n) refl
     where
@@ -39,7 +39,7 @@ module _ (cells : List CellState) (condition : Cond) where
       go true e = none_further dt n outlook (Some change) tells fails is (grind arith) (let from : dt ≤ n = grind arith in omega arith)
       go false e = none n (grind arith)
 
-  pub none_ever : (limit dt : ℕ) (outlook : Outlook) → Tells cells condition dt outlook → outlook.holds ≡ false → NoneBefore cells condition dt →
+  pub none_ever : (limit dt : ℕ) (outlook : Outlook) → IsOutlookOf cells condition dt outlook → outlook.holds ≡ false → NoneBefore cells condition dt →
       outlook.stays ≡ None → wake_time cells condition limit ≡ None
   none_ever limit dt outlook tells fails none is = none_is (holds_in cells condition) 0 limit (λ n from below. each n)
     where

@@ -14,16 +14,16 @@ use Rattle.effect_cells.specs.declared.effects.CellState.TheVariants.{Volume}
 use Rattle.wait_solver.specs.declared.lines.Line.{Line}
 
 -- the number so many microseconds from now
-abbrev pub value_at : Line → ℕ → ℤ
-value_at line dt = line.value +ℤ line.rate *ℤ pos dt
+abbrev pub line_value : Line → ℕ → ℤ
+line_value line dt = line.value +ℤ line.rate *ℤ pos dt
 
 -- a number that stands
 abbrev pub still : ℤ → Line
 still number = record { value = number; rate = pos 0 }
 
 -- the sum of two
-abbrev pub sum_of : Line → Line → Line
-sum_of a b = record { value = a.value +ℤ b.value; rate = a.rate +ℤ b.rate }
+abbrev pub sum_of_lines : Line → Line → Line
+sum_of_lines a b = record { value = a.value +ℤ b.value; rate = a.rate +ℤ b.rate }
 
 -- so many times the number
 abbrev pub scaled : ℤ → Line → Line
@@ -44,15 +44,15 @@ term_line cells term = scaled term.coefficient (operand_line cells term.operand)
 
 abbrev pub terms_line : List CellState → List Term → Line
 terms_line cells [] = still (pos 0)
-terms_line cells (term ∷ rest) = sum_of (term_line cells term) (terms_line cells rest)
+terms_line cells (term ∷ rest) = sum_of_lines (term_line cells term) (terms_line cells rest)
 
 -- a linear form
 abbrev pub form_line : List CellState → Linear → Line
-form_line cells form = sum_of (terms_line cells form.terms) (still form.constant)
+form_line cells form = sum_of_lines (terms_line cells form.terms) (still form.constant)
 
 -- how far the first is above the second, from so many microseconds on
 abbrev pub gap_from : ℕ → Line → Line → Line
-gap_from dt a b = record { value = value_at a dt -ℤ value_at b dt; rate = a.rate -ℤ b.rate }
+gap_from dt a b = record { value = line_value a dt -ℤ line_value b dt; rate = a.rate -ℤ b.rate }
 
 -- the magnitudes of the value and of the rate are at most these
 abbrev pub IsWithin : ℕ → ℕ → Line → Type 0
@@ -61,7 +61,7 @@ IsWithin value rate line = (unsigned_abs line.value ≤ value) × (unsigned_abs 
 -- ---- worked cases
 
 -- 5 and 3 more each microsecond
-pub after_four : value_at (record { value = pos 5; rate = pos 3 }) 4 ≡ pos 17
+pub after_four : line_value (record { value = pos 5; rate = pos 3 }) 4 ≡ pos 17
 after_four = refl
 
 pub twice_a_volume : term_line (Volume (pos 5) (pos 3) ∷ []) (record { coefficient = pos 2; operand = Read (read.Volume 0) }) ≡ record { value = pos 10; rate = pos 6 }

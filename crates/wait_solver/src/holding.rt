@@ -14,8 +14,8 @@ ghost use Rattle.aerie_base.specs.models.Expressions.{is_kind_of};
 ghost use Rattle.effect_cells.specs.Cells.{AreInRange};
 ghost use Rattle.effect_cells.specs.Reads.{kind_on, state_kind, value_on, state_value};
 ghost use Rattle.effect_cells.specs.Solvable.{no_locals, is_form_for, filled_side_kind, may_be_solved, may_be_solved_by_fold};
-ghost use Rattle.wait_solver.specs.Lines.{value_at, IsWithin};
-ghost use Rattle.wait_solver.specs.Outlooks.{IsSoon, Tells};
+ghost use Rattle.wait_solver.specs.Lines.{line_value, IsWithin};
+ghost use Rattle.wait_solver.specs.Outlooks.{IsSoon, IsOutlookOf};
 
 use crate::changes::until_change;
 use crate::forms::form_line;
@@ -95,7 +95,7 @@ fn compares_at(left: Line, how: Comparison, right: Line, dt: u128) -> bool
     requires left { IsWithin (2 ^ 101) (2 ^ 64) left }
     requires right { IsWithin (2 ^ 101) (2 ^ 64) right }
     requires time { IsTime dt }
-    ensures { result ≡ compared how (value_at left dt) (value_at right dt) }
+    ensures { result ≡ compared how (line_value left dt) (line_value right dt) }
 {
     how.holds(left.at(dt), right.at(dt))
 }
@@ -106,7 +106,7 @@ fn comparison(left: &Linear, how: Comparison, right: &Linear, cells: &Cells, dt:
     requires time { IsTime dt }
     requires left { IsTrue (is_form_for (kind_on cells.now) left.now) }
     requires right { IsTrue (is_form_for (kind_on cells.now) right.now) }
-    ensures tells { Tells cells.now (Compare left.now how right.now) dt result }
+    ensures tells { IsOutlookOf cells.now (Compare left.now how right.now) dt result }
     ensures soon { IsSoon result.stays }
 {
     let left = form_line(left, cells);
@@ -122,7 +122,7 @@ pub(crate) fn outlook(condition: &Cond, cells: &Cells, dt: u128) -> Outlook
     requires range { AreInRange cells.now }
     requires time { IsTime dt }
     requires condition { IsTrue (may_be_solved (kind_on cells.now) condition.now) }
-    ensures tells { Tells cells.now condition.now dt result }
+    ensures tells { IsOutlookOf cells.now condition.now dt result }
     ensures soon { IsSoon result.stays }
 {
     outlook_by_fold(condition, cells, dt)
@@ -133,7 +133,7 @@ fn outlook_by_fold(condition: &Cond, cells: &Cells, dt: u128) -> Outlook
     requires range { AreInRange cells.now }
     requires time { IsTime dt }
     requires condition { IsTrue (may_be_solved_by_fold (kind_on cells.now) condition.now) }
-    ensures tells { Tells cells.now condition.now dt result }
+    ensures tells { IsOutlookOf cells.now condition.now dt result }
     ensures soon { IsSoon result.stays }
 {
     match condition {

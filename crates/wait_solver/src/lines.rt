@@ -2,7 +2,7 @@
 
 ghost use Rattle.std.specs.Prelude.{◌≡◌, ◌≤◌, ◌<◌, ◌+◌, ◌*◌, ◌^◌, ◌-ℤ◌, ◌*ℤ◌, unsigned_abs};
 ghost use Rattle.aerie_base.specs.Ranges.{IsTime, number_limit, rate_limit};
-ghost use Rattle.wait_solver.specs.Lines.{value_at, still, sum_of, scaled, gap_from, IsWithin};
+ghost use Rattle.wait_solver.specs.Lines.{line_value, still, sum_of_lines, scaled, gap_from, IsWithin};
 
 /// A number that changes at a constant rate.
 #[derive(Clone, Copy, Debug)]
@@ -28,7 +28,7 @@ impl Line {
     pub(crate) fn plus(self, other: Line) -> Line
         requires value { unsigned_abs self.value + unsigned_abs other.value < 2 ^ 120 }
         requires rate { unsigned_abs self.rate + unsigned_abs other.rate < 2 ^ 120 }
-        ensures sum { result ≡ sum_of self other }
+        ensures sum { result ≡ sum_of_lines self other }
         ensures value { unsigned_abs result.value ≤ unsigned_abs self.value + unsigned_abs other.value }
         ensures rate { unsigned_abs result.rate ≤ unsigned_abs self.rate + unsigned_abs other.rate }
     {
@@ -56,7 +56,7 @@ impl Line {
     pub(crate) fn at(self, dt: u128) -> i128
         requires small { IsWithin (2 ^ 101) (2 ^ 64) self }
         requires time { IsTime dt }
-        ensures value { result ≡ value_at self dt }
+        ensures value { result ≡ line_value self dt }
         ensures small { unsigned_abs result ≤ 2 ^ 115 }
     {
         self.value + self.rate * dt as i128

@@ -1,7 +1,8 @@
 //! What a condition answers at a time, and how long at least it answers so.
 
 ghost use Rattle.std.specs.Prelude.{◌≡◌, ◌≤◌, ◌<◌, ◌^◌, None, IfSome};
-ghost use Rattle.wait_solver.specs.Outlooks.{earlier, later, negated, of_both, of_either, IsSoon};
+ghost use Rattle.aerie_base.specs.TimeOrder.{earlier, later};
+ghost use Rattle.wait_solver.specs.Outlooks.{of_negation, of_conjunction, of_disjunction, IsSoon};
 
 /// What a condition answers at a time, and for how many microseconds at least it answers the same from then on.
 #[derive(Clone, Copy, Debug)]
@@ -52,7 +53,7 @@ pub(crate) fn standing(holds: bool) -> Outlook
 /// The opposite answer, for as long.
 pub(crate) fn negated(part: Outlook) -> Outlook
     requires { IsSoon part.stays }
-    ensures value { result ≡ negated part }
+    ensures value { result ≡ of_negation part }
     ensures soon { IsSoon result.stays }
 {
     Outlook {
@@ -66,7 +67,7 @@ pub(crate) fn negated(part: Outlook) -> Outlook
 pub(crate) fn of_both(left: Outlook, right: Outlook) -> Outlook
     requires left { IsSoon left.stays }
     requires right { IsSoon right.stays }
-    ensures value { result ≡ of_both left right }
+    ensures value { result ≡ of_conjunction left right }
     ensures soon { IsSoon result.stays }
 {
     match (left.holds, right.holds) {
@@ -87,7 +88,7 @@ pub(crate) fn of_both(left: Outlook, right: Outlook) -> Outlook
 pub(crate) fn of_either(left: Outlook, right: Outlook) -> Outlook
     requires left { IsSoon left.stays }
     requires right { IsSoon right.stays }
-    ensures value { result ≡ of_either left right }
+    ensures value { result ≡ of_disjunction left right }
     ensures soon { IsSoon result.stays }
 {
     match (left.holds, right.holds) {

@@ -7,7 +7,7 @@ use Rattle.aerie_base.specs.declared.expressions.Comparison.{Comparison}
 use Rattle.windows.specs.Times.{Interval, covers, contains, AreIntervals}
 use Rattle.windows.specs.Joining.{last_start}
 use Rattle.aerie_base.specs.expressions.Arithmetic.{compared}
-use Rattle.windows.specs.Linear.{segment_value, value_at, first_start, Follow, AreSegments, IsSum}
+use Rattle.windows.specs.Linear.{segment_value, segments_value, first_start, Follow, AreSegments, IsSum}
 use Rattle.windows.specs.declared.segments.Segment.{Segment}
 use Rattle.windows.specs.Crossing.{JoinsWhere}
 use Rattle.windows.proofs.Builds.{Builds, builds_all}
@@ -32,19 +32,19 @@ or_false false = refl
 
 -- from the first segment on that is the comparison of the value
 compared_at : (reach : ℕ) (how : Comparison) (with : ℤ) (segments : List Segment) (t : ℕ) → Follow reach segments → first_start reach segments ≤ t → t < reach →
-    some_compared reach how with segments t ≡ compared how (value_at segments t) with
+    some_compared reach how with segments t ≡ compared how (segments_value segments t) with
 compared_at reach how with [] t follow after below = absurd (omega arith)
 compared_at reach how with (segment ∷ []) t follow after below =
     let here : covers (segment.from, reach) t ≡ true = grind (arith, common_steps) in
     ap (λ b. (b && compared how (segment_value segment t) with) || false) here ∙ or_false (compared how (segment_value segment t) with)
 compared_at reach how with (segment ∷ next ∷ rest) t follow after below = by_next (nat_le next.from t) refl (λ later. compared_at reach how with (next ∷ rest) t follow.2 later below)
   where
-    by_next : (b : Bool) → nat_le next.from t ≡ b → (next.from ≤ t → some_compared reach how with (next ∷ rest) t ≡ compared how (value_at (next ∷ rest) t) with) →
-        some_compared reach how with (segment ∷ next ∷ rest) t ≡ compared how (value_at (segment ∷ next ∷ rest) t) with
+    by_next : (b : Bool) → nat_le next.from t ≡ b → (next.from ≤ t → some_compared reach how with (next ∷ rest) t ≡ compared how (segments_value (next ∷ rest) t) with) →
+        some_compared reach how with (segment ∷ next ∷ rest) t ≡ compared how (segments_value (segment ∷ next ∷ rest) t) with
     by_next true e later =
         let passed : covers (segment.from, next.from) t ≡ false = grind (arith, common_steps) in
         ap (λ b. (b && compared how (segment_value segment t) with) || some_compared reach how with (next ∷ rest) t) passed
-        ∙ (later (grind arith) ∙ ap (λ b. compared how (cond b (value_at (next ∷ rest) t) (segment_value segment t)) with) (sym e))
+        ∙ (later (grind arith) ∙ ap (λ b. compared how (cond b (segments_value (next ∷ rest) t) (segment_value segment t)) with) (sym e))
     by_next false e later =
         let before : t < next.from = grind arith in
         let here : covers (segment.from, next.from) t ≡ true = grind (arith, common_steps) in
@@ -52,7 +52,7 @@ compared_at reach how with (segment ∷ next ∷ rest) t follow after below = by
         ap (λ b. (b && compared how (segment_value segment t) with) || some_compared reach how with (next ∷ rest) t) here
         ∙ (ap (λ b. compared how (segment_value segment t) with || b) none
         ∙ (or_false (compared how (segment_value segment t) with)
-        ∙ ap (λ b. compared how (cond b (value_at (next ∷ rest) t) (segment_value segment t)) with) (sym e)))
+        ∙ ap (λ b. compared how (cond b (segments_value (next ∷ rest) t) (segment_value segment t)) with) (sym e)))
 
 -- what the loop keeps
 pub record Follows (reach : ℕ) (how : Comparison) (with : ℤ) (made : List Interval) (rest : List Segment) (whole : ℕ → Bool) : Type 0 where
@@ -64,7 +64,7 @@ start_within : (reach : ℕ) (segments : List Segment) → Follow reach segments
 start_within reach [] follow = omega arith
 start_within reach (segment ∷ rest) follow = let next = follow.0 in let later = start_within reach rest follow.2 in omega arith
 
-pub follows_none : (reach : ℕ) (how : Comparison) (with : ℤ) (segments : List Segment) → AreSegments reach segments → Follows reach how with [] segments (λ t. compared how (value_at segments t) with)
+pub follows_none : (reach : ℕ) (how : Comparison) (with : ℤ) (segments : List Segment) → AreSegments reach segments → Follows reach how with [] segments (λ t. compared how (segments_value segments t) with)
 follows_none reach how with segments are = record {
   builds = record {
     in_order = tt;
@@ -118,8 +118,8 @@ follows_more reach i how with made new segments segment end whole within is end_
 
 -- no segment is left
 pub follows_all : (reach i : ℕ) (how : Comparison) (with same : ℤ) (made : List Interval) (segments : List Segment) → length segments ≤ i → with ≡ same →
-    Follows reach how with made (drop i segments) (λ t. compared how (value_at segments t) with) → AreIntervals reach (λ t. compared how (value_at segments t) same) made
+    Follows reach how with made (drop i segments) (λ t. compared how (segments_value segments t) with) → AreIntervals reach (λ t. compared how (segments_value segments t) same) made
 follows_all reach i how with same made segments past is before =
-    subst (λ (z : ℤ). AreIntervals reach (λ t. compared how (value_at segments t) z) made) is
-    (builds_all reach made (some_compared reach how with (drop i segments)) (λ t. compared how (value_at segments t) with) before.builds
+    subst (λ (z : ℤ). AreIntervals reach (λ t. compared how (segments_value segments t) z) made) is
+    (builds_all reach made (some_compared reach how with (drop i segments)) (λ t. compared how (segments_value segments t) with) before.builds
     (λ t below. ap (λ (l : List Segment). some_compared reach how with l t) (drop_all i segments past)))

@@ -10,10 +10,10 @@ abbrev pub segment_value : Segment → ℕ → ℤ
 segment_value segment t = segment.value +ℤ segment.rate *ℤ pos (t - segment.from)
 
 -- the value at a time: that of the last segment which begins no later
-abbrev pub value_at : List Segment → ℕ → ℤ
-value_at [] t = pos 0
-value_at (segment ∷ []) t = segment_value segment t
-value_at (segment ∷ next ∷ rest) t = cond (nat_le next.from t) (value_at (next ∷ rest) t) (segment_value segment t)
+abbrev pub segments_value : List Segment → ℕ → ℤ
+segments_value [] t = pos 0
+segments_value (segment ∷ []) t = segment_value segment t
+segments_value (segment ∷ next ∷ rest) t = cond (nat_le next.from t) (segments_value (next ∷ rest) t) (segment_value segment t)
 
 -- so far from 0 at most, and not so far: 2^120
 abbrev pub IsSum : ℤ → Type 0
@@ -49,30 +49,30 @@ abbrev falling : List Segment
 falling = (record { from = 0; value = pos 100; rate = negsuc 1 }) ∷ []
 
 -- 3 with each microsecond: 9 after 3 and 12 after 4, so at least 10 from 4 on
-pub risen : value_at rising 4 ≡ pos 12
+pub risen : segments_value rising 4 ≡ pos 12
 risen = refl
 
-pub not_yet : compared AtLeast (value_at rising 3) (pos 10) ≡ false
+pub not_yet : compared AtLeast (segments_value rising 3) (pos 10) ≡ false
 not_yet = refl
 
-pub from_then_on : compared AtLeast (value_at rising 4) (pos 10) ≡ true
+pub from_then_on : compared AtLeast (segments_value rising 4) (pos 10) ≡ true
 from_then_on = refl
 
 -- a segment ends where the next one begins
-pub last_of_a_stair : value_at stairs 14 ≡ pos 3
+pub last_of_a_stair : segments_value stairs 14 ≡ pos 3
 last_of_a_stair = refl
 
-pub first_of_the_next : value_at stairs 15 ≡ pos 6
+pub first_of_the_next : segments_value stairs 15 ≡ pos 6
 first_of_the_next = refl
 
-pub fallen : value_at falling 48 ≡ pos 4
+pub fallen : segments_value falling 48 ≡ pos 4
 fallen = refl
 
-pub below_zero : compared Less (value_at falling 51) (pos 0) ≡ true
+pub below_zero : compared Less (segments_value falling 51) (pos 0) ≡ true
 below_zero = refl
 
-pub met_exactly : compared Equal (value_at falling 50) (pos 0) ≡ true
+pub met_exactly : compared Equal (segments_value falling 50) (pos 0) ≡ true
 met_exactly = refl
 
-pub met_not_exactly : compared Unequal (value_at rising 3) (pos 10) ≡ true
+pub met_not_exactly : compared Unequal (segments_value rising 3) (pos 10) ≡ true
 met_not_exactly = refl

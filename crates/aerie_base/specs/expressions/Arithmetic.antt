@@ -15,8 +15,8 @@ use Rattle.aerie_base.specs.declared.expressions.Operator.{Operator}
 use Rattle.aerie_base.specs.declared.expressions.Operator.TheVariants as operator
 
 -- a value, or the fault in its place
-abbrev pub Outcome : Type 0
-Outcome = Result Value Fault
+abbrev pub ValueOrFault : Type 0
+ValueOrFault = Result Value Fault
 
 -- the type of a value
 abbrev pub value_kind : Value → Kind
@@ -37,7 +37,7 @@ truth_in (Truth truth) = truth
 truth_in (Variant of number) = false
 
 -- a whole number as a value, and Range where it is none of a model
-abbrev pub ranged : ℤ → Outcome
+abbrev pub ranged : ℤ → ValueOrFault
 ranged number = if is_number number then Ok (Int number) else Err Range
 
 -- whether a comparison holds between two whole numbers
@@ -79,12 +79,12 @@ abbrev pub is_zero : ℤ → Bool
 is_zero number = nat_eq (unsigned_abs number) 0
 
 -- the number where the divisor is not 0
-abbrev pub divided : ℤ → ℤ → Outcome
+abbrev pub divided : ℤ → ℤ → ValueOrFault
 divided divisor number = if is_zero divisor then Err Divide else ranged number
 
 -- what an operator makes of the values of its two sides. Division truncates toward zero, and the remainder has the
 -- sign of the dividend.
-abbrev pub combined : Operator → Value → Value → Outcome
+abbrev pub combined : Operator → Value → Value → ValueOrFault
 combined operator.Or left right = Ok (Truth (truth_in left || truth_in right))
 combined operator.And left right = Ok (Truth (truth_in left && truth_in right))
 combined (operator.Compare how) left right = Ok (Truth (compares how left right))
@@ -105,8 +105,8 @@ decided operator.Times left = None
 decided operator.Divide left = None
 decided operator.Remainder left = None
 
-abbrev pub negated : Value → Outcome
+abbrev pub negated : Value → ValueOrFault
 negated value = ranged (neg_ℤ (number_in value))
 
-abbrev pub denied : Value → Outcome
+abbrev pub denied : Value → ValueOrFault
 denied value = Ok (Truth (not (truth_in value)))

@@ -1,6 +1,6 @@
 -- Worked cases of values, faults, types and read flags.
 use Rattle.std.specs.Prelude.{◌≡◌, ℕ, ℤ, pos, negsuc, Bool, true, false, List, [], ◌∷◌, map, Option, Some, None, Ok, Err, refl}
-use Rattle.aerie_base.specs.expressions.Arithmetic.{Outcome}
+use Rattle.aerie_base.specs.expressions.Arithmetic.{ValueOrFault}
 use Rattle.aerie_base.specs.expressions.Recursion.{node_not, node_negate, node_binary}
 use Rattle.aerie_base.specs.expressions.Evaluation.{evaluated}
 use Rattle.aerie_base.specs.expressions.Typing.{kind_of, slot_kinds}
@@ -33,7 +33,7 @@ values (Rate cell) = Int (negsuc 1_000_000_000_000)
 nothing_read : List Bool
 nothing_read = false ∷ false ∷ false ∷ []
 
-abbrev outcome : Expr → Outcome
+abbrev outcome : Expr → ValueOrFault
 outcome expr = (evaluated expr locals values nothing_read).0
 
 abbrev read_flags : Expr → List Bool
@@ -113,7 +113,7 @@ remainders : map outcome (
 unfolding evaluated
 remainders = refl
 
-abbrev answers : List Bool → List Outcome
+abbrev answers : List Bool → List ValueOrFault
 answers truths = map (λ value. Ok (Truth value)) truths
 
 comparisons : (map outcome (compared (slot 0) (slot 1)) ≡ answers (false ∷ true ∷ false ∷ false ∷ true ∷ true ∷ []))

@@ -4,9 +4,9 @@
 -- cells. Flags only rise.
 use Rattle.std.specs.Prelude.{◌≡◌, ℕ, zero, suc, Bool, true, List, [], ◌∷◌, length, get_or, Option, Some, None, Ok, Err}
 use mathlib.Core.Path.{refl, ap, ◌∙◌}
-use Rattle.aerie_base.specs.expressions.Arithmetic.{Outcome, combined, decided, negated, denied}
+use Rattle.aerie_base.specs.expressions.Arithmetic.{ValueOrFault, combined, decided, negated, denied}
 use Rattle.aerie_base.specs.expressions.Readings.{reading, cell_of, also}
-use Rattle.aerie_base.specs.expressions.Evaluation.{Evaluated, evaluated, then_made, on_value, unless_decided, in_order}
+use Rattle.aerie_base.specs.expressions.Evaluation.{Evaluated, evaluated, then_made, on_value, unless_decided, left_to_right}
 use Rattle.aerie_base.specs.declared.values.Value.{Value}
 use Rattle.aerie_base.specs.declared.operands.CellRead.{CellRead}
 use Rattle.aerie_base.specs.declared.operands.Operand.TheVariants.{Read, Local}
@@ -64,7 +64,7 @@ unless_grows : (d : Option Value) (go : List Bool → Evaluated) (read_flags : L
 unless_grows None go read_flags h = h
 unless_grows (Some value) go read_flags h = unchanged read_flags
 
-order_grows : (o : Operator) (left : Evaluated) (go : List Bool → Evaluated) → ((read_flags : List Bool) → Grows read_flags (go read_flags).1) → Grows left.1 (in_order o left go).1
+order_grows : (o : Operator) (left : Evaluated) (go : List Bool → Evaluated) → ((read_flags : List Bool) → Grows read_flags (go read_flags).1) → Grows left.1 (left_to_right o left go).1
 order_grows o (Ok value, read_flags) go h = unless_grows (decided o value) _ read_flags (h read_flags)
 order_grows o (Err fault, read_flags) go h = unchanged read_flags
 
@@ -81,7 +81,7 @@ grows (Binary' o s (more_of-Expr left end_of-Expr) t (more_of-Expr right end_of-
 
 -- ---- what the outcome depends on
 
-unless_same : (d : Option Value) (f : Value → Outcome) (go other_go : List Bool → Evaluated) (read_flags : List Bool) (values other : CellRead → Value) →
+unless_same : (d : Option Value) (f : Value → ValueOrFault) (go other_go : List Bool → Evaluated) (read_flags : List Bool) (values other : CellRead → Value) →
     (Agree (go read_flags).1 values other → other_go read_flags ≡ go read_flags) →
     Agree (unless_decided d (λ then_read. on_value f (go then_read)) read_flags).1 values other →
     unless_decided d (λ then_read. on_value f (other_go then_read)) read_flags ≡ unless_decided d (λ then_read. on_value f (go then_read)) read_flags
@@ -90,7 +90,7 @@ unless_same (Some value) f go other_go read_flags values other h agree = refl
 
 order_same : (o : Operator) (left : Evaluated) (go other_go : List Bool → Evaluated) (values other : CellRead → Value) →
     ((read_flags : List Bool) → Agree (go read_flags).1 values other → other_go read_flags ≡ go read_flags) →
-    Agree (in_order o left go).1 values other → in_order o left other_go ≡ in_order o left go
+    Agree (left_to_right o left go).1 values other → left_to_right o left other_go ≡ left_to_right o left go
 order_same o (Ok value, read_flags) go other_go values other h agree =
     unless_same (decided o value) (combined o value) go other_go read_flags values other (h read_flags) agree
 order_same o (Err fault, read_flags) go other_go values other h agree = refl
@@ -108,7 +108,7 @@ depends (Not' s (more_of-Expr inner end_of-Expr)) locals values other read_flags
 depends (Negate' s (more_of-Expr inner end_of-Expr)) locals values other read_flags agree =
     ap (on_value negated) (depends inner locals values other read_flags agree)
 depends (Binary' o s (more_of-Expr left end_of-Expr) t (more_of-Expr right end_of-Expr)) locals values other read_flags agree =
-    ap (λ first. in_order o first (evaluated right locals other))
+    ap (λ first. left_to_right o first (evaluated right locals other))
     (depends left locals values other read_flags
     (agree_before values other
     (order_grows o (evaluated left locals values read_flags) (evaluated right locals values) (grows right locals values)) agree))
@@ -117,17 +117,17 @@ depends (Binary' o s (more_of-Expr left end_of-Expr) t (more_of-Expr right end_o
 
 -- ---- the outcome does not depend on which cells were read before
 
-unless_apart : (d : Option Value) (f : Value → Outcome) (go : List Bool → Evaluated) (read_flags other : List Bool) → (go other).0 ≡ (go read_flags).0 →
+unless_apart : (d : Option Value) (f : Value → ValueOrFault) (go : List Bool → Evaluated) (read_flags other : List Bool) → (go other).0 ≡ (go read_flags).0 →
     (unless_decided d (λ then_read. on_value f (go then_read)) other).0 ≡ (unless_decided d (λ then_read. on_value f (go then_read)) read_flags).0
 unless_apart None f go read_flags other h = ap (then_made f) h
 unless_apart (Some value) f go read_flags other h = refl
 
 order_apart : (o : Operator) (left other : Evaluated) (go : List Bool → Evaluated) → ((read_flags other : List Bool) → (go other).0 ≡ (go read_flags).0) →
-    other.0 ≡ left.0 → (in_order o other go).0 ≡ (in_order o left go).0
+    other.0 ≡ left.0 → (left_to_right o other go).0 ≡ (left_to_right o left go).0
 order_apart o (outcome, read_flags) (again, other) go h e =
-    ap (λ first. (in_order o (first, other) go).0) e ∙ same_first outcome
+    ap (λ first. (left_to_right o (first, other) go).0) e ∙ same_first outcome
   where
-    same_first : (first : Outcome) → (in_order o (first, other) go).0 ≡ (in_order o (first, read_flags) go).0
+    same_first : (first : ValueOrFault) → (left_to_right o (first, other) go).0 ≡ (left_to_right o (first, read_flags) go).0
     same_first (Ok value) = unless_apart (decided o value) (combined o value) go read_flags other (h read_flags other)
     same_first (Err fault) = refl
 

@@ -1,6 +1,6 @@
 -- The value of an expression, or its first fault, and which cells were read for it.
 use Rattle.std.specs.Prelude.{◌≡◌, pos, Bool, List, Option, Some, None, Ok, Err, slice_index_or}
-use Rattle.aerie_base.specs.expressions.Arithmetic.{Outcome, combined, decided, negated, denied}
+use Rattle.aerie_base.specs.expressions.Arithmetic.{ValueOrFault, combined, decided, negated, denied}
 use Rattle.aerie_base.specs.expressions.Readings.{reading, cell_of, also}
 use Rattle.aerie_base.specs.expressions.Recursion.{expr_gives, gives_fold}
 use Rattle.aerie_base.specs.declared.values.Value.{Value}
@@ -15,7 +15,7 @@ use Rattle.aerie_base.specs.declared.expressions.Expr.TheOpen.{Expr-F}
 
 -- the outcome, and for each cell whether it was read so far
 abbrev pub Evaluated : Type 0
-Evaluated = Outcome × List Bool
+Evaluated = ValueOrFault × List Bool
 
 -- what an expression means: by the values of the locals, the value of each read (or a number out of its range) and the
 -- cells read before, the outcome and the cells read by then
@@ -23,11 +23,11 @@ abbrev pub Meaning : Type 0
 Meaning = List Value → (CellRead → Value) → List Bool → Evaluated
 
 -- a value goes on, and a fault stays
-abbrev pub then_made : (Value → Outcome) → Outcome → Outcome
+abbrev pub then_made : (Value → ValueOrFault) → ValueOrFault → ValueOrFault
 then_made f (Ok value) = f value
 then_made f (Err fault) = Err fault
 
-abbrev pub on_value : (Value → Outcome) → Evaluated → Evaluated
+abbrev pub on_value : (Value → ValueOrFault) → Evaluated → Evaluated
 on_value f result = (then_made f result.0, result.1)
 
 abbrev pub unless_decided : Option Value → (List Bool → Evaluated) → List Bool → Evaluated
@@ -35,10 +35,10 @@ unless_decided None go read_flags = go read_flags
 unless_decided (Some value) go read_flags = (Ok value, read_flags)
 
 -- the left side, then the right side where the left is no fault and does not decide, then the operation
-abbrev pub in_order : Operator → Evaluated → (List Bool → Evaluated) → Evaluated
-in_order operator (Ok left, read_flags) go =
+abbrev pub left_to_right : Operator → Evaluated → (List Bool → Evaluated) → Evaluated
+left_to_right operator (Ok left, read_flags) go =
     unless_decided (decided operator left) (λ then_read. on_value (combined operator left) (go then_read)) read_flags
-in_order operator (Err fault, read_flags) go = (Err fault, read_flags)
+left_to_right operator (Err fault, read_flags) go = (Err fault, read_flags)
 
 -- a local gives the value in its slot (where there is none, it would be Int 0), and a read of a cell sets its flag
 abbrev pub of_operand : Operand → Meaning
@@ -52,7 +52,7 @@ layer (Expr-F.Operand operand) locals values read_flags = of_operand operand loc
 layer (Expr-F.Not inner) locals values read_flags = on_value denied (inner locals values read_flags)
 layer (Expr-F.Negate inner) locals values read_flags = on_value negated (inner locals values read_flags)
 layer (Expr-F.Binary operator left right) locals values read_flags =
-    in_order operator (left locals values read_flags) (right locals values)
+    left_to_right operator (left locals values read_flags) (right locals values)
 
 -- the same by the fold, which does not compute
 abbrev pub evaluated_by_fold : Expr → Meaning

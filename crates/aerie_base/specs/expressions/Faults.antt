@@ -2,9 +2,9 @@
 use Rattle.std.specs.Prelude.{ℤ, ◌+ℤ◌, ◌-ℤ◌, ◌*ℤ◌, neg_ℤ, Bool, true, false, List, Option, Some, None, Ok, Err, IfErr, IsTrue, if◌then◌else◌}
 use Rattle.std.specs.Int.RustNames.{int_div, int_rem}
 use mathlib.Core.Path.{refl}
-use Rattle.aerie_base.specs.expressions.Arithmetic.{Outcome, number_in, ranged, is_zero, combined, decided, negated, denied}
+use Rattle.aerie_base.specs.expressions.Arithmetic.{ValueOrFault, number_in, ranged, is_zero, combined, decided, negated, denied}
 use Rattle.aerie_base.specs.expressions.Readings.{reading, on_number, rate_ranged}
-use Rattle.aerie_base.specs.expressions.Evaluation.{Evaluated, evaluated, then_made, on_value, unless_decided, in_order}
+use Rattle.aerie_base.specs.expressions.Evaluation.{Evaluated, evaluated, then_made, on_value, unless_decided, left_to_right}
 use Rattle.aerie_base.specs.Ranges.{is_number, is_rate}
 use Rattle.aerie_base.specs.declared.values.Value.{Value}
 use Rattle.aerie_base.specs.declared.values.Value.TheVariants.{Int, Truth, Variant}
@@ -25,7 +25,7 @@ is_of_expression NegativeDelay = false
 is_of_expression TooDeep = false
 
 -- a value, or one of these faults
-abbrev pub MayFault : Outcome → Type 0
+abbrev pub MayFault : ValueOrFault → Type 0
 MayFault outcome = IfErr outcome (λ fault. IsTrue (is_of_expression fault))
 
 if_in_range_faults : (b : Bool) (number : ℤ) → MayFault (if b then Ok (Int number) else Err Range)
@@ -49,7 +49,7 @@ combined_faults operator.Times left right = ranged_faults (number_in left *ℤ n
 combined_faults operator.Divide left right = if_divided_faults (is_zero (number_in right)) (int_div (number_in left) (number_in right))
 combined_faults operator.Remainder left right = if_divided_faults (is_zero (number_in right)) (int_rem (number_in left) (number_in right))
 
-then_faults : (f : Value → Outcome) (outcome : Outcome) → ((value : Value) → MayFault (f value)) → MayFault outcome → MayFault (then_made f outcome)
+then_faults : (f : Value → ValueOrFault) (outcome : ValueOrFault) → ((value : Value) → MayFault (f value)) → MayFault outcome → MayFault (then_made f outcome)
 then_faults f (Ok value) h k = h value
 then_faults f (Err fault) h k = k
 
@@ -59,11 +59,11 @@ unless_faults o left None go read_flags h = then_faults (combined o left) (go re
 unless_faults o left (Some value) go read_flags h = tt
 
 order_faults : (o : Operator) (left : Evaluated) (go : List Bool → Evaluated) → MayFault left.0 → ((read_flags : List Bool) → MayFault (go read_flags).0) →
-    MayFault (in_order o left go).0
+    MayFault (left_to_right o left go).0
 order_faults o (Ok value, read_flags) go h k = unless_faults o value (decided o value) go read_flags (k read_flags)
 order_faults o (Err fault, read_flags) go h k = h
 
-on_number_faults : (f : ℤ → Outcome) (value : Value) → ((number : ℤ) → MayFault (f number)) → MayFault (on_number f value)
+on_number_faults : (f : ℤ → ValueOrFault) (value : Value) → ((number : ℤ) → MayFault (f number)) → MayFault (on_number f value)
 on_number_faults f (Int number) h = h number
 on_number_faults f (Truth truth) h = tt
 on_number_faults f (Variant of number) h = tt

@@ -1,7 +1,7 @@
 -- What reading a cell gives, and which cells were read.
 use Rattle.std.specs.Prelude.{◌≡◌, ⊤, ℕ, ℤ, Bool, true, List, Option, Some, Ok, Err, slice_set, if◌then◌else◌}
 use Rattle.aerie_base.specs.Ranges.{is_rate}
-use Rattle.aerie_base.specs.expressions.Arithmetic.{Outcome, ranged, value_kind}
+use Rattle.aerie_base.specs.expressions.Arithmetic.{ValueOrFault, ranged, value_kind}
 use Rattle.aerie_base.specs.declared.values.Kind.{Kind}
 use Rattle.aerie_base.specs.declared.values.Kind.TheVariants as kind
 use Rattle.aerie_base.specs.declared.values.Value.{Value}
@@ -18,16 +18,16 @@ cell_of (Conflicted cell) = cell
 cell_of (Volume cell) = cell
 cell_of (Rate cell) = cell
 
-abbrev pub rate_ranged : ℤ → Outcome
+abbrev pub rate_ranged : ℤ → ValueOrFault
 rate_ranged number = if is_rate number then Ok (Int number) else Err Range
 
-abbrev pub on_number : (ℤ → Outcome) → Value → Outcome
+abbrev pub on_number : (ℤ → ValueOrFault) → Value → ValueOrFault
 on_number f (Int number) = f number
 on_number f (Truth truth) = Ok (Truth truth)
 on_number f (Variant of number) = Ok (Variant of number)
 
 -- what a read gives of the value that is there: the value, and Range where it is a number out of its range
-abbrev pub reading : CellRead → Value → Outcome
+abbrev pub reading : CellRead → Value → ValueOrFault
 reading (Counter cell) value = on_number ranged value
 reading (Register cell) value = on_number ranged value
 reading (Conflicted cell) value = on_number ranged value

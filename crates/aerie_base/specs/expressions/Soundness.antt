@@ -5,9 +5,9 @@ use Rattle.std.specs.Prelude.{◌≡◌, ℕ, ℤ, ◌+ℤ◌, ◌-ℤ◌, ◌*�
 use Rattle.std.specs.Int.RustNames.{int_div, int_rem}
 use mathlib.Core.Path.{refl, sym, ap, subst, ◌∙◌}
 use mathlib.Core.Bool.{true≢false}
-use Rattle.aerie_base.specs.expressions.Arithmetic.{Outcome, value_kind, number_in, truth_in, ranged, is_zero, combined, decided, negated, denied}
+use Rattle.aerie_base.specs.expressions.Arithmetic.{ValueOrFault, value_kind, number_in, truth_in, ranged, is_zero, combined, decided, negated, denied}
 use Rattle.aerie_base.specs.expressions.Readings.{reading, on_number, rate_ranged, AreReadings}
-use Rattle.aerie_base.specs.expressions.Evaluation.{Evaluated, evaluated, then_made, on_value, unless_decided, in_order}
+use Rattle.aerie_base.specs.expressions.Evaluation.{Evaluated, evaluated, then_made, on_value, unless_decided, left_to_right}
 use Rattle.aerie_base.specs.expressions.Typing.{kind_of, kind_if, same_kind_if, may_compare, same_kind, combined_kind, of_both, slot_kinds}
 use Rattle.aerie_base.specs.Ranges.{is_number, is_rate}
 use Rattle.aerie_base.specs.declared.values.Kind.{Kind}
@@ -23,7 +23,7 @@ use Rattle.aerie_base.specs.declared.expressions.Operator.TheVariants as operato
 use Rattle.aerie_base.specs.declared.expressions.Expr.{Expr, Literal, Operand, Not', Negate', Binary', end_of-Expr, more_of-Expr}
 
 -- a value of this type, or a fault
-abbrev pub Gives : Kind → Outcome → Type 0
+abbrev pub Gives : Kind → ValueOrFault → Type 0
 Gives of outcome = IfOk outcome (λ value. value_kind value ≡ of)
 
 -- ---- none is not some
@@ -41,15 +41,15 @@ the_one x y e = ap (or_else x) e
 -- ---- what the operators give
 
 -- the type of an operator's results
-abbrev pub result_kind : Operator → Kind
-result_kind operator.Or = kind.Truth
-result_kind operator.And = kind.Truth
-result_kind (operator.Compare how) = kind.Truth
-result_kind operator.Plus = kind.Int
-result_kind operator.Minus = kind.Int
-result_kind operator.Times = kind.Int
-result_kind operator.Divide = kind.Int
-result_kind operator.Remainder = kind.Int
+abbrev pub operator_kind : Operator → Kind
+operator_kind operator.Or = kind.Truth
+operator_kind operator.And = kind.Truth
+operator_kind (operator.Compare how) = kind.Truth
+operator_kind operator.Plus = kind.Int
+operator_kind operator.Minus = kind.Int
+operator_kind operator.Times = kind.Int
+operator_kind operator.Divide = kind.Int
+operator_kind operator.Remainder = kind.Int
 
 if_in_range : (b : Bool) (number : ℤ) → Gives kind.Int (if b then Ok (Int number) else Err Range)
 if_in_range true number = refl
@@ -62,7 +62,7 @@ if_divided : (b : Bool) (number : ℤ) → Gives kind.Int (if b then Err Divide 
 if_divided true number = tt
 if_divided false number = ranged_gives number
 
-combined_gives : (o : Operator) (left right : Value) → Gives (result_kind o) (combined o left right)
+combined_gives : (o : Operator) (left right : Value) → Gives (operator_kind o) (combined o left right)
 combined_gives operator.Or left right = refl
 combined_gives operator.And left right = refl
 combined_gives (operator.Compare how) left right = refl
@@ -72,7 +72,7 @@ combined_gives operator.Times left right = ranged_gives (number_in left *ℤ num
 combined_gives operator.Divide left right = if_divided (is_zero (number_in right)) (int_div (number_in left) (number_in right))
 combined_gives operator.Remainder left right = if_divided (is_zero (number_in right)) (int_rem (number_in left) (number_in right))
 
-then_gives : (of : Kind) (f : Value → Outcome) (outcome : Outcome) → ((value : Value) → Gives of (f value)) → Gives of (then_made f outcome)
+then_gives : (of : Kind) (f : Value → ValueOrFault) (outcome : ValueOrFault) → ((value : Value) → Gives of (f value)) → Gives of (then_made f outcome)
 then_gives of f (Ok value) h = h value
 then_gives of f (Err fault) h = tt
 
@@ -84,7 +84,7 @@ if_and : (b : Bool) (value : Value) → (if b then None else Some (Truth false))
 if_and true value e = absurd (nothing value e)
 if_and false value e = sym (ap value_kind (the_one (Truth false) value e))
 
-decided_gives : (o : Operator) (left value : Value) → decided o left ≡ Some value → value_kind value ≡ result_kind o
+decided_gives : (o : Operator) (left value : Value) → decided o left ≡ Some value → value_kind value ≡ operator_kind o
 decided_gives operator.Or left value e = if_or (truth_in left) value e
 decided_gives operator.And left value e = if_and (truth_in left) value e
 decided_gives (operator.Compare how) left value e = absurd (nothing value e)
@@ -95,18 +95,18 @@ decided_gives operator.Divide left value e = absurd (nothing value e)
 decided_gives operator.Remainder left value e = absurd (nothing value e)
 
 unless_gives : (o : Operator) (left : Value) (d : Option Value) (go : List Bool → Evaluated) (read_flags : List Bool) →
-    ((value : Value) → d ≡ Some value → value_kind value ≡ result_kind o) →
-    Gives (result_kind o) (unless_decided d (λ then_read. on_value (combined o left) (go then_read)) read_flags).0
-unless_gives o left None go read_flags h = then_gives (result_kind o) (combined o left) (go read_flags).0 (combined_gives o left)
+    ((value : Value) → d ≡ Some value → value_kind value ≡ operator_kind o) →
+    Gives (operator_kind o) (unless_decided d (λ then_read. on_value (combined o left) (go then_read)) read_flags).0
+unless_gives o left None go read_flags h = then_gives (operator_kind o) (combined o left) (go read_flags).0 (combined_gives o left)
 unless_gives o left (Some value) go read_flags h = h value refl
 
-order_gives : (o : Operator) (left : Evaluated) (go : List Bool → Evaluated) → Gives (result_kind o) (in_order o left go).0
+order_gives : (o : Operator) (left : Evaluated) (go : List Bool → Evaluated) → Gives (operator_kind o) (left_to_right o left go).0
 order_gives o (Ok value, read_flags) go = unless_gives o value (decided o value) go read_flags (decided_gives o value)
 order_gives o (Err fault, read_flags) go = tt
 
 -- ---- what is read
 
-on_number_gives : (f : ℤ → Outcome) (value : Value) → ((number : ℤ) → Gives kind.Int (f number)) → Gives (value_kind value) (on_number f value)
+on_number_gives : (f : ℤ → ValueOrFault) (value : Value) → ((number : ℤ) → Gives kind.Int (f number)) → Gives (value_kind value) (on_number f value)
 on_number_gives f (Int number) h = h number
 on_number_gives f (Truth truth) h = refl
 on_number_gives f (Variant of number) h = refl
@@ -133,7 +133,7 @@ kept_is : (what : Kind) (inner : Option Kind) (of : Kind) → same_kind_if what 
 kept_is what None of e = absurd (nothing of e)
 kept_is what (Some inner) of e = given_is (same_kind inner what) what of e
 
-combined_is : (o : Operator) (left right of : Kind) → combined_kind o left right ≡ Some of → result_kind o ≡ of
+combined_is : (o : Operator) (left right of : Kind) → combined_kind o left right ≡ Some of → operator_kind o ≡ of
 combined_is operator.Or left right of e = given_is (same_kind left kind.Truth && same_kind right kind.Truth) kind.Truth of e
 combined_is operator.And left right of e = given_is (same_kind left kind.Truth && same_kind right kind.Truth) kind.Truth of e
 combined_is (operator.Compare how) left right of e = given_is (may_compare how left right) kind.Truth of e
@@ -143,7 +143,7 @@ combined_is operator.Times left right of e = given_is (same_kind left kind.Int &
 combined_is operator.Divide left right of e = given_is (same_kind left kind.Int && same_kind right kind.Int) kind.Int of e
 combined_is operator.Remainder left right of e = given_is (same_kind left kind.Int && same_kind right kind.Int) kind.Int of e
 
-both_is : (o : Operator) (left right : Option Kind) (of : Kind) → of_both o left right ≡ Some of → result_kind o ≡ of
+both_is : (o : Operator) (left right : Option Kind) (of : Kind) → of_both o left right ≡ Some of → operator_kind o ≡ of
 both_is o None right of e = absurd (nothing of e)
 both_is o (Some left) None of e = absurd (nothing of e)
 both_is o (Some left) (Some right) of e = combined_is o left right of e
@@ -166,7 +166,7 @@ sound (Negate' s (more_of-Expr inner end_of-Expr)) locals kinds values read_flag
     (kept_is kind.Int (kind_of inner (slot_kinds locals) kinds) of e)
     (then_gives kind.Int negated (evaluated inner locals values read_flags).0 (λ value. ranged_gives (neg_ℤ (number_in value))))
 sound (Binary' o s (more_of-Expr left end_of-Expr) t (more_of-Expr right end_of-Expr)) locals kinds values read_flags of r e =
-    subst (λ k. Gives k (in_order o (evaluated left locals values read_flags) (evaluated right locals values)).0)
+    subst (λ k. Gives k (left_to_right o (evaluated left locals values read_flags) (evaluated right locals values)).0)
     (both_is o (kind_of left (slot_kinds locals) kinds) (kind_of right (slot_kinds locals) kinds) of e)
     (order_gives o (evaluated left locals values read_flags) (evaluated right locals values))
 
@@ -206,7 +206,7 @@ more_known (Binary' o a (more_of-Expr left end_of-Expr) b (more_of-Expr right en
     both_within o (kind_of left slots reads) (kind_of right slots reads) (kind_of left more_slots more_reads) (kind_of right more_slots more_reads) of
     (λ k. more_known left slots more_slots reads more_reads k s r) (λ k. more_known right slots more_slots reads more_reads k s r) e
 
-typed_as : (outcome : Outcome) (known : Option Kind) (of : Kind) → known ≡ Some of → Gives of outcome → IfOk outcome (λ value. known ≡ Some (value_kind value))
+typed_as : (outcome : ValueOrFault) (known : Option Kind) (of : Kind) → known ≡ Some of → Gives of outcome → IfOk outcome (λ value. known ≡ Some (value_kind value))
 typed_as (Ok value) known of e h = e ∙ ap Some (sym h)
 typed_as (Err fault) known of e h = tt
 

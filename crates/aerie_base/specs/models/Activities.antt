@@ -15,7 +15,7 @@ use Rattle.aerie_base.specs.models.Bodies.{Setting, is_body}
 use Rattle.aerie_base.specs.models.Cells.{NamedCells}
 use Rattle.aerie_base.specs.models.Expressions.{typed, is_kind_of}
 use Rattle.aerie_base.specs.models.Limits.{parameter_limit, require_limit}
-use Rattle.aerie_base.specs.models.Names.{is_among, are_distinct}
+use Rattle.aerie_base.specs.models.Names.{is_name_among, are_distinct}
 use Rattle.aerie_base.specs.models.Signatures.{Signature, parameter_kinds}
 use Rattle.aerie_base.specs.models.Values.{is_kind, is_value_of}
 
@@ -38,7 +38,7 @@ are_parameters enums taken activity =
     nat_le (length activity.parameters) parameter_limit
     && list_all (is_parameter enums) activity.parameters
     && are_distinct (parameter_names activity)
-    && list_all (λ name. not (is_among name taken)) (parameter_names activity)
+    && list_all (λ name. not (is_name_among name taken)) (parameter_names activity)
 
 -- ---- what a directive's arguments must meet
 

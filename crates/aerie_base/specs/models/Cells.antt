@@ -15,8 +15,8 @@ abbrev pub NamedCells : Type 0
 NamedCells = List (Name × CellStart)
 
 -- a cell by its place in the order of declaration, where there is one
-abbrev pub cell_at : NamedCells → ℕ → Option CellStart
-cell_at cells cell = option_map (λ named. named.1) (slice_get cells cell)
+abbrev pub cell_start_at : NamedCells → ℕ → Option CellStart
+cell_start_at cells cell = option_map (λ named. named.1) (slice_get cells cell)
 
 -- the type of a counter's number
 abbrev pub counter_kind : Option CellStart → Option Kind
@@ -48,11 +48,11 @@ flow_kind None = None
 
 -- the type of what a read has, where the model has such a read
 abbrev pub read_kind : NamedCells → CellRead → Option Kind
-read_kind cells (read.Counter cell) = counter_kind (cell_at cells cell)
-read_kind cells (read.Register cell) = register_kind (cell_at cells cell)
-read_kind cells (read.Conflicted cell) = flag_kind (cell_at cells cell)
-read_kind cells (read.Volume cell) = flow_kind (cell_at cells cell)
-read_kind cells (read.Rate cell) = flow_kind (cell_at cells cell)
+read_kind cells (read.Counter cell) = counter_kind (cell_start_at cells cell)
+read_kind cells (read.Register cell) = register_kind (cell_start_at cells cell)
+read_kind cells (read.Conflicted cell) = flag_kind (cell_start_at cells cell)
+read_kind cells (read.Volume cell) = flow_kind (cell_start_at cells cell)
+read_kind cells (read.Rate cell) = flow_kind (cell_start_at cells cell)
 
 -- a counter begins with a number, a register with a value of its type, an accumulator with a number and a rate
 abbrev pub is_cell : List EnumType → CellStart → Bool

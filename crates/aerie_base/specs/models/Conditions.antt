@@ -26,8 +26,8 @@ use Rattle.aerie_base.specs.models.Values.{is_value}
 abbrev pub Locals : Type 0
 Locals = ℕ → Option Kind
 
-abbrev pub Reads : Type 0
-Reads = CellRead → Option Kind
+abbrev pub ReadKinds : Type 0
+ReadKinds = CellRead → Option Kind
 
 -- ---- linear forms
 
@@ -35,11 +35,11 @@ abbrev pub is_coefficient : Term → Bool
 is_coefficient term = nat_le (unsigned_abs term.coefficient) coefficient_limit
 
 -- a coefficient within its range, of a whole number
-abbrev pub is_term : Locals → Reads → Term → Bool
+abbrev pub is_term : Locals → ReadKinds → Term → Bool
 is_term locals reads term = is_coefficient term && is_kind_of (operand_kind locals reads term.operand) Int
 
 -- a sum of at most 16 leaves, of which the literals have become the constant
-abbrev pub is_linear : Locals → Reads → Linear → Bool
+abbrev pub is_linear : Locals → ReadKinds → Linear → Bool
 is_linear locals reads form =
     nat_le (length form.terms) term_limit
     && list_all (is_term locals reads) form.terms
@@ -48,7 +48,7 @@ is_linear locals reads form =
 -- ---- equalities
 
 -- the type of a side of an equality: a literal of the model, a local or a register
-abbrev pub side_kind : List EnumType → Locals → Reads → Simple → Option Kind
+abbrev pub side_kind : List EnumType → Locals → ReadKinds → Simple → Option Kind
 side_kind enums locals reads (simple.Literal value) = literal_kind (is_value enums value) where
   literal_kind : Bool → Option Kind
   literal_kind true = Some (value_kind value)
@@ -70,7 +70,7 @@ may_equal (Some left) (Some right) = same_kind left right
 -- ---- conditions
 
 abbrev pub Checking : Type 0
-Checking = Locals → Reads → Bool
+Checking = Locals → ReadKinds → Bool
 
 abbrev pub condition_step : List EnumType → Cond-F Checking → Checking
 condition_step enums (Cond-F.Literal truth) locals reads = true
@@ -101,6 +101,6 @@ unfoldable pub cond_depth : Cond → ℕ
 cond_depth = cond_gives ℕ 0 cond_depth_step
 
 -- whether this is a condition of the model
-unfoldable pub is_condition : List EnumType → Locals → Reads → Cond → Bool
+unfoldable pub is_condition : List EnumType → Locals → ReadKinds → Cond → Bool
 is_condition enums locals reads condition =
     is_typed_condition enums condition locals reads && nat_le (cond_depth condition) depth_limit

@@ -8,11 +8,11 @@ use Rattle.std.specs.Cmp.Lexicographic.{nat_list_eq_equiv}
 use Rattle.std.proofs.lemmas.List.Folds.{list_any-append}
 use Rattle.std.proofs.lemmas.List.Sorted.{IsPermutation-sym, list_any-IsPermutation}
 use Rattle.std.proofs.lemmas.Map.Keys.{IsDistinct-IsPermutation}
-use Rattle.aerie_base.specs.models.Names.{same_name, is_among, are_distinct}
+use Rattle.aerie_base.specs.models.Names.{same_name, is_name_among, are_distinct}
 
 -- ---- lists that are put together
 
-pub among_appended : (name : List ℕ) (front back : List (List ℕ)) → is_among name (front ++ back) ≡ (is_among name front || is_among name back)
+pub among_appended : (name : List ℕ) (front back : List (List ℕ)) → is_name_among name (front ++ back) ≡ (is_name_among name front || is_name_among name back)
 among_appended name front back = list_any-append (same_name name) front back
 
 regrouped : (here there rest apart behind : Bool) → (not (here || there) && (rest && apart && behind)) ≡ (not here && rest && (not there && apart) && behind)
@@ -29,41 +29,41 @@ joined whole here there all rest apart behind e f =
 
 -- the names of each list differ, and none of the first is among the second
 pub distinct_appended : (front back : List (List ℕ)) →
-    are_distinct (front ++ back) ≡ (are_distinct front && list_all (λ name. not (is_among name back)) front && are_distinct back)
+    are_distinct (front ++ back) ≡ (are_distinct front && list_all (λ name. not (is_name_among name back)) front && are_distinct back)
 distinct_appended [] back = refl
 distinct_appended (name ∷ front) back =
-    joined (is_among name (front ++ back)) (is_among name front) (is_among name back) (are_distinct (front ++ back)) (are_distinct front)
-    (list_all (λ other. not (is_among other back)) front) (are_distinct back) (among_appended name front back) (distinct_appended front back)
+    joined (is_name_among name (front ++ back)) (is_name_among name front) (is_name_among name back) (are_distinct (front ++ back)) (are_distinct front)
+    (list_all (λ other. not (is_name_among other back)) front) (are_distinct back) (among_appended name front back) (distinct_appended front back)
 
 -- ---- any order
 
-pub among_permuted : (name : List ℕ) (names others : List (List ℕ)) → IsPermutation names others → is_among name names ≡ is_among name others
+pub among_permuted : (name : List ℕ) (names others : List (List ℕ)) → IsPermutation names others → is_name_among name names ≡ is_name_among name others
 among_permuted name names others order = list_any-IsPermutation (same_name name) names others order
 
 both : (a b : Bool) → (a && b) ≡ true → (a ≡ true) × (b ≡ true)
 both true b h = (refl, h)
 both false b h = absurd (true≢false (sym h))
 
-none_apart : (name : List ℕ) (names : List (List ℕ)) → not (is_among name names) ≡ true → AllByRecursion (λ other. same_name name other ≡ false) names
+none_apart : (name : List ℕ) (names : List (List ℕ)) → not (is_name_among name names) ≡ true → AllByRecursion (λ other. same_name name other ≡ false) names
 none_apart name [] h = tt
 none_apart name (other ∷ names) h = go (same_name name other) refl h (none_apart name names)
   where
-    go : (same : Bool) → same_name name other ≡ same → not (same || is_among name names) ≡ true →
-        (not (is_among name names) ≡ true → AllByRecursion (λ other. same_name name other ≡ false) names) →
+    go : (same : Bool) → same_name name other ≡ same → not (same || is_name_among name names) ≡ true →
+        (not (is_name_among name names) ≡ true → AllByRecursion (λ other. same_name name other ≡ false) names) →
         (same_name name other ≡ false) × AllByRecursion (λ other. same_name name other ≡ false) names
     go true e k rest = absurd (true≢false (sym k))
     go false e k rest = (e, rest k)
 
-apart_none : (name : List ℕ) (names : List (List ℕ)) → AllByRecursion (λ other. same_name name other ≡ false) names → not (is_among name names) ≡ true
+apart_none : (name : List ℕ) (names : List (List ℕ)) → AllByRecursion (λ other. same_name name other ≡ false) names → not (is_name_among name names) ≡ true
 apart_none name [] h = refl
-apart_none name (other ∷ names) h = ap (λ (same : Bool). not (same || is_among name names)) h.0 ∙ apart_none name names h.1
+apart_none name (other ∷ names) h = ap (λ (same : Bool). not (same || is_name_among name names)) h.0 ∙ apart_none name names h.1
 
 -- they differ in std's words
 pub distinct_is : (names : List (List ℕ)) → are_distinct names ≡ true → IsDistinct same_name names
 unfolding IsDistinct
 distinct_is [] h = tt
 distinct_is (name ∷ names) h =
-    let parts = both (not (is_among name names)) (are_distinct names) h in
+    let parts = both (not (is_name_among name names)) (are_distinct names) h in
     (none_apart name names parts.0, distinct_is names parts.1)
 
 pub is_distinct : (names : List (List ℕ)) → IsDistinct same_name names → are_distinct names ≡ true

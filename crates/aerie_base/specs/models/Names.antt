@@ -8,13 +8,13 @@ abbrev pub same_name : List ℕ → List ℕ → Bool
 same_name = pointwise nat_eq
 
 -- whether a name is one of these
-abbrev pub is_among : List ℕ → List (List ℕ) → Bool
-is_among name names = list_any (same_name name) names
+abbrev pub is_name_among : List ℕ → List (List ℕ) → Bool
+is_name_among name names = list_any (same_name name) names
 
 -- whether no two of these names are one
 abbrev pub are_distinct : List (List ℕ) → Bool
 are_distinct [] = true
-are_distinct (name ∷ rest) = not (is_among name rest) && are_distinct rest
+are_distinct (name ∷ rest) = not (is_name_among name rest) && are_distinct rest
 
 -- ---- worked cases
 

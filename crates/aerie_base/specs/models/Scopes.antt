@@ -9,13 +9,13 @@ use Rattle.aerie_base.specs.declared.values.Kind.{Kind}
 abbrev pub Scope : Type 0
 Scope = List (Option Kind)
 
-abbrev pub joined : {A : Type 0} → Option (Option A) → Option A
-joined None = None
-joined (Some found) = found
+abbrev pub flattened : {A : Type 0} → Option (Option A) → Option A
+flattened None = None
+flattened (Some found) = found
 
 -- the type of a local that is known
 abbrev pub known : Scope → ℕ → Option Kind
-known scope slot = joined (slice_get scope slot)
+known scope slot = flattened (slice_get scope slot)
 
 -- the scope behind a `let`, which takes the next slot
 abbrev pub with_local : ℕ → Option Kind → Scope → Option Scope

@@ -27,9 +27,9 @@ signature_result None = None
 signature_result (Some signature) = signature.result
 
 -- the same of an activity type
-abbrev pub result_of : Option Activity → Option Kind
-result_of None = None
-result_of (Some activity) = activity.result
+abbrev pub activity_result : Option Activity → Option Kind
+activity_result None = None
+activity_result (Some activity) = activity.result
 
 -- ---- each signature is that of the activity type at its place
 
@@ -38,9 +38,9 @@ signature_at [] kind = refl
 signature_at (activity ∷ rest) zero = refl
 signature_at (activity ∷ rest) (suc kind) = signature_at rest kind
 
-its_result : (found : Option Activity) → signature_result (option_map signature_of found) ≡ result_of found
+its_result : (found : Option Activity) → signature_result (option_map signature_of found) ≡ activity_result found
 its_result None = refl
 its_result (Some activity) = refl
 
-pub result_at : (activities : List Activity) (kind : ℕ) → signature_result (slice_get (signatures_of activities) kind) ≡ result_of (slice_get activities kind)
+pub result_at : (activities : List Activity) (kind : ℕ) → signature_result (slice_get (signatures_of activities) kind) ≡ activity_result (slice_get activities kind)
 result_at activities kind = ap signature_result (signature_at activities kind) ∙ its_result (slice_get activities kind)

@@ -1,5 +1,5 @@
 ghost use Rattle.std.specs.Prelude.{◌≡◌};
-ghost use Rattle.aerie_base.specs.Ranges.{IsNumber, number_of};
+ghost use Rattle.aerie_base.specs.Ranges.{IsNumber, checked_number};
 
 use crate::ranges::NUMBER_LIMIT;
 use std::marker::Model;
@@ -30,7 +30,7 @@ impl Model for Number {
 impl Number {
     /// The number with this value, or `None` out of the range. It takes no memory.
     pub fn new(value: i64) -> Option<Number>
-        ensures { result ≡ number_of value }
+        ensures { result ≡ checked_number value }
     {
         if value < -NUMBER_LIMIT || NUMBER_LIMIT < value {
             return None;

@@ -35,7 +35,7 @@ use Rattle.run_data.specs.Frames.{job_step}
 use Rattle.run_data.specs.Scopes.{scope_at}
 use Rattle.run_data.specs.TaskStates.{activity_begun, body_of}
 use Rattle.run_data.specs.Typed.{is_typed_stmt, AreLeft}
-use Rattle.run_data.specs.Values.{value_at, rate_at}
+use Rattle.run_data.specs.Values.{resource_value, rate_at}
 use Rattle.run_data.specs.Waves.{wave_of}
 use Rattle.run_data.specs.cases.Missions.{number, local, add, bump, mission, plan_of, ran, ints}
 use denote.Hole.Carrier.{hidden, shown, out}
@@ -140,11 +140,11 @@ idle = ran rising (plan_of 100 [])
 abbrev thrice : Linear
 thrice = record { terms = record { coefficient = pos 3; operand = operand.Read (read.Volume 1) } ∷ []; constant = pos 1 }
 
-pub a_volume_rises : value_at rising idle (resource.Discrete (read.Volume 1)) 10 ≡ value.Int (pos 25)
+pub a_volume_rises : resource_value rising idle (resource.Discrete (read.Volume 1)) 10 ≡ value.Int (pos 25)
 unfolding scope_at checked typed has_literals expr_depth kind_of is_state_of left lefts size evaluated out-Stmt out shown hidden shown-the_row-Stmt-0 hidden-the_row-Stmt-0 shape-the_row-Stmt-0
 a_volume_rises = refl
 
-pub a_sum_of_volumes : value_at rising idle (resource.Linear thrice) 10 ≡ value.Int (pos 76)
+pub a_sum_of_volumes : resource_value rising idle (resource.Linear thrice) 10 ≡ value.Int (pos 76)
 unfolding scope_at checked typed has_literals expr_depth kind_of is_state_of left lefts size evaluated out-Stmt out shown hidden shown-the_row-Stmt-0 hidden-the_row-Stmt-0 shape-the_row-Stmt-0
 a_sum_of_volumes = refl
 

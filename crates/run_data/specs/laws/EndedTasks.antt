@@ -7,8 +7,8 @@ use Rattle.run_data.specs.declared.frames.Status.{Status}
 use Rattle.run_data.specs.declared.frames.Status.TheVariants as status
 use Rattle.run_data.specs.Endings.{is_open, has_ended}
 use Rattle.run_data.specs.Tasks.{Task, Table, task_at, with_task, after_frames}
-use Rattle.run_data.specs.laws.NumberedTasks.{in_order, Distinct}
-use Rattle.run_data.specs.laws.OrderedTables.{InOrder}
+use Rattle.run_data.specs.laws.NumberedTasks.{sorted_tasks, Distinct}
+use Rattle.run_data.specs.laws.OrderedTables.{IsOrderedTable}
 
 -- ---- open bodies
 
@@ -21,12 +21,12 @@ open_is (Some task) = is_open task.phase
 -- all open bodies tells it.
 abbrev pub EndedByOpenBodies : Type 0
 EndedByOpenBodies =
-    (table : Table) (path : List ℕ) → InOrder table →
+    (table : Table) (path : List ℕ) → IsOrderedTable table →
     (has_ended table path ≡ false) ↔ AnyUnder path (λ other. IsTrue (open_is (task_at table other)))
 
 -- the same tasks have ended by number
 abbrev pub EndedByNumber : Type 0
-EndedByNumber = (tasks : Table) (path : List ℕ) → Distinct tasks → has_ended (in_order tasks) path ≡ has_ended tasks path
+EndedByNumber = (tasks : Table) (path : List ℕ) → Distinct tasks → has_ended (sorted_tasks tasks) path ≡ has_ended tasks path
 
 -- what is under an ended path has ended
 abbrev pub EndedBelow : Type 0
@@ -37,7 +37,7 @@ EndedBelow =
 abbrev pub NewlyEnded : Type 0
 NewlyEnded =
     (tasks : Table) (path : List ℕ) (new : Task) (whose : List ℕ) → Distinct tasks →
-    has_ended (in_order tasks) whose ≡ false → has_ended (with_task (in_order tasks) path new) whose ≡ true →
+    has_ended (sorted_tasks tasks) whose ≡ false → has_ended (with_task (sorted_tasks tasks) path new) whose ≡ true →
     (is_prefix whose path ≡ true) × (is_open new.phase ≡ false)
 
 -- ---- frames
@@ -58,5 +58,5 @@ pub data OverUnder (path : List ℕ) : List Frame → Type 0 where
 -- what has ended with some frames has a frame under it whose body is over
 abbrev pub EndedByFrames : Type 0
 EndedByFrames =
-    (now : ℕ) (frames : List Frame) (table : Table) (path : List ℕ) → InOrder table →
+    (now : ℕ) (frames : List Frame) (table : Table) (path : List ℕ) → IsOrderedTable table →
     has_ended table path ≡ false → has_ended (after_frames now frames table) path ≡ true → OverUnder path frames

@@ -98,7 +98,7 @@ SameByGenerations =
     SameFrames (frames_in (made_by_all model budget jobs)) (generations model budget (child_limit + 1) (map pending_of jobs))
 
 -- frames that cost as much together, have the same least fault and come to the same in order of path
-pub record AreAlike (frames others : List Frame) : Type 0 where
+pub record AreEquivalentFrames (frames others : List Frame) : Type 0 where
   pub cost : cost_of frames ≡ cost_of others
   pub fault : least_fault frames ≡ least_fault others
   pub sorted : by_path frames ≡ by_path others
@@ -107,7 +107,7 @@ abbrev pub AlikeFrames : Option (List Frame) → Option (List Frame) → Type 0
 AlikeFrames None None = Unit {0}
 AlikeFrames None (Some frames) = ⊥
 AlikeFrames (Some frames) None = ⊥
-AlikeFrames (Some frames) (Some others) = AreAlike frames others
+AlikeFrames (Some frames) (Some others) = AreEquivalentFrames frames others
 
 -- Where no job is yet to make another nor a task above it, the frames that a batch makes in these two ways are alike in all
 -- that a batch is judged by.

@@ -7,16 +7,16 @@ use Rattle.run_data.specs.declared.frames.Frame.{Frame}
 use Rattle.run_data.specs.Endings.{has_ended, result_of, has_begun, has_come, gone_on}
 use Rattle.run_data.specs.Tasks.{TaskPhase, anchored, ready, delayed, waiting, calling, over, Task, Table, task_at, on_each, after_frames}
 use Rattle.run_data.specs.laws.EndedTasks.{OverUnder}
-use Rattle.run_data.specs.laws.NumberedTasks.{in_order, Distinct}
-use Rattle.run_data.specs.laws.OrderedTables.{InOrder}
+use Rattle.run_data.specs.laws.NumberedTasks.{sorted_tasks, Distinct}
+use Rattle.run_data.specs.laws.OrderedTables.{IsOrderedTable}
 
 -- ---- one after another
 
 -- tasks end, result and begin as those of a table
 pub record EndsAs (whole : Table) (tasks : Table) : Type 0 where
-  pub ended : (path : List ℕ) → has_ended (in_order tasks) path ≡ has_ended whole path
-  pub results : (path : List ℕ) → result_of (task_at (in_order tasks) path) ≡ result_of (task_at whole path)
-  pub begun : (path : List ℕ) → has_begun (task_at (in_order tasks) path) ≡ has_begun (task_at whole path)
+  pub ended : (path : List ℕ) → has_ended (sorted_tasks tasks) path ≡ has_ended whole path
+  pub results : (path : List ℕ) → result_of (task_at (sorted_tasks tasks) path) ≡ result_of (task_at whole path)
+  pub begun : (path : List ℕ) → has_begun (task_at (sorted_tasks tasks) path) ≡ has_begun (task_at whole path)
 
 -- Tasks may go on one after another, each judged on those that are there then: they end as before, and what is left to
 -- change is the same.
@@ -24,14 +24,14 @@ abbrev pub GoOnInTurn : Type 0
 GoOnInTurn =
     (now : ℕ) (whole tasks : Table) (number : ℕ) (path : List ℕ) (task : Task) → Distinct tasks → EndsAs whole tasks →
     slice_get tasks number ≡ Some (path, task) →
-    let gone = slice_set tasks number (path, gone_on (in_order tasks) now path task) in
+    let gone = slice_set tasks number (path, gone_on (sorted_tasks tasks) now path task) in
     EndsAs whole gone × (on_each (gone_on whole now) gone ≡ on_each (gone_on whole now) tasks)
 
 -- all have gone on where each stays as it is
 abbrev pub AllGoneOn : Type 0
 AllGoneOn =
     (now : ℕ) (whole tasks : Table) → EndsAs whole tasks →
-    ((number : ℕ) (path : List ℕ) (task : Task) → slice_get tasks number ≡ Some (path, task) → gone_on (in_order tasks) now path task ≡ task) →
+    ((number : ℕ) (path : List ℕ) (task : Task) → slice_get tasks number ≡ Some (path, task) → gone_on (sorted_tasks tasks) now path task ≡ task) →
     on_each (gone_on whole now) tasks ≡ tasks
 
 -- ---- which go on
@@ -72,7 +72,7 @@ MayGoOnBy frames path (over result) = ⊥
 -- a quiet task that no frame lets go on stays as it is after these frames
 abbrev pub OthersStay : Type 0
 OthersStay =
-    (now : ℕ) (frames : List Frame) (table : Table) (path : List ℕ) (task : Task) → InOrder table →
+    (now : ℕ) (frames : List Frame) (table : Table) (path : List ℕ) (task : Task) → IsOrderedTable table →
     IsQuiet table path task.phase → (MayGoOnBy frames path task.phase → ⊥) →
     gone_on (after_frames now frames table) now path task ≡ task
 

@@ -1,10 +1,11 @@
 -- The next time at which some task goes on by itself: the end of a delay, or when a waiting task wakes.
 use Rattle.std.specs.Prelude.{◌≡◌, ℕ, ◌-◌, ◌≤◌, List, [], ◌∷◌, Option, Some, None, slice_get}
+use Rattle.aerie_base.specs.TimeOrder.{earlier}
 use Rattle.effect_cells.specs.declared.effects.CellState.{CellState}
 use Rattle.effect_cells.specs.WakeTimes.{wake_time}
-use Rattle.run_data.specs.Fresh.{earlier, from_now, due_time, least_due}
+use Rattle.run_data.specs.Fresh.{from_now, due_time, least_due}
 use Rattle.run_data.specs.Tasks.{TaskPhase, anchored, ready, delayed, waiting, calling, over, Task, Table}
-use Rattle.run_data.specs.laws.NumberedTasks.{in_order, Distinct}
+use Rattle.run_data.specs.laws.NumberedTasks.{sorted_tasks, Distinct}
 
 -- ---- delays
 
@@ -48,12 +49,12 @@ DueSplits =
 
 -- tasks by number have the same least times
 abbrev pub LeastDelayByNumber : Type 0
-LeastDelayByNumber = (tasks : Table) → Distinct tasks → least_delay (in_order tasks) ≡ least_delay tasks
+LeastDelayByNumber = (tasks : Table) → Distinct tasks → least_delay (sorted_tasks tasks) ≡ least_delay tasks
 
 abbrev pub LeastWakeByNumber : Type 0
 LeastWakeByNumber =
     (now horizon : ℕ) (cells : List CellState) (tasks : Table) → Distinct tasks →
-    least_wake now horizon cells (in_order tasks) ≡ least_wake now horizon cells tasks
+    least_wake now horizon cells (sorted_tasks tasks) ≡ least_wake now horizon cells tasks
 
 -- ---- the least of all times
 

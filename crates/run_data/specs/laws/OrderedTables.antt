@@ -11,16 +11,16 @@ Above path [] = Unit {0}
 Above path (entry ∷ rest) = (path_cmp path entry.0 ≡ Less) × Above path rest
 
 -- a table is in order of path, each path once
-abbrev pub InOrder : Table → Type 0
-InOrder [] = Unit {0}
-InOrder (entry ∷ rest) = Above entry.0 rest × InOrder rest
+abbrev pub IsOrderedTable : Table → Type 0
+IsOrderedTable [] = Unit {0}
+IsOrderedTable (entry ∷ rest) = Above entry.0 rest × IsOrderedTable rest
 
 -- a table stays in order where a task is put, and where each is changed
 abbrev pub PutKeepsOrder : Type 0
-PutKeepsOrder = (table : Table) (path : List ℕ) (task : Task) → InOrder table → InOrder (with_task table path task)
+PutKeepsOrder = (table : Table) (path : List ℕ) (task : Task) → IsOrderedTable table → IsOrderedTable (with_task table path task)
 
 abbrev pub ChangesKeepOrder : Type 0
-ChangesKeepOrder = (change : List ℕ → Task → Task) (table : Table) → InOrder table → InOrder (on_each change table)
+ChangesKeepOrder = (change : List ℕ → Task → Task) (table : Table) → IsOrderedTable table → IsOrderedTable (on_each change table)
 
 -- what was put is there, and the other tasks are as they were
 abbrev pub PutIsThere : Type 0

@@ -21,7 +21,7 @@ use Rattle.run_data.specs.Jobs.{is_state_of, AreCellsOf, IsJobOf}
 use Rattle.run_data.specs.Numbers.{HasNumber}
 use Rattle.run_data.specs.Tasks.{TaskPhase, anchored, ready, delayed, waiting, calling, over, Task, Table, task_at, ready_jobs}
 use Rattle.run_data.specs.Transitions.{more}
-use Rattle.run_data.specs.laws.OrderedTables.{InOrder}
+use Rattle.run_data.specs.laws.OrderedTables.{IsOrderedTable}
 use Rattle.run_data.specs.laws.Orders.{EachOf, EachTwo, AreApart}
 use Rattle.run_data.specs.laws.Results.{IsUnderWay}
 use Rattle.run_data.specs.laws.SmallSteps.{HasNumberIfAny, IsJobWithin}
@@ -77,7 +77,7 @@ pub data ComesFrom (table : Table) (path : List ℕ) : Type 0 where
 -- ---- the table
 
 pub record IsTableOf (model : Parts) (table : Table) : Type 0 where
-  pub order : InOrder table
+  pub order : IsOrderedTable table
   pub phases : (path : List ℕ) (task : Task) → task_at table path ≡ Some task → IsPhaseOf model table path task.phase
   pub makers : (path : List ℕ) (task : Task) → task_at table path ≡ Some task → ComesFrom table path
 

@@ -6,7 +6,7 @@ use Rattle.aerie_base.specs.Paths.{path_cmp}
 use Rattle.effect_cells.specs.declared.effects.CellState.{CellState}
 use Rattle.run_data.specs.declared.jobs.Job.{Job}
 use Rattle.run_data.specs.Tasks.{TaskPhase, anchored, ready, delayed, waiting, calling, over, Task, Table, task_at, ready_jobs, job_if_ready}
-use Rattle.run_data.specs.laws.NumberedTasks.{in_order, Distinct}
+use Rattle.run_data.specs.laws.NumberedTasks.{sorted_tasks, Distinct}
 
 abbrev pub is_ready_phase : TaskPhase → Bool
 is_ready_phase (ready state) = true
@@ -22,8 +22,8 @@ is_ready None = false
 is_ready (Some task) = is_ready_phase task.phase
 
 -- the number of a path in an index
-abbrev pub number_at : BTreeMap (List ℕ) ℕ → List ℕ → Option ℕ
-number_at index path = lookup (is_at (path_cmp path)) index.entries
+abbrev pub number_of_path : BTreeMap (List ℕ) ℕ → List ℕ → Option ℕ
+number_of_path index path = lookup (is_at (path_cmp path)) index.entries
 
 abbrev pub job_of : List CellState → Option (List ℕ × Task) → List (ℕ × Job) → List (ℕ × Job)
 job_of cells None rest = rest
@@ -37,17 +37,17 @@ jobs_by cells tasks (entry ∷ rest) = job_of cells (slice_get tasks entry.1) (j
 -- each path of an index has the number of a ready task of that path
 abbrev pub HasReadyTasks : Table → BTreeMap (List ℕ) ℕ → Type 0
 HasReadyTasks tasks index =
-    (path : List ℕ) (number : ℕ) → number_at index path ≡ Some number →
+    (path : List ℕ) (number : ℕ) → number_of_path index path ≡ Some number →
     (task : Task) × (slice_get tasks number ≡ Some (path, task)) × (is_ready_phase task.phase ≡ true)
 
 -- each ready task is in it
 abbrev pub HasAllReady : Table → BTreeMap (List ℕ) ℕ → Type 0
 HasAllReady tasks index =
-    (path : List ℕ) → is_ready (task_at (in_order tasks) path) ≡ true → (number : ℕ) × (number_at index path ≡ Some number)
+    (path : List ℕ) → is_ready (task_at (sorted_tasks tasks) path) ≡ true → (number : ℕ) × (number_of_path index path ≡ Some number)
 
 -- such an index, in order of path, has the jobs of the ready tasks in their order
 abbrev pub ReadyByIndex : Type 0
 ReadyByIndex =
     (cells : List CellState) (tasks : Table) (index : BTreeMap (List ℕ) ℕ) → Distinct tasks → IsOrdered path_cmp index →
     HasReadyTasks tasks index → HasAllReady tasks index →
-    ready_jobs cells (in_order tasks) ≡ jobs_by cells tasks index.entries
+    ready_jobs cells (sorted_tasks tasks) ≡ jobs_by cells tasks index.entries

@@ -8,7 +8,7 @@ use Rattle.aerie_base.specs.declared.statements.Stmt.TheOpen.{Stmt-F}
 use Rattle.aerie_base.specs.declared.models.model.Parts.{Parts}
 use Rattle.aerie_base.specs.expressions.Arithmetic.{value_kind}
 use Rattle.aerie_base.specs.statements.Places.{Placed, placed, left, block_size}
-use Rattle.aerie_base.specs.models.Signatures.{result_of}
+use Rattle.aerie_base.specs.models.Signatures.{activity_result}
 use Rattle.aerie_base.specs.models.ValidModel.{valid_model}
 use Rattle.run_data.specs.declared.tasks.BodyId.{BodyId}
 use Rattle.run_data.specs.declared.tasks.BodyId.TheVariants as body
@@ -79,7 +79,7 @@ last_child (item.Child kind arguments ∷ rest) = or_this (last_child rest) kind
 
 -- the type of the result of an activity type, by its number
 abbrev pub result_kind : Parts → ℕ → Option Kind
-result_kind model kind = result_of (slice_get model.activities kind)
+result_kind model kind = activity_result (slice_get model.activities kind)
 
 -- the type of what a body returns; daemons return nothing
 abbrev pub body_result : Parts → BodyId → Option Kind

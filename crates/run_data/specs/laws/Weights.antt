@@ -4,7 +4,7 @@ use Rattle.aerie_base.specs.declared.models.model.Parts.{Parts}
 use Rattle.aerie_base.specs.declared.plans.Plan.{Plan}
 use Rattle.run_data.specs.declared.jobs.Job.{Job}
 use Rattle.run_data.specs.Endings.{is_open}
-use Rattle.run_data.specs.Fresh.{SimulationState, start, next, IsReached}
+use Rattle.run_data.specs.Fresh.{SimulationState, start, next_state, IsReached}
 use Rattle.run_data.specs.Tasks.{Table, ready_jobs}
 use Rattle.run_data.specs.Transitions.{more}
 use Rattle.run_data.specs.laws.Ending.{enough_turns}
@@ -35,7 +35,7 @@ weight plan bound at = weigh (opens at.table) (bound - at.spent) (idle (ready_jo
 abbrev pub WeightFalls : Type 0
 WeightFalls =
     (model : Parts) (plan : Plan) (bound : ℕ) (at later : SimulationState) → IsReached model plan bound (more at) →
-    next model plan bound at ≡ more later → weight plan bound later < weight plan bound at
+    next_state model plan bound at ≡ more later → weight plan bound later < weight plan bound at
 
 -- it begins below the turns that are enough
 abbrev pub WeightBegins : Type 0

@@ -4,7 +4,7 @@ ghost use Rattle.std.specs.Prelude.{◌≡◌, ℕ, ◌+◌, ◌<◌, ◌≤◌,
 ghost use Rattle.windows.specs.Crossing.{JoinsWhere};
 ghost use Rattle.windows.specs.Joining.{last_start};
 ghost use Rattle.aerie_base.specs.expressions.Arithmetic.{compared};
-ghost use Rattle.windows.specs.Linear.{AreSegments, IsSum, first_start, segment_value, value_at};
+ghost use Rattle.windows.specs.Linear.{AreSegments, IsSum, first_start, segment_value, segments_value};
 ghost use Rattle.windows.specs.Times.{AreIntervals};
 
 use super::Windows;
@@ -81,7 +81,7 @@ impl Windows {
         requires segments { AreSegments reach segments.now }
         requires with { IsSum with }
         ensures reach { IfOk result (λ made. made.reach ≡ reach) }
-        ensures times { IfOk result (λ made. AreIntervals made.reach (λ t. compared how (value_at segments.now t) with) made.intervals) }
+        ensures times { IfOk result (λ made. AreIntervals made.reach (λ t. compared how (segments_value segments.now t) with) made.intervals) }
     {
         let mut intervals = List::new(alloc);
         for at in 0..segments.len() {

@@ -1,5 +1,5 @@
 use Rattle.std.proofs.Common.{◌≡◌, ◌∙◌, ap, sym, subst, IsSome, IfOk, Some}
-use Rattle.aerie_base.specs.expressions.Arithmetic.{Outcome, value_kind}
+use Rattle.aerie_base.specs.expressions.Arithmetic.{ValueOrFault, value_kind}
 use Rattle.aerie_base.specs.expressions.Faults.{MayFault, faults}
 use Rattle.aerie_base.specs.expressions.Soundness.{value_has_kind}
 use Rattle.aerie_base.specs.expressions.Evaluation.{Meaning, evaluated_is}
@@ -26,7 +26,7 @@ returns-clause-read_flags g c =
 pub returns-clause-typed : goal.returns-clause-typed
 returns-clause-typed g c =
     subst
-    (λ (outcome : Outcome). IfOk outcome (λ value. kind_of c.args.expr.now (slot_kinds c.args.locals.now) (g.K.Look.kinds c.args.cells.now) ≡ Some (value_kind value)))
+    (λ (outcome : ValueOrFault). IfOk outcome (λ value. kind_of c.args.expr.now (slot_kinds c.args.locals.now) (g.K.Look.kinds c.args.cells.now) ≡ Some (value_kind value)))
     (sym (returns-clause-outcome g c))
     (value_has_kind c.args.expr.now c.args.locals.now (g.K.Look.kinds c.args.cells.now) (g.K.Look.values c.args.cells.now) (g.K.Look.read_flags c.args.cells.now)
     (g.met.K.Look.readings c.args.cells.now) c.requires.well_typed)

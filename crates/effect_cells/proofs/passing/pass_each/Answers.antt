@@ -1,5 +1,5 @@
 use Rattle.std.proofs.lemmas.List.Edits.{map_over_more}
-use Rattle.effect_cells.specs.States.{later}
+use Rattle.effect_cells.specs.States.{state_after}
 use Rattle.effect_cells.proofs.InRange.{each_left_is}
 use Rattle.effect_cells.proofs.passing.pass_each.Goals as goal
 
@@ -12,5 +12,5 @@ later_from-requires c =
 pub loop-state-preserved : goal.loop-state-preserved
 loop-state-preserved c =
     rw c.later_from.ensures (rw (← c.state-item.is)
-    (map_over_more (later c.args.dt) c.args.states.now c.loop-state.states c.loop-state.state-index c.state-item.result
+    (map_over_more (state_after c.args.dt) c.args.states.now c.loop-state.states c.loop-state.state-index c.state-item.result
     c.loop-state-test.true c.loop-state.invariant c.state-item.is))

@@ -4,9 +4,9 @@ use Rattle.std.proofs.Math.Seq.{drop-append_seam}
 use Rattle.aerie_base.specs.declared.plans.Directive.{Directive}
 use Rattle.aerie_base.specs.plans.OfModel.{rise_to, ids_of, with_id}
 use Rattle.aerie_base.specs.declared.plans.Plan.{Plan}
-use Rattle.plan_merge.specs.Plans.{InOrder}
+use Rattle.plan_merge.specs.Plans.{AreMergeable}
 use Rattle.plan_merge.specs.Renaming.{added, renamed_if_new}
-use Rattle.plan_merge.specs.Merging.{left, left_by, merged, judged, next_after, unless, clashes}
+use Rattle.plan_merge.specs.Merging.{left_of_target, left_by, merged, made_or_conflicts, next_after, unless, clashes}
 use Rattle.plan_merge.specs.Answers.{UnlessOutOfMemory}
 use Rattle.plan_merge.proofs.Rising.{merged_rise}
 use Rattle.plan_merge.proofs.Merges.{judged_order, length_filter_map}
@@ -19,14 +19,14 @@ behind all kept new n k n_is k_is are =
     omega (arith, n_is, k_is, sum)
 
 -- what is there when the directives are put together, told of the plans and the numbers alone
-rising_of : (b s t : Plan) → InOrder b s t → (all kept : List Directive) (n k next : ℕ) → all ≡ kept ++ added b s t → kept ≡ left b s t → n ≡ length all → k ≡ length kept →
+rising_of : (b s t : Plan) → AreMergeable b s t → (all kept : List Directive) (n k next : ℕ) → all ≡ kept ++ added b s t → kept ≡ left_of_target b s t → n ≡ length all → k ≡ length kept →
     next ≡ next_after b t (n - k) → (ds : List Directive) → ds ≡ all → IsTrue (rise_to next 0 (ids_of ds))
 rising_of b s t order all kept n k next are kept_is n_is k_is next_is ds ds_are =
     subst (λ (ds : List Directive). IsTrue (rise_to next 0 (ids_of ds))) (sym (ds_are ∙ are ∙ ap (λ (kept : List Directive). kept ++ added b s t) kept_is))
     (subst (λ (m : ℕ). IsTrue (rise_to m 0 (ids_of (merged b s t)))) (sym (next_is ∙ ap (next_after b t) (behind all kept (added b s t) n k n_is k_is are)))
     (merged_rise b s t order.target.ids order.source.ids))
 
-few_of : (b s t : Plan) → InOrder b s t → (kept all : List Directive) → kept ≡ left b s t → all ≡ kept ++ added b s t → length all < 2 ^ 32
+few_of : (b s t : Plan) → AreMergeable b s t → (kept all : List Directive) → kept ≡ left_of_target b s t → all ≡ kept ++ added b s t → length all < 2 ^ 32
 few_of b s t order kept all kept_is are =
     let sum = ap length are ∙ length-append kept (added b s t) in
     let kept_long = ap length kept_is in
@@ -63,10 +63,10 @@ returns-clause-exact c =
     let new_are = ap (drop c.len-kept.result) all_are ∙ ap (λ (k : ℕ). drop k (kept ++ added b s t)) c.len-kept.ensures ∙ drop-append_seam kept (added b s t) in
     let none : clashes b s t ≡ [] = sym c.in_ok-conflicts.ensures ∙ c.is_empty.ensures.0 c.if-not-is_empty.false in
     subst (λ answer. UnlessOutOfMemory answer c.judged.result)
-    (ap (λ (new : List Directive). judged t c.next_after-next.result c.as_slice-4.result.now new) new_are
-    ∙ ap (λ (ds : List Directive). judged t c.next_after-next.result ds (added b s t)) (all_are ∙ ap (λ (l : List Directive). l ++ added b s t) c.in_ok-directives.ensures)
-    ∙ ap (λ (n : ℕ). judged t n (merged b s t) (added b s t)) (c.next_after-next.ensures ∙ ap (next_after b t) count)
-    ∙ sym (ap (λ cs. unless cs (judged t (next_after b t (length (added b s t))) (merged b s t) (added b s t))) none))
+    (ap (λ (new : List Directive). made_or_conflicts t c.next_after-next.result c.as_slice-4.result.now new) new_are
+    ∙ ap (λ (ds : List Directive). made_or_conflicts t c.next_after-next.result ds (added b s t)) (all_are ∙ ap (λ (l : List Directive). l ++ added b s t) c.in_ok-directives.ensures)
+    ∙ ap (λ (n : ℕ). made_or_conflicts t n (merged b s t) (added b s t)) (c.next_after-next.ensures ∙ ap (next_after b t) count)
+    ∙ sym (ap (λ cs. unless cs (made_or_conflicts t (next_after b t (length (added b s t))) (merged b s t) (added b s t))) none))
     c.judged.ensures
 
 pub returns-clause-order : goal.returns-clause-order

@@ -1,6 +1,6 @@
 use Rattle.std.proofs.Common.{◌∙◌, sym, ap, arith, ◌≢◌, length, subst}
 use Rattle.run_data.specs.StepStates.{starting}
-use Rattle.task_step.specs.Ways.{Goes}
+use Rattle.task_step.specs.Ways.{TakesWay}
 use Rattle.task_step.proofs.Landing.{over, spent, ends, goes_on, works}
 use Rattle.task_step.proofs.Places.{few_cells, room, state_place}
 use Rattle.task_step.proofs.Starting.{starts}
@@ -37,7 +37,7 @@ take-requires-clause-works c = works _ _ c.land-here.ensures.place c.land-here.e
 
 pub places-preserved : goal.places-preserved
 places-preserved c =
-    let g = subst (λ way. Goes c.args.model.now c.args.code.now c.args.job.now.state.kind c.land-here.result c.places.so_far way c.take.new.so_far) c.in-Onward.is c.in_ok-to.ensures in
+    let g = subst (λ way. TakesWay c.args.model.now c.args.code.now c.args.job.now.state.kind c.land-here.result c.places.so_far way c.take.new.so_far) c.in-Onward.is c.in_ok-to.ensures in
     let i = c.places.invariant in
     let ne : c.places.so_far.cost ≢ c.args.fuel = omega (arith, c.cost.ensures, c.if-cost-fuel.false) in
     record {
@@ -51,7 +51,7 @@ places-preserved c =
 
 pub returns-in-Ended-clause-frame : goal.returns-in-Ended-clause-frame
 returns-in-Ended-clause-frame c =
-    let g = subst (λ way. Goes c.args.model.now c.args.code.now c.args.job.now.state.kind c.land-here.result c.places.so_far way c.take.new.so_far) c.in-Ended.is c.in_ok-to.ensures in
+    let g = subst (λ way. TakesWay c.args.model.now c.args.code.now c.args.job.now.state.kind c.land-here.result c.places.so_far way c.take.new.so_far) c.in-Ended.is c.in_ok-to.ensures in
     let i = c.places.invariant in
     let ne : c.places.so_far.cost ≢ c.args.fuel = omega (arith, c.cost.ensures, c.if-cost-fuel.false) in
     ends c.args.model.now c.args.code.now c.args.job.now _ _ _ _ c.requires.code i.same c.land-here.ensures.left _ _ _ i.paid ne g c.in_ok-finish-in-Ended.ensures

@@ -2,7 +2,7 @@
 use Rattle.std.proofs.Common.{◌≡◌, ◌∙◌, ap, map, sym}
 use Rattle.std.proofs.lemmas.Result.{IfOk-weaker}
 use Rattle.windows.specs.declared.segments.Segment.{Segment}
-use Rattle.windows.specs.Linear.{AreSegments, value_at}
+use Rattle.windows.specs.Linear.{AreSegments, segments_value}
 use Rattle.dataset_in.specs.Levels.{before, constant, segments_of}
 use Rattle.dataset_in.specs.Series.{AreStarts, IsSeries}
 use Rattle.dataset_in.specs.declared.series.Series.{Series}
@@ -17,9 +17,9 @@ returns-in-Whole-clause-values c =
     let starts : AreStarts (map (λ (s : Segment). s.from) (map constant entries)) = rw (same_starts entries) series.0 in
     IfOk-weaker c.whole_before.result _ _
     (λ s e. (λ t below.
-    ap (λ l. value_at l t) (e ∙ ap (λ l. before c.args.reach (map constant l)) c.as_slice.ensures)
+    ap (λ l. segments_value l t) (e ∙ ap (λ l. before c.args.reach (map constant l)) c.as_slice.ensures)
     ∙ values_kept c.args.reach (map constant entries) starts t below
-    ∙ ap (λ (of : Series). value_at (segments_of of) t) (sym c.in-Whole.is)))
+    ∙ ap (λ (of : Series). segments_value (segments_of of) t) (sym c.in-Whole.is)))
     c.whole_before.ensures.exact
 
 pub returns-in-Whole-clause-form : goal.returns-in-Whole-clause-form
@@ -41,9 +41,9 @@ returns-in-Linear-clause-values c =
     let series : IsSeries (Linear segments) = rw c.in-Linear.is at c.requires.series in
     IfOk-weaker c.linear_before.result _ _
     (λ s e. (λ t below.
-    ap (λ l. value_at l t) (e ∙ ap (before c.args.reach) c.as_slice-in-Linear.ensures)
+    ap (λ l. segments_value l t) (e ∙ ap (before c.args.reach) c.as_slice-in-Linear.ensures)
     ∙ values_kept c.args.reach segments series.0 t below
-    ∙ ap (λ (of : Series). value_at (segments_of of) t) (sym c.in-Linear.is)))
+    ∙ ap (λ (of : Series). segments_value (segments_of of) t) (sym c.in-Linear.is)))
     c.linear_before.ensures.exact
 
 pub returns-in-Linear-clause-form : goal.returns-in-Linear-clause-form

@@ -3,17 +3,17 @@ use Rattle.std.proofs.Common.{◌≡◌, ℕ, List, true, false, codes, Option, 
 use Rattle.jiff.specs.Words.{epoch_day}
 use Rattle.jiff_core.specs.declared.civil.date.Date.{Date}
 use Rattle.epoch_text.specs.Dates.{day_by_month, day_by_place, day_of}
-use Rattle.epoch_text.specs.Forms.{has_form, number_at}
+use Rattle.epoch_text.specs.Forms.{has_form, written_number}
 use Rattle.epoch_text.specs.Ranges.{IsStartDay}
 use Rattle.epoch_text.proofs.Digits.{form_digits}
 use Rattle.epoch_text.proofs.Years.{by_month_in_range, by_place_in_range}
 use Rattle.epoch_text.proofs.reading.dates.date_of.Goals as goal
 
-by_month : (text : List ℕ) → has_form text (codes "0000-00-00") ≡ true → day_of text ≡ day_by_month (number_at 0 4 text) (number_at 5 2 text) (number_at 8 2 text)
+by_month : (text : List ℕ) → has_form text (codes "0000-00-00") ≡ true → day_of text ≡ day_by_month (written_number 0 4 text) (written_number 5 2 text) (written_number 8 2 text)
 by_month text e = rw e refl
 
 by_place : (text : List ℕ) → has_form text (codes "0000-00-00") ≡ false → has_form text (codes "0000-000") ≡ true →
-    day_of text ≡ day_by_place (number_at 0 4 text) (number_at 5 3 text)
+    day_of text ≡ day_by_place (written_number 0 4 text) (written_number 5 3 text)
 by_place text e f = rw (e, f) refl
 
 -- what holds of the day holds of the date's
