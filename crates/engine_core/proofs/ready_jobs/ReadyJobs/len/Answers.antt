@@ -1,0 +1,11 @@
+use Rattle.std.proofs.Common.{◌∙◌, ap, length, List, ℕ}
+use Rattle.run_data.specs.declared.jobs.Job.{Job}
+use Rattle.engine_core.proofs.Pairs.{as_long}
+use Rattle.engine_core.proofs.ready_jobs.ReadyJobs.len.Goals as goal
+
+pub returns : goal.returns
+returns c =
+    c.len.ensures
+    ∙ c.self.inside.jobs.ok.0
+    ∙ as_long c.self.inside.made.items c.self.inside.jobs.items c.self.invariant
+    ∙ ap (λ (ready : List (ℕ × Job)). length ready) c.self.view_is
