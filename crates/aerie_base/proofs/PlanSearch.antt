@@ -2,8 +2,8 @@
 use Rattle.std.proofs.Common.{◌≡◌, ℕ, zero, suc, ◌+◌, ◌<◌, ◌≤◌, Bool, true, false, List, [], ◌∷◌, Some, None, length, slice_get, nat_lt, refl, sym, ap, ◌∙◌, arith, ltb-true, ltb-false}
 use Rattle.std.proofs.lemmas.Option.{same_Some, slice_get_within}
 use Rattle.aerie_base.specs.declared.plans.Directive.{Directive}
-use Rattle.aerie_base.specs.plans.OfModel.{with_id}
-use Rattle.aerie_base.specs.plans.RisingIds.{Rise, IsIdAt, later_above, found_by_id, none_by_id}
+use Rattle.aerie_base.specs.plans.OfModel.{with_id, Rise, IsIdAt}
+use Rattle.aerie_base.specs.plans.RisingIds.{later_above, found_by_id, none_by_id}
 
 abbrev pub AreBelow : List Directive → ℕ → ℕ → Type 0
 AreBelow directives from id = (at : ℕ) (found : Directive) → at < from → slice_get directives at ≡ Some found → found.id < id

@@ -1,3 +1,5 @@
+-- A file of lemmas: what it proves need not be read to trust a clause.
+--
 -- What the order of paths means. A task stands before what was made below it, and that stands together: the paths
 -- under one are those from it on, up to the first that is not under it.
 use Rattle.std.specs.Prelude.{◌≡◌, ◌↔◌, ℕ, ◌<◌, ◌&&◌, List, [], ◌∷◌, ◌++◌, nat_eq, Bool, true, false, IsTrue, refl}
@@ -12,7 +14,7 @@ use Rattle.std.specs.BTreeSet.{BTreeSet, contains, IsKeyRangeOf}
 use Rattle.std.proofs.lemmas.Bool.{true≢false}
 use Rattle.std.proofs.lemmas.Bool.Decides.{Decides-eqb}
 use Rattle.std.proofs.lemmas.Cmp.{nat_cmp_total}
-use Rattle.aerie_base.specs.Paths.{directive_path, daemon_path, child_path, is_prefix, path_cmp}
+use Rattle.aerie_base.specs.Paths.{directive_path, daemon_path, child_path, is_prefix, AnyUnder, path_cmp}
 
 -- the first comes at the second or before it
 abbrev pub IsUpTo : List ℕ → List ℕ → Type 0
@@ -116,10 +118,6 @@ between_is_under (a ∷ p) (b ∷ q) (c ∷ r) from upto under =
         ∙ behind f (sym (ap (λ o. is_gt (ordering_then o (path_cmp q r))) (turned Equal x e)) ∙ u) h
 
 -- ---- whether one of some paths is under another, by the first of them from it on
-
--- one of the paths is under this one
-abbrev pub AnyUnder : List ℕ → (List ℕ → Type 0) → Type 0
-AnyUnder p Has = (q : List ℕ) × Has q × IsTrue (is_prefix p q)
 
 -- the first of them from p on is under p exactly where one of them is
 pub first_from_tells : (Has : List ℕ → Type 0) (p first : List ℕ) → Has first → IsUpTo p first →

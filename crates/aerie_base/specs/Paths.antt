@@ -1,7 +1,7 @@
 -- The path of a task: the directive or daemon that it comes from, and the number of each child on the way down to it.
 -- A path is the list of its numbers as they are compared: 0 for a directive or 1 for a daemon, then the id, then the
 -- numbers of the children, each counted from 0 in the order in which its parent made it.
-use Rattle.std.specs.Prelude.{◌≡◌, ℕ, ◌&&◌, List, [], ◌∷◌, ◌++◌, length, nat_eq, nat_le, nat_lt, Bool, true, false, Option, Some, None, if◌then◌else◌, replicate, refl}
+use Rattle.std.specs.Prelude.{◌≡◌, ℕ, ◌&&◌, List, [], ◌∷◌, ◌++◌, length, nat_eq, nat_le, nat_lt, Bool, true, false, IsTrue, Option, Some, None, if◌then◌else◌, replicate, refl}
 use Rattle.std.specs.List.{list_all}
 use Rattle.std.specs.Ordering.{nat_cmp}
 use Rattle.std.specs.Cmp.Lexicographic.{slice_cmp}
@@ -80,6 +80,10 @@ abbrev pub is_prefix : List ℕ → List ℕ → Bool
 is_prefix [] path = true
 is_prefix (number ∷ above) [] = false
 is_prefix (number ∷ above) (other ∷ path) = nat_eq number other && is_prefix above path
+
+-- one of the paths is under this one
+abbrev pub AnyUnder : List ℕ → (List ℕ → Type 0) → Type 0
+AnyUnder path Has = (other : List ℕ) × Has other × IsTrue (is_prefix path other)
 
 -- ---- the order
 

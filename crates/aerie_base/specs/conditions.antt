@@ -1,4 +1,5 @@
-pub mod Recursion
-pub mod Holding
 pub mod Filling
 pub mod FillingLaw
+pub mod Holding
+pub mod Recursion
+pub mod RecursionLaws

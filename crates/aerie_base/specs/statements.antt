@@ -1,7 +1,8 @@
-pub mod Recursion
-pub mod Places
-pub mod Induction
 pub mod Bridge
-pub mod PlaceForms
-pub mod Sizes
 pub mod Cases
+pub mod Induction
+pub mod PlaceForms
+pub mod Places
+pub mod Recursion
+pub mod RecursionLaws
+pub mod Sizes

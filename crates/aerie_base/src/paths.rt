@@ -7,8 +7,7 @@ ghost use Rattle.std.specs.Cmp.Rules.{hashing};
 ghost use Rattle.std.proofs.Common.{rules};
 ghost use Rattle.std.specs.Hash as fed;
 ghost use Rattle.std.specs.Cmp.Lexicographic.{pointwise, slice_cmp, nat_list_eq_equiv, nat_list_cmp_total, texts_po, texts_ties};
-ghost use Rattle.aerie_base.specs.Paths.{root, daemon_root, comes_from_daemon, id_of, children_of, path_of, is_path, may_have_children, child_of, is_prefix, path_cmp};
-ghost use Rattle.aerie_base.specs.PathOrder.{AnyUnder};
+ghost use Rattle.aerie_base.specs.Paths.{root, daemon_root, comes_from_daemon, id_of, children_of, path_of, is_path, may_have_children, child_of, is_prefix, path_cmp, AnyUnder};
 ghost use Rattle.std.specs.BTreeSet.{contains};
 
 use crate::memory::OutOfMemory;

@@ -1,6 +1,5 @@
 ghost use Rattle.std.specs.Prelude.{◌≡◌, ◌↔◌, ◌<◌, IsTrue, IfOk, IfSome, option_and_then, slice_get, length};
-ghost use Rattle.aerie_base.specs.plans.OfModel.{with_id};
-ghost use Rattle.aerie_base.specs.plans.RisingIds.{Rise, IsIdAt};
+ghost use Rattle.aerie_base.specs.plans.OfModel.{with_id, Rise, IsIdAt};
 
 use crate::containers::List;
 use crate::memory::OutOfMemory;

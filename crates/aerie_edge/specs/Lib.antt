@@ -6,3 +6,4 @@ pub mod MemoryInput
 pub mod MemoryOutput
 pub mod SureOutput
 pub mod Written
+pub mod WrittenLaws

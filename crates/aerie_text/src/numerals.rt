@@ -7,13 +7,13 @@ ghost use Rattle.aerie_text.specs.Numerals.{digits_at, duration_len, fits_number
 
 use crate::bytes::{begins_with_word_byte, digit_len};
 use crate::token::TokenKind;
-use aerie_base::read_duration;
+use aerie_base::{NUMBER_LIMIT, read_duration};
 
 /// The most digits of a number.
 const MOST_DIGITS: usize = 19;
 
 /// The greatest number.
-const GREATEST: u64 = 1_000_000_000_000_000_000;
+const GREATEST: u64 = NUMBER_LIMIT as u64;
 
 /// The kind and the length of the token of the digits in front, all of which it takes, or `None` where they are none.
 /// Each digit is read a few times.

@@ -4,7 +4,7 @@ use denote.Hole.Carrier.{hidden, shown, roll}
 use Rattle.aerie_base.specs.declared.expressions.Expr.{Expr}
 use Rattle.aerie_base.specs.declared.statements.Stmt.{Stmt, If, While, roll-Stmt, out-Stmt, roll-out-Stmt}
 use Rattle.aerie_base.specs.declared.statements.Stmt.TheOpen.{Stmt-F}
-use Rattle.aerie_base.specs.statements.Recursion.{with_gift, gives-If, gives-While}
+use Rattle.aerie_base.specs.statements.RecursionLaws.{with_gift, gives-If, gives-While}
 use Rattle.aerie_base.specs.statements.Places.{size, block_size, is_simple, simple_step}
 use Rattle.body_code.specs.FlatCode.{Coded, code_of, code_in, code_step, block_code, if_code, while_code}
 use Rattle.body_code.specs.declared.instructions.Instruction.{Instruction}

@@ -1,4 +1,4 @@
--- A worked model: an activity type that returns at once, and a daemon that does nothing.
+-- A worked model, for tests, and that it is valid: an activity type that returns at once, and a daemon that does nothing.
 use Rattle.std.proofs.Common.{ℕ, IsTrue, List, [], ◌∷◌, None, refl}
 use Rattle.aerie_base.specs.declared.statements.Stmt.{Return}
 use Rattle.aerie_base.specs.declared.models.model.Parts.{Parts}

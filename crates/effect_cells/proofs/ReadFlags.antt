@@ -2,7 +2,8 @@
 use Rattle.std.proofs.Common.{◌≡◌, ℕ, zero, suc, ◌+◌, ◌<◌, Bool, ◌||◌, List, [], ◌∷◌, drop, length, get_or, ap, sym, ◌∙◌, arith}
 use Rattle.aerie_base.specs.declared.conditions.Cond.{Cond, Not, And, Or}
 use Rattle.aerie_base.specs.declared.linear.Term.{Term}
-use Rattle.effect_cells.specs.ReadCells.{reads_operand, reads_terms, reads_cell, also_read, reads-Not, reads-And, reads-Or}
+use Rattle.effect_cells.specs.ReadCells.{reads_operand, reads_terms, reads_cell, also_read}
+use Rattle.effect_cells.specs.ReadCellLaws.{reads-Not, reads-And, reads-Or}
 use Rattle.effect_cells.specs.Touched.{flagged_from}
 use Rattle.effect_cells.proofs.Flags.{both_flags, no_flags}
 

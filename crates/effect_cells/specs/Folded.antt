@@ -1,6 +1,8 @@
+-- A file of lemmas: what it proves need not be read to trust a clause.
+--
 -- The definitions on trees by the tree's own recursion, which the proofs of bodies go by and which does not compute.
 use Rattle.std.specs.Prelude.{◌≡◌, ℕ, Bool, Option}
-use Rattle.effect_cells.specs.TreeRecursion.{tree_gives_fold}
+use Rattle.effect_cells.specs.TreeRecursionLaws.{tree_gives_fold}
 use Rattle.effect_cells.specs.Worth.{Before, part_worth, tree_worth, part_magnitude, tree_magnitude, part_fits, tree_fits, part_is_on, tree_is_on, worth_of, magnitude_of, all_accepted, has_effect_on}
 use Rattle.effect_cells.specs.declared.effects.Effect.{Effect}
 use Rattle.effect_cells.specs.declared.trees.Part.{Part, fold-Part}

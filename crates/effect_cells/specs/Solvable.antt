@@ -1,7 +1,7 @@
 -- The conditions of which the time to wait is computed.
 use Rattle.std.specs.Prelude.{◌≡◌, ℕ, ◌-◌, ◌^◌, ℤ, pos, Bool, true, false, ◌&&◌, [], ◌∷◌, Option, Some, None, length, nat_le, nat_lt, unsigned_abs, refl}
 use Rattle.std.specs.List.{list_all}
-use Rattle.aerie_base.specs.conditions.Recursion.{cond_gives, gives_fold}
+use Rattle.aerie_base.specs.conditions.Recursion.{cond_gives}
 use Rattle.aerie_base.specs.expressions.Arithmetic.{value_kind}
 use Rattle.aerie_base.specs.declared.conditions.Cond.{Cond, Flag, Compare, fold-Cond}
 use Rattle.aerie_base.specs.declared.conditions.Cond.TheOpen.{Cond-F}
@@ -63,11 +63,6 @@ may_be_solved kinds = cond_gives Bool false (solvable_step kinds)
 -- the same by the fold, which does not compute
 abbrev pub may_be_solved_by_fold : ReadKinds → Cond → Bool
 may_be_solved_by_fold kinds = fold-Cond Bool (solvable_step kinds)
-
--- both are one
-pub may_be_solved_is : (kinds : ReadKinds) (condition : Cond) → may_be_solved kinds condition ≡ may_be_solved_by_fold kinds condition
-unfolding may_be_solved
-may_be_solved_is kinds condition = gives_fold Bool false (solvable_step kinds) condition
 
 -- ---- worked cases
 

@@ -3,8 +3,7 @@ use Rattle.std.specs.Prelude.{◌≡◌, ℕ, suc, ◌≤◌, IsTrue, List, Some
 use Rattle.std.specs.List.{list_all}
 use Rattle.aerie_base.specs.declared.plans.Directive.{Directive}
 use Rattle.aerie_base.specs.declared.plans.Plan.{Plan}
-use Rattle.aerie_base.specs.plans.OfModel.{directive_limit, rise_to, ids_of, anchored_to, followed, is_there}
-use Rattle.aerie_base.specs.plans.RisingIds.{Rise}
+use Rattle.aerie_base.specs.plans.OfModel.{directive_limit, rise_to, ids_of, anchored_to, followed, is_there, Rise}
 use Rattle.plan_merge.specs.Renaming.{renamed}
 
 -- the condition on a plan that is merged

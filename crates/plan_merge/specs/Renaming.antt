@@ -1,9 +1,9 @@
 -- The ids that the directives new in the source get.
-use Rattle.std.specs.Prelude.{ℕ, suc, Bool, not, List, [], ◌∷◌, Option, Some, None, option_map, is_some, nat_eq, nat_lt, filter_map, if◌then◌else◌}
+use Rattle.std.specs.Prelude.{◌≡◌, ℕ, suc, Bool, not, List, [], ◌∷◌, Option, Some, None, option_map, is_some, nat_eq, nat_lt, map, filter_map, if◌then◌else◌}
 use Rattle.aerie_base.specs.declared.plans.Anchor.{Anchor}
 use Rattle.aerie_base.specs.declared.plans.Directive.{Directive}
 use Rattle.aerie_base.specs.declared.plans.Plan.{Plan}
-use Rattle.aerie_base.specs.plans.OfModel.{with_id}
+use Rattle.aerie_base.specs.plans.OfModel.{with_id, ids_of}
 
 -- whether one of some directives has the id
 abbrev pub has : List Directive → ℕ → Bool
@@ -19,6 +19,10 @@ new_id base next [] id = id
 new_id base next (directive ∷ rest) id =
     if nat_eq directive.id id then (if has base id then id else next)
     else new_id base (if has base directive.id then next else suc next) rest id
+
+-- these are the ids that the directives of the source get
+abbrev pub AreNewIds : List Directive → ℕ → List Directive → List ℕ → Type 0
+AreNewIds base first source ids = ids ≡ map (new_id base first source) (ids_of source)
 
 abbrev pub with_new_id : (ℕ → ℕ) → Anchor → Anchor
 with_new_id new anchor = record anchor { to = new anchor.to }

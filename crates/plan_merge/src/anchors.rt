@@ -1,8 +1,7 @@
 //! Merged directives by their ids, and anchors that lead to none of them.
 
 ghost use Rattle.std.specs.Prelude.{◌≡◌, ◌<◌, IfOk, IfSome, option_and_then, slice_get, length};
-ghost use Rattle.aerie_base.specs.plans.OfModel.{with_id, is_there};
-ghost use Rattle.aerie_base.specs.plans.RisingIds.{Rise, IsIdAt};
+ghost use Rattle.aerie_base.specs.plans.OfModel.{with_id, is_there, Rise, IsIdAt};
 ghost use Rattle.plan_merge.specs.declared.answers.ConflictKind.TheVariants.{Anchor as Astray};
 ghost use Rattle.plan_merge.specs.Renaming.{has};
 ghost use Rattle.plan_merge.specs.Merging.{is_astray, conflicts_of};

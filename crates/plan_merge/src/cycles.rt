@@ -1,10 +1,10 @@
-//! Cycles of anchors, found by doubling: a directive is on a cycle exactly where as many anchors as there are directives lead to it from one.
+//! Cycles of anchors, found by doubling: a directive is on a cycle exactly where as many anchors as there are
+//! directives lead to it from one.
 
 ghost use Rattle.std.specs.Prelude.{◌≡◌, ◌+◌, ◌≤◌, ◌<◌, ◌^◌, ℕ, suc, Bool, false, ◌||◌, IfOk, length, map};
 ghost use Rattle.std.specs.List.{list_any};
 ghost use Rattle.aerie_base.specs.declared.plans.Directive.{Directive as Shown};
-ghost use Rattle.aerie_base.specs.plans.OfModel.{anchored_to};
-ghost use Rattle.aerie_base.specs.plans.RisingIds.{Rise};
+ghost use Rattle.aerie_base.specs.plans.OfModel.{anchored_to, Rise};
 ghost use Rattle.plan_merge.specs.declared.answers.ConflictKind.TheVariants.{Cycle as OnCycle};
 ghost use Rattle.plan_merge.specs.Merging.{is_at, is_on_cycle, conflicts_of};
 ghost use Rattle.plan_merge.specs.Leads.{lead_from, leads_after};
@@ -63,7 +63,8 @@ fn doubled(
 fn far_leads(alloc: Global, directives: &[Numbered]) -> Result<Vec<Option<u64>>, OutOfMemory>
     requires rising { Rise directives.now }
     requires few { length directives.now < 2 ^ 32 }
-    ensures { IfOk result (λ leads. (steps : ℕ) × ((length directives.now ≤ steps) × (leads.items ≡ leads_after directives.now (suc steps)))) }
+    ensures { IfOk result (λ leads. (steps : ℕ)
+        × ((length directives.now ≤ steps) × (leads.items ≡ leads_after directives.now (suc steps)))) }
 {
     let mut far = leads(alloc, directives)?;
     let mut steps = 1;
@@ -76,7 +77,8 @@ fn far_leads(alloc: Global, directives: &[Numbered]) -> Result<Vec<Option<u64>>,
 
 /// No mark for each directive.
 fn no_marks(alloc: Global, directives: &[Numbered]) -> Result<Vec<bool>, OutOfMemory>
-    ensures { IfOk result (λ marks. marks.items ≡ map (λ (directive : Shown). false) directives.now) }
+    ensures { IfOk result (λ marks.
+        marks.items ≡ map (λ (directive : Shown). false) directives.now) }
 {
     let mut marks = Vec::with_capacity(alloc, directives.len())?;
     for _directive in directives {
@@ -92,7 +94,8 @@ fn marks(
     leads: &[Option<u64>],
 ) -> Result<Vec<bool>, OutOfMemory>
     requires rising { Rise directives.now }
-    ensures { IfOk result (λ marks. marks.items ≡ map (λ (directive : Shown). list_any (is_at directive.id) leads.now) directives.now) }
+    ensures { IfOk result (λ marks.
+        marks.items ≡ map (λ (directive : Shown). list_any (is_at directive.id) leads.now) directives.now) }
 {
     let mut marks = no_marks(alloc, directives)?;
     for at in 0..leads.len() {
@@ -105,7 +108,8 @@ fn marks(
 fn mark(directives: &[Numbered], marks: &mut Vec<bool>, lead: Option<u64>)
     requires rising { Rise directives.now }
     requires count { length marks.old.items ≡ length directives.now }
-    ensures marked { (led : Shown → Bool) → marks.old.items ≡ map led directives.now → marks.new.items ≡ map (λ (directive : Shown). led directive || is_at directive.id lead) directives.now }
+    ensures marked { (led : Shown → Bool) → marks.old.items ≡ map led directives.now →
+        marks.new.items ≡ map (λ (directive : Shown). led directive || is_at directive.id lead) directives.now }
     ensures count { length marks.new.items ≡ length directives.now }
 {
     if let Some(id) = lead {
@@ -123,7 +127,8 @@ fn marked(
     marks: &[bool],
 ) -> Result<List<Conflict>, OutOfMemory>
     requires count { length marks.now ≡ length directives.now }
-    ensures { IfOk result (λ conflicts. (test : Shown → Bool) → marks.now ≡ map test directives.now → conflicts ≡ conflicts_of OnCycle test directives.now) }
+    ensures { IfOk result (λ conflicts. (test : Shown → Bool) → marks.now ≡ map test directives.now →
+        conflicts ≡ conflicts_of OnCycle test directives.now) }
 {
     let mut conflicts = List::new(alloc);
     for at in 0..directives.len() {
@@ -135,7 +140,8 @@ fn marked(
     Ok(conflicts)
 }
 
-/// The directives to which following anchors returns, in about as many steps as there are directives times the square of its logarithm.
+/// The directives to which following anchors returns, in about as many steps as there are directives times the
+/// square of its logarithm.
 pub fn on_cycles(alloc: Global, directives: &[Numbered]) -> Result<List<Conflict>, OutOfMemory>
     requires rising { Rise directives.now }
     requires few { length directives.now < 2 ^ 32 }

@@ -8,10 +8,13 @@ ghost use Rattle.plan_merge.specs.SourceOnly.{GivesTheSource};
 
 /// Merged from a source that changed nothing since the base, the target stays as it is, and nothing is added.
 pub fn a_source_that_changed_nothing()
-    ensures { (base target : Shown) → AreMergeable base base target → target.next_id < 2 ^ 32 → merge_of base base target ≡ Ok (record { plan = target; added = [] }) }
+    ensures { (base target : Shown) → AreMergeable base base target → target.next_id < 2 ^ 32 →
+        merge_of base base target ≡ Ok (record { plan = target; added = [] }) }
 {}
 
-/// Merged into a target that changed nothing since the base, the source's directives are those of the merged plan, the new ones with new ids.
+/// Merged into a target that changed nothing since the base, the source's directives are those of the merged plan, the
+/// new ones with new ids.
 pub fn a_target_that_changed_nothing()
-    ensures { (base source : Shown) → AreMergeable base source base → GivesTheSource base source base (merge_of base source base) }
+    ensures { (base source : Shown) → AreMergeable base source base →
+        GivesTheSource base source base (merge_of base source base) }
 {}

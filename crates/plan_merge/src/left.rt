@@ -1,11 +1,10 @@
 //! What is left of the directives, and those that could not be merged.
 
 ghost use Rattle.std.specs.Prelude.{◌≡◌, ◌++◌, Some, None, IfOk, option_copied, if◌then◌else◌};
-ghost use Rattle.aerie_base.specs.plans.OfModel.{with_id};
+ghost use Rattle.aerie_base.specs.plans.OfModel.{with_id, Rise};
 ghost use Rattle.plan_merge.specs.Renaming.{added};
-ghost use Rattle.aerie_base.specs.plans.RisingIds.{Rise};
-ghost use Rattle.plan_merge.specs.Merging.{becomes, source_with, clash_of, clashes, what_is_left, left_by, left_of_target};
-ghost use Rattle.plan_merge.specs.Chosen.{chosen_directive};
+ghost use Rattle.plan_merge.specs.Merging.{becomes, clash_of, clashes, what_is_left, left_by, left_of_target};
+ghost use Rattle.plan_merge.specs.Chosen.{IsChoiceOf};
 ghost use Rattle.plan_merge.specs.Plans.{AreMergeable, AreRenamed};
 
 use crate::answers::Conflict;
@@ -37,7 +36,7 @@ fn choice_of(
 ) -> Choice
     requires order { AreMergeable base.now source.now target.now }
     requires renamed { AreRenamed base.now source.now target.now all.now }
-    ensures { chosen_directive result (source_with base.now source.now target.now directive.now.id) (with_id target.now.directives directive.now.id) ≡ becomes base.now source.now target.now directive.now }
+    ensures { IsChoiceOf base.now source.now target.now directive.now result }
 {
     choose(
         directive,
@@ -136,7 +135,8 @@ fn left_of(
     requires order { AreMergeable base.now source.now target.now }
     requires renamed { AreRenamed base.now source.now target.now all.now }
     requires same { with_id target.now.directives directive.now.id ≡ Some directive.now }
-    ensures { IfOk result (λ one. one ≡ left_by base.now source.now target.now directive.now (with_id base.now.directives directive.now.id)) }
+    ensures { IfOk result (λ one.
+        one ≡ left_by base.now source.now target.now directive.now (with_id base.now.directives directive.now.id)) }
 {
     match directive_with(base.directives.as_slice(), directive.id) {
         None => Ok(Some(Numbered::of(alloc, directive)?)),

@@ -20,8 +20,9 @@ use std::alloc::Global;
 /// The most directives of a plan.
 const DIRECTIVE_LIMIT: usize = 65_536;
 
-/// Does to the target what the source did since the base: a directive that only one of the two changed or removed is as that one has it, those
-/// new in the source get new ids, and those new in the target stay. It takes time near linear in the directives of the three plans.
+/// Does to the target what the source did since the base: a directive that only one of the two changed or removed is as
+/// that one has it, those new in the source get new ids, and those new in the target stay. It takes time near linear in
+/// the directives of the three plans.
 pub fn merge(alloc: Global, base: &Plan, source: &Plan, target: &Plan) -> Result<Merged, MergeError>
     requires order { AreMergeable base.now source.now target.now }
     ensures exact { UnlessOutOfMemory (merge_of base.now source.now target.now) result }

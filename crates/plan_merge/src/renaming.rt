@@ -2,9 +2,8 @@
 
 ghost use Rattle.std.specs.Prelude.{◌≡◌, ◌<◌, ◌+◌, ◌^◌, ℕ, List as Items, IfOk, length, map, option_map, option_copied};
 ghost use Rattle.aerie_base.specs.declared.plans.Directive.{Directive as Shown};
-ghost use Rattle.aerie_base.specs.plans.OfModel.{with_id, ids_of};
-ghost use Rattle.aerie_base.specs.plans.RisingIds.{Rise};
-ghost use Rattle.plan_merge.specs.Renaming.{has, first_new, new_id, with_new_id, with_new_ids, renamed};
+ghost use Rattle.aerie_base.specs.plans.OfModel.{with_id, Rise};
+ghost use Rattle.plan_merge.specs.Renaming.{has, first_new, new_id, AreNewIds, with_new_id, with_new_ids, renamed};
 ghost use Rattle.plan_merge.specs.Anchors.{shown_anchor};
 
 use crate::numbered::{Far, Numbered};
@@ -42,7 +41,7 @@ fn new_ids(
     requires source { Rise source.now }
     requires room { first < 2 ^ 32 }
     requires few { length source.now < 2 ^ 32 }
-    ensures { IfOk result (λ ids. ids.items ≡ map (new_id base.now first source.now) (ids_of source.now)) }
+    ensures { IfOk result (λ ids. AreNewIds base.now first source.now ids.items) }
 {
     let mut ids = Vec::with_capacity(alloc, source.len())?;
     let mut next = first;
@@ -61,7 +60,8 @@ fn new_ids(
 fn new_id(source: &[Directive], ids: &[u64], id: u32) -> u64
     requires source { Rise source.now }
     requires count { length ids.now ≡ length source.now }
-    ensures { (base : Items Shown) (first : ℕ) → ids.now ≡ map (new_id base first source.now) (ids_of source.now) → result ≡ new_id base first source.now id }
+    ensures { (base : Items Shown) (first : ℕ) → AreNewIds base first source.now ids.now →
+        result ≡ new_id base first source.now id }
 {
     match position_of_id(source, id) {
         Some(at) => ids[at],
@@ -73,7 +73,7 @@ fn new_id(source: &[Directive], ids: &[u64], id: u32) -> u64
 fn far_anchor(source: &[Directive], ids: &[u64], anchor: Option<Anchor>) -> Option<Far>
     requires source { Rise source.now }
     requires count { length ids.now ≡ length source.now }
-    ensures { (base : Items Shown) (first : ℕ) → ids.now ≡ map (new_id base first source.now) (ids_of source.now) →
+    ensures { (base : Items Shown) (first : ℕ) → AreNewIds base first source.now ids.now →
         shown_anchor result ≡ option_map (with_new_id (new_id base first source.now)) anchor }
 {
     match anchor {
@@ -94,7 +94,7 @@ fn rename(
 ) -> Result<Numbered, OutOfMemory>
     requires source { Rise source.now }
     requires count { length ids.now ≡ length source.now }
-    ensures { IfOk result (λ one. (base : Items Shown) (first : ℕ) → ids.now ≡ map (new_id base first source.now) (ids_of source.now) →
+    ensures { IfOk result (λ one. (base : Items Shown) (first : ℕ) → AreNewIds base first source.now ids.now →
         one ≡ with_new_ids (new_id base first source.now) directive.now) }
 {
     Ok(Numbered {
@@ -114,7 +114,7 @@ fn rename_by(
 ) -> Result<List<Numbered>, OutOfMemory>
     requires source { Rise source.now }
     requires count { length ids.now ≡ length source.now }
-    ensures { IfOk result (λ all. (base : Items Shown) (first : ℕ) → ids.now ≡ map (new_id base first source.now) (ids_of source.now) →
+    ensures { IfOk result (λ all. (base : Items Shown) (first : ℕ) → AreNewIds base first source.now ids.now →
         all ≡ map (with_new_ids (new_id base first source.now)) source.now) }
 {
     let mut all = List::with_capacity(alloc, source.len())?;
@@ -145,7 +145,8 @@ pub fn rename_all(
 /// The source's directive with an id, renamed.
 pub fn renamed_with<'a>(source: &[Directive], all: &'a [Numbered], id: u32) -> Option<&'a Numbered>
     requires source { Rise source.now }
-    ensures { (new : Shown → Shown) → all.now ≡ map new source.now → option_copied result ≡ option_map new (with_id source.now id) }
+    ensures { (new : Shown → Shown) → all.now ≡ map new source.now →
+        option_copied result ≡ option_map new (with_id source.now id) }
 {
     match position_of_id(source, id) {
         Some(at) => all.get(at),

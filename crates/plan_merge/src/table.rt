@@ -1,8 +1,8 @@
 //! What becomes of a directive of the base.
 
 ghost use Rattle.std.specs.Prelude.{◌≡◌, None, Some, option_copied};
-ghost use Rattle.plan_merge.specs.Table.{same, row};
-ghost use Rattle.plan_merge.specs.Chosen.{chosen_directive};
+ghost use Rattle.plan_merge.specs.Table.{same};
+ghost use Rattle.plan_merge.specs.Chosen.{IsChoice};
 
 use crate::answers::ConflictKind;
 use crate::numbered::{Numbered, same_directive};
@@ -21,7 +21,7 @@ pub enum Choice {
 
 /// What becomes of a directive of the base, by what source and target have for it.
 pub fn choose(base: &Directive, source: Option<&Numbered>, target: Option<&Directive>) -> Choice
-    ensures { chosen_directive result (option_copied source.entry) (option_copied target.entry) ≡ row base.now (option_copied source.entry) (option_copied target.entry) }
+    ensures { IsChoice result base.now (option_copied source.entry) (option_copied target.entry) }
 {
     match source {
         None => without_source(base, target),
@@ -31,7 +31,7 @@ pub fn choose(base: &Directive, source: Option<&Numbered>, target: Option<&Direc
 
 /// What becomes of a directive of the base that the source has not.
 fn without_source(base: &Directive, target: Option<&Directive>) -> Choice
-    ensures { chosen_directive result None (option_copied target.entry) ≡ row base.now None (option_copied target.entry) }
+    ensures { IsChoice result base.now None (option_copied target.entry) }
 {
     match target {
         None => Choice::Target,
@@ -47,7 +47,7 @@ fn without_source(base: &Directive, target: Option<&Directive>) -> Choice
 
 /// What becomes of a directive of the base that the source has.
 fn with_source(base: &Directive, source: &Numbered, target: Option<&Directive>) -> Choice
-    ensures { chosen_directive result (Some source.now) (option_copied target.entry) ≡ row base.now (Some source.now) (option_copied target.entry) }
+    ensures { IsChoice result base.now (Some source.now) (option_copied target.entry) }
 {
     match target {
         None => {

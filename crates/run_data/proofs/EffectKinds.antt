@@ -17,7 +17,8 @@ use Rattle.effect_cells.specs.Cells.{committed_cells, emitted, passed, with_effe
 use Rattle.effect_cells.specs.Changes.{change_in_turn, change_beside}
 use Rattle.effect_cells.specs.Reads.{state_kind}
 use Rattle.effect_cells.specs.States.{applied_if_any, state_after, volume_of}
-use Rattle.effect_cells.specs.TreeRecursion.{part_gives, gives-Child}
+use Rattle.effect_cells.specs.TreeRecursion.{part_gives}
+use Rattle.effect_cells.specs.TreeRecursionLaws.{gives-Child}
 use Rattle.effect_cells.specs.Worth.{Before, effect_in_turn, effect_beside, in_front, beside, part_worth, tree_worth, items_worth, worth_of}
 use Rattle.run_data.specs.declared.jobs.Job.{Job}
 use Rattle.run_data.specs.declared.frames.Frame.{Frame}

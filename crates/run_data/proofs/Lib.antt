@@ -66,3 +66,4 @@ mod ValidRecords
 mod Waiting
 mod WaveFuel
 mod WaveGenerations
+pub mod IdleRuns

@@ -14,7 +14,8 @@ use Rattle.effect_cells.specs.Cells.{accepts, accepted_by, fits_cells, with_effe
 use Rattle.effect_cells.specs.ChangeLaws.{sides_commute, sides_associate}
 use Rattle.effect_cells.specs.Changes.{change_beside}
 use Rattle.effect_cells.specs.States.{applied_if_any, is_of_kind}
-use Rattle.effect_cells.specs.TreeRecursion.{part_gives, items_give, gives-Child}
+use Rattle.effect_cells.specs.TreeRecursion.{part_gives, items_give}
+use Rattle.effect_cells.specs.TreeRecursionLaws.{gives-Child}
 use Rattle.effect_cells.specs.Worth.{Before, effect_beside, in_front, beside, part_worth, tree_worth, items_worth, worth_of, part_fits, tree_fits}
 use Rattle.run_data.specs.declared.jobs.Job.{Job}
 use Rattle.run_data.specs.declared.frames.Frame.{Frame}

@@ -4,7 +4,7 @@ use Rattle.std.proofs.Common.{◌≡◌, ℕ, ◌+◌, true, List, [], ◌∷◌
 use Rattle.aerie_base.specs.declared.expressions.Expr.{Expr}
 use Rattle.aerie_base.specs.declared.statements.Stmt.{Stmt, If, While, out-Stmt, roll-Stmt, roll-out-Stmt}
 use Rattle.aerie_base.specs.declared.statements.Stmt.TheOpen.{Stmt-F}
-use Rattle.aerie_base.specs.statements.Recursion.{with_gift, gives-If, gives-While}
+use Rattle.aerie_base.specs.statements.RecursionLaws.{with_gift, gives-If, gives-While}
 use Rattle.aerie_base.specs.statements.Places.{Placed, placed, lefts, block_lefts, size, block_size, is_simple, simple_step}
 use Rattle.aerie_base.specs.statements.PlaceForms.{plain_of, size_If, size_While, lefts_If, lefts_While}
 use Rattle.aerie_base.specs.statements.Induction.{AllOf, each, stmt_ind}

@@ -18,7 +18,8 @@ use Rattle.aerie_base.specs.expressions.Soundness.{Within}
 use Rattle.aerie_base.specs.expressions.Typing.{same_kind, slot_kinds}
 use Rattle.aerie_base.specs.models.Bodies.{Setting, checked, is_in, kind_in, is_wanted_kind, is_assigned, is_emission, are_arguments, is_invoked, is_returned, behind_call}
 use Rattle.aerie_base.specs.models.Scopes.{Scope, known}
-use Rattle.aerie_base.specs.models.Signatures.{Signature, signature_of, signatures_of, signature_result, activity_result, signature_at, result_at}
+use Rattle.aerie_base.specs.models.Signatures.{Signature, signature_of, signatures_of, signature_result, activity_result}
+use Rattle.aerie_base.specs.models.SignatureLaws.{signature_at, result_at}
 use Rattle.aerie_base.specs.models.Cells.{read_kind}
 use Rattle.aerie_base.specs.models.Expressions.{is_kind_of}
 use Rattle.aerie_base.specs.models.Conditions.{is_condition}

@@ -23,6 +23,7 @@ pub mod Results
 pub mod Rising
 pub mod SmallSteps
 pub mod Trees
+pub mod Turns
 pub mod Typing
 pub mod ValidRecords
 pub mod WaveFuel

@@ -222,7 +222,7 @@ fn idle(alloc: Global, start: Time, plan: Plan) -> Result<Run, OutOfMemory>
 }
 
 /// Keeps that run.
-#[tactic(auto, using(crate::specs::KeptRuns::idle_is_fresh))]
+#[tactic(auto, using(crate::proofs::IdleRuns::idle_is_fresh))]
 fn keep_idle(
     alloc: Global,
     start: Time,

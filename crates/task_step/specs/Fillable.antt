@@ -1,14 +1,14 @@
 -- The conditions into which locals may be filled: their linear forms are small enough to be summed up.
-use Rattle.std.specs.Prelude.{◌≡◌, ◌*◌, Bool, true, false, ◌&&◌, IsTrue, List, length, nat_le, unsigned_abs}
+use Rattle.std.specs.Prelude.{◌*◌, Bool, true, false, ◌&&◌, IsTrue, List, length, nat_le, unsigned_abs}
 use Rattle.std.specs.List.{list_all}
 use Rattle.aerie_base.specs.Ranges.{number_limit}
 use Rattle.aerie_base.specs.declared.values.Value.{Value}
 use Rattle.aerie_base.specs.declared.linear.Linear.{Linear}
-use Rattle.aerie_base.specs.declared.conditions.Cond.{Cond, Literal, fold-Cond}
+use Rattle.aerie_base.specs.declared.conditions.Cond.{Cond, fold-Cond}
 use Rattle.aerie_base.specs.declared.conditions.Cond.TheOpen.{Cond-F}
 use Rattle.aerie_base.specs.declared.models.EnumType.{EnumType}
-use Rattle.aerie_base.specs.conditions.Filling.{filled, filled_step}
-use Rattle.aerie_base.specs.conditions.Recursion.{cond_gives, gives_fold}
+use Rattle.aerie_base.specs.conditions.Filling.{filled_step}
+use Rattle.aerie_base.specs.conditions.Recursion.{cond_gives}
 use Rattle.aerie_base.specs.models.Conditions.{Locals, ReadKinds, is_coefficient, is_condition}
 use Rattle.aerie_base.specs.models.Limits.{term_limit}
 
@@ -43,11 +43,3 @@ is_fillable_by_fold = fold-Cond Bool fillable_step
 
 abbrev pub filled_by_fold : Cond → List Value → Cond
 filled_by_fold = fold-Cond (List Value → Cond) filled_step
-
-pub is_fillable_is : (condition : Cond) → is_fillable condition ≡ is_fillable_by_fold condition
-unfolding is_fillable
-is_fillable_is condition = gives_fold Bool false fillable_step condition
-
-pub filled_is : (condition : Cond) → filled condition ≡ filled_by_fold condition
-unfolding filled
-filled_is condition = gives_fold (List Value → Cond) (λ locals. Literal false) filled_step condition

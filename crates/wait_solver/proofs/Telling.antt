@@ -2,7 +2,7 @@
 use Rattle.std.proofs.Common.{◌≡◌, ℕ, ◌+◌, ◌≤◌, Bool, true, false, not, ◌&&◌, ◌||◌, List, [], Option, Some, None, nat_lt, refl, sym, ap, ◌∙◌, arith}
 use Rattle.std.proofs.lemmas.Bool.Decides.{nat_tests}
 use Rattle.aerie_base.specs.conditions.Holding.{Holding, holds, holds_step, operand_value}
-use Rattle.aerie_base.specs.conditions.Recursion.{gives-Not, gives-And, gives-Or}
+use Rattle.aerie_base.specs.conditions.RecursionLaws.{gives-Not, gives-And, gives-Or}
 use Rattle.aerie_base.specs.expressions.Arithmetic.{truth_in, compared}
 use Rattle.aerie_base.specs.declared.conditions.Cond.{Cond, Literal, Flag, Same, Compare, Not, And, Or}
 use Rattle.aerie_base.specs.declared.conditions.Cond.TheOpen.{Cond-F}
@@ -14,7 +14,8 @@ use Rattle.aerie_base.specs.models.Conditions.{may_equal}
 use Rattle.aerie_base.specs.TimeOrder.{later}
 use Rattle.effect_cells.specs.Cells.{passed}
 use Rattle.effect_cells.specs.Reads.{value_on, kind_on}
-use Rattle.effect_cells.specs.Solvable.{filled_side_kind, may_be_solved, may_be_solved_by_fold, may_be_solved_is}
+use Rattle.effect_cells.specs.Solvable.{filled_side_kind, may_be_solved, may_be_solved_by_fold}
+use Rattle.effect_cells.specs.SolvableLaws.{may_be_solved_is}
 use Rattle.effect_cells.specs.WakeTimes.{holds_in}
 use Rattle.effect_cells.specs.declared.effects.CellState.{CellState}
 use Rattle.wait_solver.specs.Changes.{until_change}

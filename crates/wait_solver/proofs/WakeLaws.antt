@@ -2,7 +2,7 @@
 use Rattle.std.proofs.Common.{◌≡◌, ℕ, ◌+◌, ◌-◌, ◌<◌, ◌≤◌, Bool, true, false, List, [], ◌∷◌, Option, Some, None, refl, ap, ◌∙◌, arith, nat_le}
 use Rattle.aerie_base.specs.declared.conditions.Cond.{Cond}
 use Rattle.effect_cells.specs.Cells.{passed}
-use Rattle.effect_cells.specs.Searching.{least_is, none_is}
+use Rattle.effect_cells.specs.SearchLaws.{least_is, none_is}
 use Rattle.effect_cells.specs.WakeTimes.{wake_time, holds_in, holds_on}
 use Rattle.effect_cells.specs.declared.effects.CellState.{CellState}
 use Rattle.effect_cells.specs.declared.effects.CellState.TheVariants.{Counter, Register, Volume}

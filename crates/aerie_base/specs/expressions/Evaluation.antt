@@ -1,8 +1,8 @@
 -- The value of an expression, or its first fault, and which cells were read for it.
-use Rattle.std.specs.Prelude.{◌≡◌, pos, Bool, List, Option, Some, None, Ok, Err, slice_index_or}
+use Rattle.std.specs.Prelude.{pos, Bool, List, Option, Some, None, Ok, Err, slice_index_or}
 use Rattle.aerie_base.specs.expressions.Arithmetic.{ValueOrFault, combined, decided, negated, denied}
 use Rattle.aerie_base.specs.expressions.Readings.{reading, cell_of, also}
-use Rattle.aerie_base.specs.expressions.Recursion.{expr_gives, gives_fold}
+use Rattle.aerie_base.specs.expressions.Recursion.{expr_gives}
 use Rattle.aerie_base.specs.declared.values.Value.{Value}
 use Rattle.aerie_base.specs.declared.values.Value.TheVariants.{Int}
 use Rattle.aerie_base.specs.declared.faults.Fault.TheVariants.{Range}
@@ -65,8 +65,3 @@ no_meaning locals values read_flags = (Err Range, read_flags)
 -- the outcome of an expression and the cells read by then
 unfoldable pub evaluated : Expr → Meaning
 evaluated = expr_gives Meaning no_meaning layer
-
--- both are one
-pub evaluated_is : (expr : Expr) → evaluated expr ≡ evaluated_by_fold expr
-unfolding evaluated
-evaluated_is expr = gives_fold Meaning no_meaning layer expr

@@ -1,3 +1,5 @@
+-- For tests alone: what it says and proves need not be read to trust a clause.
+--
 -- A plain place to read from, for tests: a whole number for each cell (0 past the last), in whatever range. A conflict
 -- flag is whether the number is not 0.
 use Rattle.std.specs.Prelude.{◌≡◌, ℤ, pos, not, List, Option, None, Some, slice_index_or}

@@ -1,13 +1,9 @@
 -- Recursion over an expression that computes. What is wanted of an expression is a function of one layer: of its form
 -- and of what its parts gave. `fold-Expr` is the same recursion, in the form in which a function's proof takes it; it
 -- does not compute.
-use Rattle.std.specs.Prelude.{◌≡◌}
-use Rattle.aerie_base.specs.declared.expressions.Expr.{Expr, Literal, Operand, Not, Not', Negate, Negate', Binary, Binary', Row_of-Expr, end_of-Expr, more_of-Expr, fold-Expr, fold_out-Expr, out-Expr}
+use Rattle.aerie_base.specs.declared.expressions.Expr.{Expr, Literal, Operand, Not', Negate', Binary', Row_of-Expr, end_of-Expr, more_of-Expr}
 use Rattle.aerie_base.specs.declared.expressions.Operator.{Operator}
 use Rattle.aerie_base.specs.declared.expressions.Expr.TheOpen.{Expr-F}
-use Rattle.aerie_base.specs.declared.expressions.Expr.TheBlock.{hidden-the_row-Expr-0, shape-the_row-Expr-0, shown-the_row-Expr-0}
-use denote.Hole.Carrier.{hidden, shown, out}
-use mathlib.Core.Path.{refl, sym, ap, ◌∙◌}
 
 abbrev mutual
   -- what the layers of an expression give; the value in front is for a part that is not there, and never comes
@@ -33,31 +29,3 @@ node_negate inner = Negate' tt (more_of-Expr inner end_of-Expr)
 
 abbrev pub node_binary : Operator → Expr → Expr → Expr
 node_binary operator left right = Binary' operator tt (more_of-Expr left end_of-Expr) tt (more_of-Expr right end_of-Expr)
-
--- they are the type's own
-pub node_not_is : (inner : Expr) → node_not inner ≡ Not inner
-unfolding hidden-the_row-Expr-0 shape-the_row-Expr-0 hidden
-node_not_is inner = refl
-
-pub node_negate_is : (inner : Expr) → node_negate inner ≡ Negate inner
-unfolding hidden-the_row-Expr-0 shape-the_row-Expr-0 hidden
-node_negate_is inner = refl
-
-pub node_binary_is : (operator : Operator) (left right : Expr) → node_binary operator left right ≡ Binary operator left right
-unfolding hidden-the_row-Expr-0 shape-the_row-Expr-0 hidden
-node_binary_is operator left right = refl
-
--- both recursions are one
-pub gives_fold : (A : Type 0) (none : A) (f : Expr-F A → A) (expr : Expr) → expr_gives A none f expr ≡ fold-Expr A f expr
-unfolding out-Expr out shown hidden shown-the_row-Expr-0 hidden-the_row-Expr-0 shape-the_row-Expr-0
-gives_fold A none f (Literal value) = sym (fold_out-Expr A f (Literal value))
-gives_fold A none f (Operand operand) = sym (fold_out-Expr A f (Operand operand))
-gives_fold A none f (Not' s (more_of-Expr inner end_of-Expr)) =
-    ap (λ (x : A). f (Expr-F.Not x)) (gives_fold A none f inner)
-    ∙ sym (fold_out-Expr A f (Not' s (more_of-Expr inner end_of-Expr)))
-gives_fold A none f (Negate' s (more_of-Expr inner end_of-Expr)) =
-    ap (λ (x : A). f (Expr-F.Negate x)) (gives_fold A none f inner)
-    ∙ sym (fold_out-Expr A f (Negate' s (more_of-Expr inner end_of-Expr)))
-gives_fold A none f (Binary' operator s (more_of-Expr left end_of-Expr) t (more_of-Expr right end_of-Expr)) =
-    (λ i. f (Expr-F.Binary operator (gives_fold A none f left i) (gives_fold A none f right i)))
-    ∙ sym (fold_out-Expr A f (Binary' operator s (more_of-Expr left end_of-Expr) t (more_of-Expr right end_of-Expr)))

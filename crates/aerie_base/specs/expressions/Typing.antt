@@ -1,7 +1,7 @@
 -- The type of an expression.
-use Rattle.std.specs.Prelude.{◌≡◌, ℕ, Bool, true, false, ◌&&◌, nat_eq, List, Option, Some, None, option_map, slice_get}
+use Rattle.std.specs.Prelude.{ℕ, Bool, true, false, ◌&&◌, nat_eq, List, Option, Some, None, option_map, slice_get}
 use Rattle.aerie_base.specs.expressions.Arithmetic.{value_kind}
-use Rattle.aerie_base.specs.expressions.Recursion.{expr_gives, gives_fold}
+use Rattle.aerie_base.specs.expressions.Recursion.{expr_gives}
 use Rattle.aerie_base.specs.declared.values.Kind.{Kind}
 use Rattle.aerie_base.specs.declared.values.Kind.TheVariants.{Int, Truth, Enum}
 use Rattle.aerie_base.specs.declared.values.Value.{Value}
@@ -94,8 +94,3 @@ kind_of = expr_gives Typing no_kind layer_kind
 -- the types of the slots that hold these values
 abbrev pub slot_kinds : List Value → ℕ → Option Kind
 slot_kinds locals slot = option_map value_kind (slice_get locals slot)
-
--- both are one
-pub kind_is : (expr : Expr) → kind_of expr ≡ kind_by_fold expr
-unfolding kind_of
-kind_is expr = gives_fold Typing no_kind layer_kind expr

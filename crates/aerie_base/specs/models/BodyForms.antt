@@ -5,7 +5,7 @@ use Rattle.std.proofs.Common.{◌≡◌, ℕ, ◌+◌, max, List, [], ◌∷◌,
 use Rattle.aerie_base.specs.declared.values.Kind.TheVariants.{Truth}
 use Rattle.aerie_base.specs.declared.expressions.Expr.{Expr}
 use Rattle.aerie_base.specs.declared.statements.Stmt.{Stmt, If, While}
-use Rattle.aerie_base.specs.statements.Recursion.{with_gift, gives-If, gives-While}
+use Rattle.aerie_base.specs.statements.RecursionLaws.{with_gift, gives-If, gives-While}
 use Rattle.aerie_base.specs.models.Bodies.{Setting, Checked, checked, checked_step, block_checked, in_turn, in_block, next_scope_if, is_in}
 use Rattle.aerie_base.specs.models.Depth.{deepest, stmt_depth_step, stmt_depth, body_depth}
 use Rattle.aerie_base.specs.models.Scopes.{Scope, behind}

@@ -1,6 +1,5 @@
 -- What a body has to know of an activity type in order to start it.
-use Rattle.std.specs.Prelude.{◌≡◌, ℕ, zero, suc, List, [], ◌∷◌, Option, Some, None, map, option_map, slice_get, refl}
-use mathlib.Core.Path.{ap, ◌∙◌}
+use Rattle.std.specs.Prelude.{List, Option, Some, None, map}
 use Rattle.aerie_base.specs.declared.values.Kind.{Kind}
 use Rattle.aerie_base.specs.declared.models.Activity.{Activity}
 
@@ -30,17 +29,3 @@ signature_result (Some signature) = signature.result
 abbrev pub activity_result : Option Activity → Option Kind
 activity_result None = None
 activity_result (Some activity) = activity.result
-
--- ---- each signature is that of the activity type at its place
-
-pub signature_at : (activities : List Activity) (kind : ℕ) → slice_get (signatures_of activities) kind ≡ option_map signature_of (slice_get activities kind)
-signature_at [] kind = refl
-signature_at (activity ∷ rest) zero = refl
-signature_at (activity ∷ rest) (suc kind) = signature_at rest kind
-
-its_result : (found : Option Activity) → signature_result (option_map signature_of found) ≡ activity_result found
-its_result None = refl
-its_result (Some activity) = refl
-
-pub result_at : (activities : List Activity) (kind : ℕ) → signature_result (slice_get (signatures_of activities) kind) ≡ activity_result (slice_get activities kind)
-result_at activities kind = ap signature_result (signature_at activities kind) ∙ its_result (slice_get activities kind)

@@ -25,6 +25,14 @@ rise_to next_id before (id ∷ rest) = nat_lt before id && rise_to next_id id re
 abbrev pub ids_of : List Directive → List ℕ
 ids_of directives = map (λ directive. directive.id) directives
 
+-- the ids of directives rise to some next id
+abbrev pub Rise : List Directive → Type 0
+Rise directives = (next_id : ℕ) × IsTrue (rise_to next_id 0 (ids_of directives))
+
+-- this is the id of the directive at a place, where there is one
+abbrev pub IsIdAt : List Directive → ℕ → ℕ → Type 0
+IsIdAt directives at id = (found : Directive) → slice_get directives at ≡ Some found → id ≡ found.id
+
 -- ---- arguments
 
 -- a value for each parameter, of its type

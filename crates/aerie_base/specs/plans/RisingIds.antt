@@ -1,3 +1,5 @@
+-- A file of lemmas: what it proves need not be read to trust a clause.
+--
 -- What rising ids give: each id is one directive's, so that a search by halves finds the one with an id; and ids still
 -- rise once a directive is put behind the last, taken out or changed.
 use Rattle.std.proofs.Common.{◌≡◌, ℕ, zero, suc, ◌<◌, ◌≤◌, Bool, true, false, ◌&&◌, IsTrue, List, [], ◌∷◌, ◌++◌, Some, None, option_map, slice_get, slice_set, nat_lt, refl, sym, ap, ◌∙◌, subst, true≢false, lt-ltb, ltb-true, eq-eqb, ne_eqb, lt_of_lt_of_le, lt_trans, ne_of_lt, not-suc-le-zero, le_of_suc-le-suc, if◌then◌else◌}
@@ -15,14 +17,6 @@ both false b h = absurd (true≢false (sym h))
 and_too : (a b : Bool) → IsTrue a → IsTrue b → IsTrue (a && b)
 and_too true b h k = k
 and_too false b h k = absurd (true≢false (sym h))
-
--- the ids of directives rise to some next id
-abbrev pub Rise : List Directive → Type 0
-Rise directives = (next_id : ℕ) × IsTrue (rise_to next_id 0 (ids_of directives))
-
--- this is the id of the directive at a place, where there is one
-abbrev pub IsIdAt : List Directive → ℕ → ℕ → Type 0
-IsIdAt directives at id = (found : Directive) → slice_get directives at ≡ Some found → id ≡ found.id
 
 -- ---- ids
 

@@ -7,7 +7,8 @@ use Rattle.aerie_base.specs.declared.expressions.Expr.{Expr}
 use Rattle.aerie_base.specs.declared.statements.Stmt.{Stmt, If, While, roll-Stmt, out-Stmt, roll-out-Stmt, para-Stmt, para-roll-Stmt}
 use Rattle.aerie_base.specs.declared.statements.Stmt.TheVariants.{rolls-If, rolls-While}
 use Rattle.aerie_base.specs.declared.statements.Stmt.TheOpen.{Stmt-F}
-use Rattle.aerie_base.specs.statements.Recursion.{stmt_gives, with_gift, gives-If, gives-While}
+use Rattle.aerie_base.specs.statements.Recursion.{stmt_gives}
+use Rattle.aerie_base.specs.statements.RecursionLaws.{with_gift, gives-If, gives-While}
 use Rattle.aerie_base.specs.statements.Places.{is_simple, simple_step}
 use Rattle.aerie_base.specs.statements.Induction.{AllOf, stmt_ind}
 

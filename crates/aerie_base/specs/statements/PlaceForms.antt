@@ -6,7 +6,7 @@ use denote.Hole.Carrier.{hidden, shown, roll}
 use Rattle.aerie_base.specs.declared.expressions.Expr.{Expr}
 use Rattle.aerie_base.specs.declared.statements.Stmt.{Stmt, If, While, roll-Stmt, out-Stmt, roll-out-Stmt}
 use Rattle.aerie_base.specs.declared.statements.Stmt.TheOpen.{Stmt-F}
-use Rattle.aerie_base.specs.statements.Recursion.{with_gift, gives-If, gives-While}
+use Rattle.aerie_base.specs.statements.RecursionLaws.{with_gift, gives-If, gives-While}
 use Rattle.aerie_base.specs.statements.Places.{Placed, placed, Lefts, lefts, lefts_in, lefts_step, block_lefts, size, sum_of, size_step, block_size, count, count_step, block_count, is_simple, simple_step}
 
 -- ---- blocks

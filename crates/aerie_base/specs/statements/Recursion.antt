@@ -1,11 +1,8 @@
 -- Recursion over a statement that computes: what a statement gives, by what the statements in its blocks give. A step
 -- has each of these beside what it gives.
-use Rattle.std.proofs.Common.{◌≡◌, List, [], ◌∷◌, map, refl, ap}
-use Rattle.aerie_base.specs.declared.expressions.Expr.{Expr}
-use Rattle.aerie_base.specs.declared.statements.Stmt.{Stmt, Let, Assign, Emit, Delay, WaitUntil, Spawn, Call, If, If', While, While', Return, Row_of-Stmt, end_of-Stmt, more_of-Stmt}
+use Rattle.std.proofs.Common.{List, [], ◌∷◌}
+use Rattle.aerie_base.specs.declared.statements.Stmt.{Stmt, Let, Assign, Emit, Delay, WaitUntil, Spawn, Call, If', While', Return, Row_of-Stmt, end_of-Stmt, more_of-Stmt}
 use Rattle.aerie_base.specs.declared.statements.Stmt.TheOpen.{Stmt-F}
-use Rattle.aerie_base.specs.declared.statements.Stmt.TheBlock.{hidden-the_row-Stmt-0, shape-the_row-Stmt-0}
-use denote.Hole.Carrier.{hidden}
 
 abbrev mutual
   -- what a statement gives, by a step over one level
@@ -25,22 +22,3 @@ abbrev mutual
   pub row_gives : (A : Type 0) → (Stmt-F (Stmt × A) → A) → {m : _} → Row_of-Stmt m → List (Stmt × A)
   row_gives A step end_of-Stmt = []
   row_gives A step (more_of-Stmt stmt rest) = (stmt, stmt_gives A step stmt) ∷ row_gives A step rest
-
--- ---- what it gives at the forms with blocks
-
-module _ (A : Type 0) (step : Stmt-F (Stmt × A) → A) where
-  -- a statement and what it gives
-  abbrev pub with_gift : Stmt → Stmt × A
-  with_gift stmt = (stmt, stmt_gives A step stmt)
-
-  -- a block is a list of statements
-  pub row_is : (block : List Stmt) → row_gives A step (hidden-the_row-Stmt-0 block) ≡ map with_gift block
-  unfolding hidden-the_row-Stmt-0 shape-the_row-Stmt-0 hidden
-  row_is [] = refl
-  row_is (stmt ∷ rest) = ap (λ (gifts : List (Stmt × A)). with_gift stmt ∷ gifts) (row_is rest)
-
-  pub gives-If : (test : Expr) (block other : List Stmt) → stmt_gives A step (If test block other) ≡ step (Stmt-F.If test (map with_gift block) (map with_gift other))
-  gives-If test block other = λ i. step (Stmt-F.If test (row_is block i) (row_is other i))
-
-  pub gives-While : (test : Expr) (body : List Stmt) → stmt_gives A step (While test body) ≡ step (Stmt-F.While test (map with_gift body))
-  gives-While test body = λ i. step (Stmt-F.While test (row_is body i))

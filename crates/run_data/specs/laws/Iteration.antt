@@ -1,11 +1,9 @@
+-- A file of lemmas: what it proves need not be read to trust a clause.
+--
 -- The laws of a fold: what so many turns give is where it comes, it comes nowhere else, and it has one result.
 use Rattle.std.specs.Prelude.{◌≡◌, ℕ, zero, suc, refl}
 use mathlib.Core.Path.{sym, ap, ◌∙◌}
-use Rattle.aerie_base.specs.declared.models.model.Parts.{Parts}
-use Rattle.aerie_base.specs.declared.plans.Plan.{Plan}
-use Rattle.run_data.specs.declared.runs.Run.{Run}
 use Rattle.run_data.specs.Transitions.{Next, more, finished, Reaches, begins, onward, and_on, iterate}
-use Rattle.run_data.specs.Fresh.{IsReached, IsFresh, after_turns}
 
 module _ (S R : Type 0) (next : S → Next S R) where
   -- a turn more
@@ -57,13 +55,3 @@ module _ (S R : Type 0) (next : S → Next S R) where
       let found = comes_by_turns first (finished result) comes in
       let twice = comes_by_turns first (finished other) again in
       one_result found.0 twice.0 (more first) result other found.1 twice.1
-
--- ---- of a run
-
--- what so many turns give is where the run stands at some time
-abbrev pub TurnsStand : Type 0
-TurnsStand = (model : Parts) (plan : Plan) (bound count : ℕ) → IsReached model plan bound (after_turns model plan bound count)
-
--- a plan has one fresh run
-abbrev pub OneFreshRun : Type 0
-OneFreshRun = (model : Parts) (plan : Plan) (bound : ℕ) (run other : Run) → IsFresh model plan bound run → IsFresh model plan bound other → run ≡ other

@@ -2,7 +2,7 @@
 
 ghost use Rattle.run_data.specs.laws.Ending.{FreshRunByTurns, HasFreshRun, TurnsFinish};
 ghost use Rattle.run_data.specs.laws.FreshRuns.{BatchesAreReached, CellsAreInRange, CellsOfValidAreInRange, FramesOfRunsAreValid, FreshRunIsOfPlan};
-ghost use Rattle.run_data.specs.laws.Iteration.{OneFreshRun, TurnsStand};
+ghost use Rattle.run_data.specs.laws.Turns.{OneFreshRun, TurnsStand};
 ghost use Rattle.run_data.specs.laws.Replay.{CellsAreReplayed};
 ghost use Rattle.run_data.specs.laws.Rising.{InstantsAreBeforeEnd, InstantsRise};
 

@@ -1,9 +1,12 @@
 use Rattle.std.proofs.Common.{◌≡◌, ◌∙◌, ap, sym, subst, IsSome, IfOk, Some}
 use Rattle.aerie_base.specs.expressions.Arithmetic.{ValueOrFault, value_kind}
-use Rattle.aerie_base.specs.expressions.Faults.{MayFault, faults}
+use Rattle.aerie_base.specs.expressions.Faults.{MayFault}
+use Rattle.aerie_base.specs.expressions.FaultLaws.{faults}
 use Rattle.aerie_base.specs.expressions.Soundness.{value_has_kind}
-use Rattle.aerie_base.specs.expressions.Evaluation.{Meaning, evaluated_is}
-use Rattle.aerie_base.specs.expressions.Typing.{Typing, kind_of, kind_is, slot_kinds}
+use Rattle.aerie_base.specs.expressions.Evaluation.{Meaning}
+use Rattle.aerie_base.specs.expressions.EvaluationLaws.{evaluated_is}
+use Rattle.aerie_base.specs.expressions.Typing.{Typing, kind_of, slot_kinds}
+use Rattle.aerie_base.specs.expressions.TypingLaws.{kind_is}
 use Rattle.aerie_base.proofs.evaluation.eval.Goals as goal
 
 pub eval_by_fold-requires : goal.eval_by_fold-requires

@@ -1,5 +1,6 @@
 use Rattle.std.proofs.Common.{false, sym, ap, ◌∙◌}
-use Rattle.effect_cells.specs.ReadCells.{reads_operand, reads_side, reads_terms, reads_cell, reads-Literal, reads-Flag, reads-Same, reads-Compare}
+use Rattle.effect_cells.specs.ReadCells.{reads_operand, reads_side, reads_terms, reads_cell}
+use Rattle.effect_cells.specs.ReadCellLaws.{reads-Literal, reads-Flag, reads-Same, reads-Compare}
 use Rattle.effect_cells.proofs.Flags.{no_flags}
 use Rattle.effect_cells.proofs.ReadFlags.{flags_by, flags_after, flags_of_not, flags_of_and, flags_of_or}
 use Rattle.effect_cells.proofs.read_cells.+flag_read.Goals as goal

@@ -2,7 +2,7 @@
 use Rattle.std.proofs.Common.{subst, IsTrue, IfOk, ◌≡◌, sym, List}
 use Rattle.aerie_base.specs.declared.conditions.Cond.{Cond}
 use Rattle.aerie_base.specs.declared.values.Value.{Value}
-use Rattle.task_step.specs.Fillable.{is_fillable_is, filled_is}
+use Rattle.task_step.proofs.FillableFolds.{is_fillable_is, filled_is}
 use Rattle.task_step.proofs.Fillings.{is_fillable_of}
 use Rattle.task_step.proofs.filling.fill.Goals as goal
 

@@ -1,6 +1,6 @@
 use Rattle.std.proofs.Common.{◌∙◌}
 use Rattle.effect_cells.specs.Reads.{kind_on}
-use Rattle.effect_cells.specs.Solvable.{may_be_solved_is}
+use Rattle.effect_cells.specs.SolvableLaws.{may_be_solved_is}
 use Rattle.wait_solver.proofs.tests.is_good.Goals as goal
 
 pub returns : goal.returns

@@ -1,6 +1,7 @@
 use Rattle.std.proofs.Common.{◌∙◌, ap, sym}
 use Rattle.aerie_base.specs.expressions.PlainReads.{plain_kinds}
-use Rattle.aerie_base.specs.expressions.Typing.{Typing, kind_is, slot_kinds}
+use Rattle.aerie_base.specs.expressions.Typing.{Typing, slot_kinds}
+use Rattle.aerie_base.specs.expressions.TypingLaws.{kind_is}
 use Rattle.aerie_base.proofs.evaluation.tests.kind_of.Goals as goal
 
 pub returns : goal.returns

@@ -1,3 +1,5 @@
+-- A file of lemmas: what it proves need not be read to trust a clause.
+--
 -- How a `Boxed` stores its one value: behind an address that its own value leaves out. With this a type can reach
 -- itself through a `Boxed`, as an expression does through its operands.
 use mathlib.Core.Path.{refl}

@@ -1,3 +1,5 @@
+-- A file of lemmas: what it proves need not be read to trust a clause.
+--
 -- How a `List` stores its items: as a list of them, beside an address and spare room that its value leaves out. With
 -- this a type can reach itself through a `List`, as a block of statements does.
 use mathlib.Core.Path.{◌≡◌, refl, sym}
