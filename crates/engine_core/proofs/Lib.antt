@@ -1,1 +1,2 @@
+mod BatchFilling
 mod Pairs

@@ -2,4 +2,5 @@
 #![tactic(auto)]
 
 mod batch_ends;
+mod beginnings;
 mod ready_jobs;
