@@ -1,0 +1,192 @@
+-- Frames, and one frame more: what is then known of a body and of a path.
+use Rattle.std.proofs.Common.{◌≡◌, ℕ, ◌≤◌, Bool, true, false, not, cond, ◌&&◌, ◌||◌, List, [], ◌∷◌, ◌++◌, length, Option, Some, None, refl, sym, ap, ◌∙◌}
+use Rattle.std.specs.List.{list_any}
+use Rattle.std.specs.HashMap as hash
+use Rattle.std.specs.BTreeSet as tree
+use Rattle.std.specs.BTreeMap.{is_at}
+use Rattle.std.specs.Cmp.Lexicographic.{same_text, texts_ties}
+use Rattle.std.proofs.lemmas.List.Folds.{list_any-append}
+use Rattle.std.proofs.lemmas.Cmp.{nat_list_eq_equiv}
+use Rattle.std.proofs.lemmas.Bool.{false≢true}
+use Rattle.aerie_base.specs.declared.values.Value.{Value}
+use Rattle.aerie_base.specs.Paths.{is_prefix, path_cmp}
+use Rattle.run_data.specs.declared.frames.Status.{Status}
+use Rattle.run_data.specs.Spans.{Timed, same_path, is_done, returned, is_of_path, body_ended, result_in, or_returned}
+use Rattle.span_table.specs.declared.body_states.BodyState.{BodyState}
+use Rattle.span_table.specs.declared.body_states.BodyState.TheVariants.{Over}
+use Rattle.span_table.specs.declared.progress.Tasks.{Tasks}
+use Rattle.span_table.specs.BodyStates.{is_open_body, state_if, body_after, is_open_after, state_by, noted_state}
+use Rattle.span_table.specs.Begun.{last_after}
+use Rattle.span_table.specs.Progress.{KnowsTasks}
+
+or_false : (b : Bool) → (b || false) ≡ b
+or_false true = refl
+or_false false = refl
+
+-- ---- lists of frames
+
+any_more : (test : Timed → Bool) (frames : List Timed) (frame : Timed) → list_any test (frames ++ frame ∷ []) ≡ (list_any test frames || test frame)
+any_more test frames frame =
+    list_any-append test frames (frame ∷ []) ∙ ap (λ b. list_any test frames || b) (or_false (test frame))
+
+result_step : (b ended : Bool) (result all before rest : Option Value) → all ≡ cond ended before rest →
+    or_returned b result all ≡ cond (b || ended) (or_returned b result before) rest
+result_step true ended result all before rest e = refl
+result_step false ended result all before rest e = e
+
+result_more : (path : List ℕ) (frames : List Timed) (frame : Timed) →
+    result_in (frames ++ frame ∷ []) path ≡
+    cond (body_ended frames path) (result_in frames path) (or_returned (is_of_path path frame && is_done frame.1.status) (returned frame.1.status) None)
+result_more path [] frame = refl
+result_more path (first ∷ frames) frame =
+    result_step (is_of_path path first && is_done first.1.status) (body_ended frames path) (returned first.1.status) (result_in (frames ++ frame ∷ []) path)
+    (result_in frames path) (or_returned (is_of_path path frame && is_done frame.1.status) (returned frame.1.status) None) (result_more path frames frame)
+
+-- the last time
+pub last_more : (found : Option ℕ) (path : List ℕ) (frames : List Timed) (frame : Timed) →
+    last_after found (frames ++ frame ∷ []) path ≡ cond (is_prefix path frame.1.path) (Some frame.0) (last_after found frames path)
+last_more found path [] frame = refl
+last_more found path (first ∷ frames) frame = last_more (cond (is_prefix path first.1.path) (Some first.0) found) path frames frame
+
+-- ---- one body
+
+-- a body that has ended has begun
+ended_begun : (path : List ℕ) (frames : List Timed) → body_ended frames path ≡ true → list_any (is_of_path path) frames ≡ true
+ended_begun path [] ended = ended
+ended_begun path (first ∷ frames) ended = go (is_of_path path first) (is_done first.1.status) ended (ended_begun path frames)
+  where
+    go : (b d : Bool) → ((b && d) || body_ended frames path) ≡ true → (body_ended frames path ≡ true → list_any (is_of_path path) frames ≡ true) →
+        (b || list_any (is_of_path path) frames) ≡ true
+    go true d e rest = refl
+    go false d e rest = rest e
+
+of_it : (begun ended d : Bool) (result returns : Option Value) (status : Status) → is_done status ≡ d → returned status ≡ returns → (ended ≡ true → begun ≡ true) →
+    state_if (begun || true) (ended || (true && d)) (cond ended result (or_returned (true && d) returns None)) ≡ Some (noted_state (state_if begun ended result) status)
+of_it true true d result returns status is gives valid = refl
+of_it true false true result returns status is gives valid = ap (λ r. Some (Over r)) (sym gives) ∙ ap (λ b. Some (state_by b (returned status))) (sym is)
+of_it true false false result returns status is gives valid = ap (λ b. Some (state_by b (returned status))) (sym is)
+of_it false true d result returns status is gives valid = absurd (false≢true (valid refl))
+of_it false false true result returns status is gives valid = ap (λ r. Some (Over r)) (sym gives) ∙ ap (λ b. Some (state_by b (returned status))) (sym is)
+of_it false false false result returns status is gives valid = ap (λ b. Some (state_by b (returned status))) (sym is)
+
+of_another : (begun ended d : Bool) (result returns : Option Value) →
+    state_if (begun || false) (ended || (false && d)) (cond ended result (or_returned (false && d) returns None)) ≡ state_if begun ended result
+of_another true true d result returns = refl
+of_another true false d result returns = refl
+of_another false true d result returns = refl
+of_another false false d result returns = refl
+
+-- what is known of a body once one more frame is known
+pub body_more : (frames : List Timed) (frame : Timed) (path : List ℕ) →
+    body_after (frames ++ frame ∷ []) path ≡
+    cond (same_path frame.1.path path) (Some (noted_state (body_after frames frame.1.path) frame.1.status)) (body_after frames path)
+body_more frames frame path = go (same_path path frame.1.path) refl
+  where
+    parts : (b : Bool) → same_path path frame.1.path ≡ b → body_after (frames ++ frame ∷ []) path ≡
+        state_if (list_any (is_of_path path) frames || b) (body_ended frames path || (b && is_done frame.1.status))
+        (cond (body_ended frames path) (result_in frames path) (or_returned (b && is_done frame.1.status) (returned frame.1.status) None))
+    parts b e =
+        ap (λ x. state_if x (body_ended (frames ++ frame ∷ []) path) (result_in (frames ++ frame ∷ []) path)) (any_more (is_of_path path) frames frame)
+        ∙ (ap (λ x. state_if (list_any (is_of_path path) frames || is_of_path path frame) x (result_in (frames ++ frame ∷ []) path))
+        (any_more (λ entry. is_of_path path entry && is_done entry.1.status) frames frame)
+        ∙ (ap (λ x. state_if (list_any (is_of_path path) frames || is_of_path path frame) (body_ended frames path || (is_of_path path frame && is_done frame.1.status)) x)
+        (result_more path frames frame)
+        ∙ ap (λ x. state_if (list_any (is_of_path path) frames || x) (body_ended frames path || (x && is_done frame.1.status))
+        (cond (body_ended frames path) (result_in frames path) (or_returned (x && is_done frame.1.status) (returned frame.1.status) None))) e))
+
+    turned : (b : Bool) → same_path path frame.1.path ≡ b → b ≡ same_path frame.1.path path
+    turned b e = sym e ∙ nat_list_eq_equiv.symm path frame.1.path
+
+    go : (b : Bool) → same_path path frame.1.path ≡ b → body_after (frames ++ frame ∷ []) path ≡
+        cond (same_path frame.1.path path) (Some (noted_state (body_after frames frame.1.path) frame.1.status)) (body_after frames path)
+    go true e =
+        parts true e
+        ∙ (of_it (list_any (is_of_path path) frames) (body_ended frames path) (is_done frame.1.status) (result_in frames path) (returned frame.1.status) frame.1.status refl refl
+        (ended_begun path frames)
+        ∙ (ap (λ p. Some (noted_state (body_after frames p) frame.1.status)) (same_text path frame.1.path (sym e))
+        ∙ ap (λ b. cond b (Some (noted_state (body_after frames frame.1.path) frame.1.status)) (body_after frames path)) (turned true e)))
+    go false e =
+        parts false e
+        ∙ (of_another (list_any (is_of_path path) frames) (body_ended frames path) (is_done frame.1.status) (result_in frames path) (returned frame.1.status)
+        ∙ ap (λ b. cond b (Some (noted_state (body_after frames frame.1.path) frame.1.status)) (body_after frames path)) (turned false e))
+
+abbrev pub is_open_state : Option BodyState → Bool
+is_open_state None = false
+is_open_state (Some state) = is_open_body state
+
+pub open_is : (frames : List Timed) (path : List ℕ) → is_open_after frames path ≡ is_open_state (body_after frames path)
+open_is frames path = go (list_any (is_of_path path) frames) (body_ended frames path)
+  where
+    go : (begun ended : Bool) → (begun && not ended) ≡ is_open_state (state_if begun ended (result_in frames path))
+    go true true = refl
+    go true false = refl
+    go false ended = refl
+
+-- ---- all tasks
+
+-- the same of all bodies and paths, where the state of the frame's body is put
+pub knows_more : (frames : List Timed) (frame : Timed) (tasks new : Tasks) (after : BodyState) → KnowsTasks frames tasks →
+    after ≡ noted_state (hash.get same_path tasks.bodies frame.1.path) frame.1.status →
+    ((path : List ℕ) → hash.get same_path new.bodies path ≡ cond (same_path frame.1.path path) (Some after) (hash.get same_path tasks.bodies path)) →
+    ((path : List ℕ) → tree.contains path_cmp new.opens path ≡ cond (is_at (path_cmp frame.1.path) path) (is_open_body after) (tree.contains path_cmp tasks.opens path)) →
+    ((path : List ℕ) → 2 ≤ length path → hash.get same_path new.last path ≡ cond (is_prefix path frame.1.path) (Some frame.0) (hash.get same_path tasks.last path)) →
+    KnowsTasks (frames ++ frame ∷ []) new
+knows_more frames frame tasks new after knows is bodies opens last = record {
+  bodies = λ path.
+      bodies path
+      ∙ (ap (λ s. cond (same_path frame.1.path path) (Some s) (hash.get same_path tasks.bodies path)) known
+      ∙ (ap (λ s. cond (same_path frame.1.path path) (Some (noted_state (body_after frames frame.1.path) frame.1.status)) s) (knows.bodies path)
+      ∙ sym (body_more frames frame path)));
+  opens = λ path.
+      opens path
+      ∙ (ap (λ b. cond b (is_open_body after) (tree.contains path_cmp tasks.opens path)) (sym (texts_ties frame.1.path path))
+      ∙ (ap (λ b. cond (same_path frame.1.path path) (is_open_body after) b) (knows.opens path ∙ open_is frames path)
+      ∙ (ap (λ s. cond (same_path frame.1.path path) (is_open_body s) (is_open_state (body_after frames path))) known
+      ∙ (inside (same_path frame.1.path path) (noted_state (body_after frames frame.1.path) frame.1.status) (body_after frames path)
+      ∙ (ap is_open_state (sym (body_more frames frame path))
+      ∙ sym (open_is (frames ++ frame ∷ []) path))))));
+  last = λ path long.
+      last path long ∙ (ap (λ o. cond (is_prefix path frame.1.path) (Some frame.0) o) (knows.last path long) ∙ sym (last_more None path frames frame));
+}
+  where
+    known : after ≡ noted_state (body_after frames frame.1.path) frame.1.status
+    known = is ∙ ap (λ s. noted_state s frame.1.status) (knows.bodies frame.1.path)
+
+    inside : (b : Bool) (state : BodyState) (other : Option BodyState) → cond b (is_open_body state) (is_open_state other) ≡ is_open_state (cond b (Some state) other)
+    inside true state other = refl
+    inside false state other = refl
+
+-- and where it stays as it was
+pub knows_same : (frames : List Timed) (frame : Timed) (tasks new : Tasks) → KnowsTasks frames tasks →
+    hash.get same_path tasks.bodies frame.1.path ≡ Some (noted_state (hash.get same_path tasks.bodies frame.1.path) frame.1.status) →
+    new.bodies ≡ tasks.bodies → new.opens ≡ tasks.opens →
+    ((path : List ℕ) → 2 ≤ length path → hash.get same_path new.last path ≡ cond (is_prefix path frame.1.path) (Some frame.0) (hash.get same_path tasks.last path)) →
+    KnowsTasks (frames ++ frame ∷ []) new
+knows_same frames frame tasks new knows stays bodies opens last =
+    knows_more frames frame tasks new (noted_state (hash.get same_path tasks.bodies frame.1.path) frame.1.status) knows refl
+    (λ path. ap (λ m. hash.get same_path m path) bodies ∙ there (same_path frame.1.path path) path refl)
+    (λ path. ap (λ m. tree.contains path_cmp m path) opens ∙ open_there (same_path frame.1.path path) path refl)
+    last
+  where
+    put : Option BodyState
+    put = Some (noted_state (hash.get same_path tasks.bodies frame.1.path) frame.1.status)
+
+    there : (b : Bool) (path : List ℕ) → same_path frame.1.path path ≡ b →
+        hash.get same_path tasks.bodies path ≡ cond (same_path frame.1.path path) (Some (noted_state (hash.get same_path tasks.bodies frame.1.path) frame.1.status)) (hash.get same_path tasks.bodies path)
+    there true path e =
+        ap (λ p. hash.get same_path tasks.bodies p) (sym (same_text frame.1.path path (sym e)))
+        ∙ (stays ∙ ap (λ b. cond b (Some (noted_state (hash.get same_path tasks.bodies frame.1.path) frame.1.status)) (hash.get same_path tasks.bodies path)) (sym e))
+    there false path e = ap (λ b. cond b (Some (noted_state (hash.get same_path tasks.bodies frame.1.path) frame.1.status)) (hash.get same_path tasks.bodies path)) (sym e)
+
+    open_there : (b : Bool) (path : List ℕ) → same_path frame.1.path path ≡ b →
+        tree.contains path_cmp tasks.opens path ≡
+        cond (is_at (path_cmp frame.1.path) path) (is_open_body (noted_state (hash.get same_path tasks.bodies frame.1.path) frame.1.status)) (tree.contains path_cmp tasks.opens path)
+    open_there true path e =
+        ap (λ p. tree.contains path_cmp tasks.opens p) (sym (same_text frame.1.path path (sym e)))
+        ∙ (knows.opens frame.1.path ∙ (open_is frames frame.1.path
+        ∙ (ap is_open_state (sym (knows.bodies frame.1.path) ∙ stays)
+        ∙ ap (λ b. cond b (is_open_body (noted_state (hash.get same_path tasks.bodies frame.1.path) frame.1.status)) (tree.contains path_cmp tasks.opens path))
+        (sym e ∙ texts_ties frame.1.path path))))
+    open_there false path e =
+        ap (λ b. cond b (is_open_body (noted_state (hash.get same_path tasks.bodies frame.1.path) frame.1.status)) (tree.contains path_cmp tasks.opens path))
+        (sym e ∙ texts_ties frame.1.path path)

@@ -1,0 +1,5 @@
+pub mod AsDefined
+pub mod Begun
+pub mod BodyStates
+pub mod Ordering
+pub mod Progress

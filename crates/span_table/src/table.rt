@@ -1,0 +1,29 @@
+ghost use Rattle.std.specs.Prelude.{◌≡◌, map, IfOk};
+ghost use Rattle.run_data.specs.Spans.{sorted_spans, spans_of};
+ghost use Rattle.span_table.specs.AsDefined.{defined_span};
+
+use crate::ordering::compare;
+use crate::progress::Progress;
+use crate::span::Span;
+use aerie_base::{Model, OutOfMemory};
+use run_data::Run;
+use std::alloc::Global;
+
+/// The spans of a run of the model: one for each activity that began in a settled instant, by start and then by path. It goes
+/// once over the frames, with a look-up for each number of a frame's path; then the spans are sorted.
+pub fn spans(alloc: Global, model: &Model, run: &Run) -> Result<Vec<Span>, OutOfMemory>
+    ensures exact { IfOk result (λ spans. map defined_span spans.items ≡ spans_of model.now run.now) }
+{
+    let mut progress = Progress::new(alloc);
+    progress.note_instants(alloc, model, run.instants.as_slice())?;
+    let spans = sorted(progress.into_spans())?;
+    Ok(spans)
+}
+
+/// The spans by start and then by path.
+fn sorted(mut spans: Vec<Span>) -> Result<Vec<Span>, OutOfMemory>
+    ensures { IfOk result (λ sorted. map defined_span sorted.items ≡ sorted_spans (map defined_span spans.items)) }
+{
+    spans.sort_by(|span, other| compare(span, other))?;
+    Ok(spans)
+}
