@@ -1,2 +1,7 @@
 mod BatchFilling
+mod ListedTimes
+mod MarkedPaths
 mod Pairs
+mod PathTables
+mod PutIndexes
+mod PutTasks

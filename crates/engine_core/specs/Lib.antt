@@ -1,1 +1,4 @@
 pub mod BatchEnds
+pub mod Phases
+pub mod TasksByNumber
+pub mod Times

@@ -3,4 +3,9 @@
 
 mod batch_ends;
 mod beginnings;
+mod indexes;
+mod phases;
 mod ready_jobs;
+mod tasks;
+mod times;
+mod waits;

@@ -1,0 +1,46 @@
+use Rattle.std.proofs.Common.{◌≡◌, ◌≤◌, ◌∙◌, ap, sym, subst, arith, length, map, ◌++◌, ◌∷◌, [], Some, None, cond, if◌then◌else◌}
+use Rattle.std.specs.BTreeMap.{is_at}
+use Rattle.aerie_base.specs.Paths.{path_cmp}
+use Rattle.run_data.specs.laws.ReadyTasks.{number_of_path}
+use Rattle.run_data.specs.Tasks.{Table}
+use Rattle.engine_core.specs.TasksByNumber.{AreIndexed, AreKept, Tracked, has_path}
+use Rattle.engine_core.proofs.PutTasks.{number_most, length_put}
+use Rattle.engine_core.proofs.PutIndexes.{delays_long, indexed_put, kept_put}
+use Rattle.engine_core.proofs.tasks.Tasks.put.Goals as goal
+
+pub put-requires : goal.put-requires
+put-requires c =
+    let is = c.in_ok-inserted.ensures.number in
+    let most = number_most c.self.inside.tasks.entries c.args.path in
+    let long = c.self.invariant.1 in
+    omega (arith, is, most, long)
+
+pub put-requires-2-clause-number : goal.put-requires-2-clause-number
+put-requires-2-clause-number c =
+    let is = c.in_ok-inserted.ensures.number in
+    let most = number_most c.self.inside.tasks.entries c.args.path in
+    let delayed = ap length c.self.invariant.0.delayed_ in
+    let long = delays_long c.self.inside.tasks.entries in
+    omega (arith, is, most, delayed, long)
+
+pub invariant_of-result : goal.invariant_of-result
+invariant_of-result c = (
+  subst (λ (tasks : Table). AreIndexed tasks c.in_ok-indexes.indexes.delays c.in_ok-indexes.indexes.opens c.in_ok-indexes.indexes.readies) (sym c.in_ok-inserted.ensures.tasks)
+      (indexed_put _ _ _ _ _ _ _ c.args.path c.args.task _ c.self.invariant.0 c.in_ok-inserted.ensures.number
+      (c.in_ok-indexes.ensures.delays ∙ ap (λ s. Rattle.engine_core.specs.Times.put_at c.self.inside.indexes.delays c.in_ok-inserted.inserted.number s.delay) c.of-standing.ensures)
+      (λ p. c.in_ok-indexes.ensures.opens p ∙ ap (λ s. cond (is_at (path_cmp c.args.path) p) s.is_open (has_path c.self.inside.indexes.opens p)) c.of-standing.ensures) c.in_ok-indexes.ensures.opens_sorted
+      (λ p. c.in_ok-indexes.ensures.readies p
+      ∙ ap (λ s. cond (is_at (path_cmp c.args.path) p) (if s.is_ready then Some c.in_ok-inserted.inserted.number else None) (number_of_path c.self.inside.indexes.readies p)) c.of-standing.ensures) c.in_ok-indexes.ensures.readies_sorted),
+  ap length c.in_ok-waits.ensures.wakes ∙ length_put _ _ _ c.self.inside.tasks.entries c.args.path c.args.task c.self.invariant.1 c.in_ok-inserted.ensures.number
+      ∙ ap length (sym c.in_ok-inserted.ensures.tasks),
+)
+
+pub returns-clause-kept : goal.returns-clause-kept
+returns-clause-kept c now horizon cells kept =
+    kept_put (record { tasks = c.self.inside.tasks.entries; wakes = c.self.inside.waits.wakes; stale = c.self.inside.waits.stale.items; watchers = map (λ numbers. numbers.items) c.self.inside.waits.watchers.items })
+    (record { tasks = c.in_ok-inserted.inserted.tasks.entries; wakes = c.in_ok-waits.waits.wakes; stale = c.in_ok-waits.waits.stale.items; watchers = map (λ numbers. numbers.items) c.in_ok-waits.waits.watchers.items })
+    c.args.path c.args.task c.in_ok-inserted.inserted.number c.self.invariant.0.distinct c.self.invariant.1 c.in_ok-inserted.ensures.number
+    c.in_ok-inserted.ensures.tasks c.in_ok-waits.ensures.wakes
+    (c.in_ok-waits.ensures.stale ∙ ap (λ b. if b then c.self.inside.waits.stale.items ++ c.in_ok-inserted.inserted.number ∷ [] else c.self.inside.waits.stale.items) c.is_waiting-waiting.ensures)
+    (ap (λ (ws : _). map (λ numbers. numbers.items) ws.items) c.in_ok-waits.ensures.watchers)
+    now horizon cells (subst (λ (all : Tracked). AreKept now horizon cells all) (sym c.self.view_is) kept)

@@ -1,0 +1,80 @@
+-- Tasks by number, in the order in which they came, with the indexes that the engine keeps of them.
+use Rattle.std.specs.Prelude.{◌≡◌, ◌⊎◌, ℕ, zero, suc, ◌<◌, Bool, true, List, [], ◌∷◌, map, Option, Some, None, cond, length, slice_get}
+use Rattle.std.specs.List.{Contains}
+use Rattle.std.specs.Cmp.Lexicographic.{pointwise}
+use Rattle.std.specs.Prelude.{nat_eq}
+use Rattle.std.specs.BTreeMap.{BTreeMap}
+use Rattle.std.specs.BTreeMap as map_
+use Rattle.std.specs.BTreeSet as set
+use Rattle.std.specs.BTreeSet.{BTreeSet}
+use Rattle.indexmap.specs.IndexMap.{insert_entry}
+use Rattle.aerie_base.specs.Paths.{path_cmp}
+use Rattle.effect_cells.specs.declared.effects.CellState.{CellState}
+use Rattle.effect_cells.specs.ReadCells.{reads_cell}
+use Rattle.run_data.specs.Endings.{is_open}
+use Rattle.run_data.specs.Tasks.{TaskPhase, anchored, ready, delayed, waiting, calling, over, Task, Table, task_at}
+use Rattle.run_data.specs.laws.EndedTasks.{open_is}
+use Rattle.run_data.specs.laws.NextTimes.{delay_in, wake_in}
+use Rattle.run_data.specs.laws.NumberedTasks.{sorted_tasks, Distinct}
+use Rattle.run_data.specs.laws.ReadyTasks.{is_ready_phase, number_of_path, HasReadyTasks}
+
+-- ---- one task
+
+-- a task in the place of that of its path, or behind all others where there is none
+abbrev pub put_task : Table → List ℕ → Task → Table
+put_task tasks path task = insert_entry (pointwise nat_eq) tasks path task
+
+-- the number of the task of a path, or how many tasks there are
+abbrev pub number_for : Table → List ℕ → ℕ
+number_for [] path = zero
+number_for (entry ∷ rest) path = cond (pointwise nat_eq path entry.0) zero (suc (number_for rest path))
+
+-- ---- delays, open bodies, ready tasks
+
+abbrev pub delays_of : Table → List (Option ℕ)
+delays_of tasks = map (λ entry. delay_in entry.1.phase) tasks
+
+abbrev pub has_path : BTreeSet (List ℕ) → List ℕ → Bool
+has_path paths path = set.contains path_cmp paths path
+
+-- the ends of delays by number, the paths of all open bodies, and each ready task by its path
+pub record AreIndexed (tasks : Table) (delays : List (Option ℕ)) (opens : BTreeSet (List ℕ)) (readies : BTreeMap (List ℕ) ℕ) : Type 0 where
+  pub distinct : Distinct tasks
+  pub delayed_ : delays ≡ delays_of tasks
+  pub opens_sorted : set.IsOrdered path_cmp opens
+  pub opened : (path : List ℕ) → has_path opens path ≡ open_is (task_at (sorted_tasks tasks) path)
+  pub readies_sorted : map_.IsOrdered path_cmp readies
+  pub ready_only : HasReadyTasks tasks readies
+  pub ready_all : (path : List ℕ) (number : ℕ) (task : Task) → slice_get tasks number ≡ Some (path, task) → is_ready_phase task.phase ≡ true →
+      number_of_path readies path ≡ Some number
+
+-- ---- kept wake times
+
+-- The tasks; the wake times that are kept, by number; the numbers of those whose wake time is to be found anew; and by
+-- cell the numbers of tasks that may wait for what it has.
+pub record Tracked : Type 0 where
+  pub tasks : Table
+  pub wakes : List (Option ℕ)
+  pub stale : List ℕ
+  pub watchers : List (List ℕ)
+
+-- a number stands among those of each cell that a condition reads
+abbrev pub IsWatched : List (List ℕ) → ℕ → TaskPhase → Type 0
+IsWatched watchers number (waiting condition state) =
+    (cell : ℕ) → reads_cell condition cell ≡ true → cell < length watchers → (numbers : List ℕ) × (slice_get watchers cell ≡ Some numbers) × Contains numbers number
+IsWatched watchers number (anchored to edge start state) = Unit {0}
+IsWatched watchers number (ready state) = Unit {0}
+IsWatched watchers number (delayed until state) = Unit {0}
+IsWatched watchers number (calling child into state) = Unit {0}
+IsWatched watchers number (over result) = Unit {0}
+
+-- its kept wake time is right, and is found anew when one of the cells that its condition reads is touched
+pub record IsKept (now horizon : ℕ) (cells : List CellState) (wakes : List (Option ℕ)) (watchers : List (List ℕ)) (number : ℕ) (phase : TaskPhase) : Type 0 where
+  pub wake : slice_get wakes number ≡ Some (wake_in now horizon cells phase)
+  pub watched : IsWatched watchers number phase
+
+-- the wake time of each task is right, unless it is to be found anew
+abbrev pub AreKept : ℕ → ℕ → List CellState → Tracked → Type 0
+AreKept now horizon cells tracked =
+    (number : ℕ) (path : List ℕ) (task : Task) → slice_get tracked.tasks number ≡ Some (path, task) →
+    Contains tracked.stale number ⊎ IsKept now horizon cells tracked.wakes tracked.watchers number task.phase

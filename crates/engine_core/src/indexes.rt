@@ -1,0 +1,134 @@
+ghost use Rattle.std.specs.Prelude.{◌≡◌, ◌≤◌, ℕ, List, Some, None, cond, length, IfOk, if◌then◌else◌};
+ghost use Rattle.std.specs.BTreeMap.{is_at};
+ghost use Rattle.std.specs.BTreeMap as map_;
+ghost use Rattle.std.specs.BTreeSet as set;
+ghost use Rattle.aerie_base.specs.Paths.{path_cmp};
+ghost use Rattle.run_data.specs.Endings.{is_open};
+ghost use Rattle.run_data.specs.laws.NextTimes.{delay_in};
+ghost use Rattle.run_data.specs.laws.ReadyTasks.{is_ready_phase, number_of_path};
+ghost use Rattle.engine_core.specs.TasksByNumber.{has_path};
+ghost use Rattle.engine_core.specs.Times.{put_at};
+
+use crate::phases::TrackedTask;
+use crate::times::Times;
+use aerie_base::{OutOfMemory, Path};
+use std::alloc::Global;
+use std::collections::{BTreeMap, BTreeSet};
+
+/// What the indexes say of a task.
+#[derive(Clone, Copy, Drop)]
+pub(crate) struct Standing {
+    delay: Option<u64>,
+    is_open: bool,
+    is_ready: bool,
+}
+
+/// The ends of delays by number, the paths of all open bodies, and the number of each ready task by its path.
+#[derive(Drop)]
+pub(crate) struct Indexes {
+    pub(crate) delays: Times,
+    pub(crate) opens: BTreeSet<Path>,
+    pub(crate) readies: BTreeMap<Path, usize>,
+}
+
+/// The set with a path, or without it.
+fn marked(
+    alloc: Global,
+    mut paths: BTreeSet<Path>,
+    path: &Path,
+    stands: bool,
+) -> Result<BTreeSet<Path>, OutOfMemory>
+    ensures changed { IfOk result (λ s. (p : List ℕ) → has_path s p ≡ cond (is_at (path_cmp path.now) p) stands (has_path paths p)) }
+    ensures sorted { IfOk result (λ s. set.IsOrdered path_cmp s) }
+{
+    if stands {
+        paths.insert(path.copy(alloc)?)?;
+    } else {
+        paths.remove(path);
+    }
+    Ok(paths)
+}
+
+/// The same of a path of which it is known whether it stands in the set: where that stays, nothing is done.
+fn marked_anew(
+    alloc: Global,
+    paths: BTreeSet<Path>,
+    path: &Path,
+    stood: bool,
+    stands: bool,
+) -> Result<BTreeSet<Path>, OutOfMemory>
+    requires { has_path paths path.now ≡ stood }
+    ensures changed { IfOk result (λ s. (p : List ℕ) → has_path s p ≡ cond (is_at (path_cmp path.now) p) stands (has_path paths p)) }
+    ensures sorted { IfOk result (λ s. set.IsOrdered path_cmp s) }
+{
+    let _length = paths.len();
+    if stood == stands {
+        return Ok(paths);
+    }
+    marked(alloc, paths, path, stands)
+}
+
+/// The map with the number of a path, or without the path.
+fn numbered(
+    mut numbers: BTreeMap<Path, usize>,
+    path: Path,
+    number: usize,
+    stands: bool,
+) -> Result<BTreeMap<Path, usize>, OutOfMemory>
+    ensures changed { IfOk result (λ m. (p : List ℕ) → number_of_path m p ≡ cond (is_at (path_cmp path) p) (if stands then Some number else None) (number_of_path numbers p)) }
+    ensures sorted { IfOk result (λ m. map_.IsOrdered path_cmp m) }
+{
+    if stands {
+        numbers.insert(path, number)?;
+    } else {
+        numbers.remove(&path);
+    }
+    Ok(numbers)
+}
+
+impl Standing {
+    /// What they say of this one.
+    pub(crate) fn of(task: &TrackedTask) -> Standing
+        ensures { result ≡ record { delay = delay_in task.now.phase; is_open = is_open task.now.phase; is_ready = is_ready_phase task.now.phase } }
+    {
+        Standing {
+            delay: task.delay(),
+            is_open: task.is_open(),
+            is_ready: task.is_ready(),
+        }
+    }
+}
+
+impl Indexes {
+    /// Indexes with a task at a number and a path where an open body stood or none.
+    pub(crate) fn put(
+        self,
+        alloc: Global,
+        path: Path,
+        number: usize,
+        stood: bool,
+        standing: Standing,
+    ) -> Result<Indexes, OutOfMemory>
+        requires number { number ≤ length self.delays }
+        requires stood { has_path self.opens path ≡ stood }
+        ensures delays { IfOk result (λ done. done.delays ≡ put_at self.delays number standing.delay) }
+        ensures opens { IfOk result (λ done. (p : List ℕ) → has_path done.opens p ≡ cond (is_at (path_cmp path) p) standing.is_open (has_path self.opens p)) }
+        ensures opens_sorted { IfOk result (λ done. set.IsOrdered path_cmp done.opens) }
+        ensures readies { IfOk result (λ done. (p : List ℕ) → number_of_path done.readies p ≡ cond (is_at (path_cmp path) p) (if standing.is_ready then Some number else None) (number_of_path self.readies p)) }
+        ensures readies_sorted { IfOk result (λ done. map_.IsOrdered path_cmp done.readies) }
+    {
+        let Indexes {
+            delays,
+            opens,
+            readies,
+        } = self;
+        let delays = delays.put(number, standing.delay)?;
+        let opens = marked_anew(alloc, opens, &path, stood, standing.is_open)?;
+        let readies = numbered(readies, path, number, standing.is_ready)?;
+        Ok(Indexes {
+            delays,
+            opens,
+            readies,
+        })
+    }
+}
