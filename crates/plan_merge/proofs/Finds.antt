@@ -10,7 +10,7 @@ use Rattle.plan_merge.specs.Leads.{lead_at}
 use Rattle.plan_merge.proofs.Renames.{both, id_found, none_within}
 
 -- a test of equality, either way round
-eq_back : (a b : ℕ) (t : Bool) → nat_eq a b ≡ t → nat_eq b a ≡ t
+pub eq_back : (a b : ℕ) (t : Bool) → nat_eq a b ≡ t → nat_eq b a ≡ t
 eq_back a b true h = eq-eqb b a (sym (eqb-true a b h))
 eq_back a b false h = go (nat_eq b a) refl
   where
@@ -118,7 +118,7 @@ unmarked led (first ∷ rest) id none = go (unmarked led rest id) (nat_eq first.
 
 -- ---- the same at a place that a search found
 
-at_place : (directives : List Directive) (at id : ℕ) → at < length directives → slice_get directives at ≡ with_id directives id →
+pub at_place : (directives : List Directive) (at id : ℕ) → at < length directives → slice_get directives at ≡ with_id directives id →
     (found : Directive) × ((slice_get directives at ≡ Some found) × (found.id ≡ id))
 at_place directives at id within same = go (slice_get directives at) refl
   where

@@ -1,9 +1,9 @@
 mod Same
-mod Renames
-mod Steps
-mod Finds
-mod Doubled
-mod Loops
+pub mod Renames
+pub mod Steps
+pub mod Finds
+pub mod Doubled
+pub mod Loops
 mod Small
 mod Rising
 mod Merges

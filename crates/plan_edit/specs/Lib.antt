@@ -1,0 +1,7 @@
+pub mod Answers
+pub mod Arguments
+pub mod Requires
+pub mod Editing
+pub mod Mappings
+pub mod Migrating
+pub mod Cases

@@ -1,0 +1,101 @@
+-- What a plan becomes in another model.
+use Rattle.std.specs.Prelude.{◌≡◌, ℕ, pos, Bool, List, [], ◌∷◌, find, nat_eq, slice_get, slice_index_or, Option, Some, None, Result, Ok, Err}
+use Rattle.aerie_base.specs.declared.values.Kind.{Kind}
+use Rattle.aerie_base.specs.declared.values.Kind.TheVariants as kind
+use Rattle.aerie_base.specs.declared.values.Value.{Value}
+use Rattle.aerie_base.specs.declared.values.Value.TheVariants.{Int, Truth, Variant}
+use Rattle.aerie_base.specs.declared.models.Activity.{Activity}
+use Rattle.aerie_base.specs.declared.models.model.Parts.{Parts}
+use Rattle.aerie_base.specs.declared.plans.Directive.{Directive}
+use Rattle.aerie_base.specs.declared.plans.Plan.{Plan}
+use Rattle.aerie_base.specs.models.Signatures.{parameter_kinds}
+use Rattle.plan_edit.specs.declared.errors.MigrateError.{MigrateError}
+use Rattle.plan_edit.specs.declared.errors.MigrateError.TheVariants.{Unmapped, Misfit, OutOfMemory}
+use Rattle.plan_edit.specs.declared.mappings.Feed.{Feed}
+use Rattle.plan_edit.specs.declared.mappings.Feed.TheVariants.{Old, Fixed}
+use Rattle.plan_edit.specs.declared.mappings.TypeRule.{TypeRule}
+use Rattle.plan_edit.specs.declared.mappings.Mapping.{Mapping}
+use Rattle.plan_edit.specs.Requires.{first_unmet}
+
+-- ---- values
+
+-- the variant with the same number of an enumeration; another value stays
+abbrev pub retyped : Kind → Value → Value
+retyped kind.Int value = value
+retyped kind.Truth value = value
+retyped (kind.Enum to) (Int number) = Int number
+retyped (kind.Enum to) (Truth truth) = Truth truth
+retyped (kind.Enum to) (Variant from number) = Variant to number
+
+-- what a parameter of a type gets from the old arguments
+abbrev pub fed : List Value → Kind → Feed → Value
+fed arguments kind (Old place) = retyped kind (slice_index_or arguments place (Int (pos 0)))
+fed arguments kind (Fixed value) = value
+
+-- what the parameters get, one for each feed
+abbrev pub all_fed : List Value → List Kind → List Feed → List Value
+all_fed arguments [] feeds = []
+all_fed arguments (kind ∷ kinds) [] = []
+all_fed arguments (kind ∷ kinds) (feed ∷ feeds) = fed arguments kind feed ∷ all_fed arguments kinds feeds
+
+-- ---- directives
+
+-- the first rule for a type
+abbrev pub rule_of : List TypeRule → ℕ → Option TypeRule
+rule_of rules kind = find (λ rule. nat_eq rule.old kind) rules
+
+-- a directive of another type, with other arguments
+abbrev pub retyped_directive : Directive → ℕ → List Value → Directive
+retyped_directive directive kind values = record directive { kind = kind; arguments = values }
+
+abbrev pub unless_misfit : {A : Type 0} → ℕ → Option ℕ → A → Result A MigrateError
+unless_misfit id None made = Ok made
+unless_misfit id (Some number) made = Err (Misfit id number)
+
+abbrev pub requires_of : Option Activity → List Value → Option ℕ
+requires_of None values = None
+requires_of (Some activity) values = first_unmet 0 values activity.requires_
+
+abbrev pub kinds_of : Option Activity → List Kind
+kinds_of None = []
+kinds_of (Some activity) = parameter_kinds activity
+
+-- what a rule makes of a directive, where the `require`s of the new type are met
+abbrev pub ruled : Directive → ℕ → Option Activity → List Value → Result Directive MigrateError
+ruled directive kind activity values = unless_misfit directive.id (requires_of activity values) (retyped_directive directive kind values)
+
+abbrev pub by_rule : Parts → Directive → Option TypeRule → Result Directive MigrateError
+by_rule new directive None = Err (Unmapped directive.id)
+by_rule new directive (Some rule) =
+    ruled directive rule.new (slice_get new.activities rule.new)
+    (all_fed directive.arguments (kinds_of (slice_get new.activities rule.new)) rule.feeds)
+
+-- what becomes of a directive
+abbrev pub migrated : Parts → Mapping → Directive → Result Directive MigrateError
+migrated new mapping directive = by_rule new directive (rule_of mapping.rules directive.kind)
+
+-- ---- plans
+
+abbrev pub one_more_migrated : Result Directive MigrateError → Result (List Directive) MigrateError → Result (List Directive) MigrateError
+one_more_migrated (Err refusal) rest = Err refusal
+one_more_migrated (Ok directive) (Err refusal) = Err refusal
+one_more_migrated (Ok directive) (Ok rest) = Ok (directive ∷ rest)
+
+-- what becomes of directives, or why nothing: for the first for which there is a cause
+abbrev pub all_migrated : Parts → Mapping → List Directive → Result (List Directive) MigrateError
+all_migrated new mapping [] = Ok []
+all_migrated new mapping (directive ∷ rest) = one_more_migrated (migrated new mapping directive) (all_migrated new mapping rest)
+
+abbrev pub with_migrated : Plan → ℕ → Result (List Directive) MigrateError → Result Plan MigrateError
+with_migrated plan model (Ok directives) = Ok (record plan { model = model; directives = directives })
+with_migrated plan model (Err refusal) = Err refusal
+
+-- the plan in the new model. Ids, starts, anchors, duration and next id stay.
+abbrev pub migrate_of : Parts → Mapping → Plan → Result Plan MigrateError
+migrate_of new mapping plan = with_migrated plan mapping.to (all_migrated new mapping plan.directives)
+
+-- this is why a plan does not migrate: the refusal, or want of memory
+abbrev pub IsMigrateRefusal : {A : Type 0} → Result A MigrateError → MigrateError → Type 0
+IsMigrateRefusal made OutOfMemory = Unit {0}
+IsMigrateRefusal made (Unmapped id) = made ≡ Err (Unmapped id)
+IsMigrateRefusal made (Misfit id number) = made ≡ Err (Misfit id number)

@@ -1,0 +1,46 @@
+-- What the arguments of a directive must meet: the `require`s of its type.
+use Rattle.std.specs.Prelude.{ℕ, ◌+◌, pos, Bool, true, false, List, [], ◌∷◌, Option, Some, None, is_some, Ok, Err, if◌then◌else◌}
+use Rattle.std.proofs.lemmas.Option.{none-some}
+use Rattle.aerie_base.specs.declared.values.Kind.{Kind}
+use Rattle.aerie_base.specs.expressions.Readings.{AreReadings}
+use Rattle.aerie_base.specs.expressions.Typing.{kind_of, slot_kinds}
+use Rattle.aerie_base.specs.declared.values.Value.{Value}
+use Rattle.aerie_base.specs.declared.values.Value.TheVariants.{Int, Truth, Variant}
+use Rattle.aerie_base.specs.declared.operands.CellRead.{CellRead}
+use Rattle.aerie_base.specs.declared.expressions.Expr.{Expr}
+use Rattle.aerie_base.specs.expressions.Arithmetic.{Outcome}
+use Rattle.aerie_base.specs.expressions.Evaluation.{evaluated}
+
+-- a `require` reads parameters alone, so it does not matter what a cell would read
+abbrev pub no_reads : CellRead → Value
+no_reads read = Int (pos 0)
+
+-- a place to read from that has no reads
+abbrev pub no_kinds : CellRead → Option Kind
+no_kinds read = None
+
+pub no_readings : AreReadings no_kinds no_reads
+no_readings = record {
+  of_kind = λ read of e. absurd (none-some of e);
+  sorts = λ read of e. absurd (none-some of e);
+}
+
+-- a fault is not true
+abbrev pub is_true : Outcome → Bool
+is_true (Ok (Truth truth)) = truth
+is_true (Ok (Int number)) = false
+is_true (Ok (Variant kind number)) = false
+is_true (Err fault) = false
+
+-- whether a `require` is true of the values of the parameters
+abbrev pub is_met : List Value → Expr → Bool
+is_met values expr = is_true (evaluated expr values no_reads []).0
+
+-- whether a `require` is well typed for values
+abbrev pub is_typed_for : List Value → Expr → Bool
+is_typed_for values expr = is_some (kind_of expr (slot_kinds values) no_kinds)
+
+-- the number of the first of some `require`s that is not true, counted from a number
+abbrev pub first_unmet : ℕ → List Value → List Expr → Option ℕ
+first_unmet number values [] = None
+first_unmet number values (expr ∷ rest) = if is_met values expr then first_unmet (number + 1) values rest else Some number

@@ -1,0 +1,58 @@
+//! The `require`s of a type, on values of its parameters.
+
+ghost use Rattle.std.specs.Prelude.{◌≡◌, ◌≤◌, IsTrue, length};
+ghost use Rattle.std.specs.List.{list_all};
+ghost use Rattle.aerie_base.specs.models.Limits.{require_limit};
+ghost use Rattle.plan_edit.specs.Requires.{first_unmet as first_unmet_by, is_met as is_met_by, is_typed_for};
+
+use aerie_base::{CellRead, Expr, Fault, Look, Value, eval, truth_in};
+
+/// A place to read from that has no reads.
+#[derive(Drop)]
+struct NoReads {}
+
+impl Look for NoReads {
+    ghost use Rattle.std.specs.Prelude.{[]};
+    ghost use Rattle.plan_edit.specs.Requires.{no_kinds, no_reads, no_readings};
+
+    ghost kinds = { λ look. no_kinds };
+
+    ghost values = { λ look. no_reads };
+
+    ghost read_flags = { λ look. [] };
+
+    ghost Unchanged = { Unit {0} };
+
+    ghost unchanged = { λ look. tt };
+
+    ghost readings = { λ look. no_readings };
+
+    fn look(&mut self, _read: CellRead) -> Result<Value, Fault> {
+        Err(Fault::Range)
+    }
+}
+
+/// Whether a `require` is true of the values of the parameters; one that faults is not.
+fn is_met(expr: &Expr, values: &[Value]) -> bool
+    requires { IsTrue (is_typed_for values.now expr.now) }
+    ensures { result ≡ is_met_by values.now expr.now }
+{
+    match eval(expr, values, &mut NoReads {}) {
+        Ok(value) => truth_in(&value),
+        Err(_) => false,
+    }
+}
+
+/// The number of the first of some `require`s that is not true, from 0.
+pub fn first_unmet(exprs: &[Expr], values: &[Value]) -> Option<u32>
+    requires typed { IsTrue (list_all (is_typed_for values.now) exprs.now) }
+    requires few { length exprs.now ≤ require_limit }
+    ensures { result ≡ first_unmet_by 0 values.now exprs.now }
+{
+    for number in 0..exprs.len() {
+        if !is_met(&exprs[number], values) {
+            return Some(number as u32);
+        }
+    }
+    None
+}
