@@ -38,11 +38,11 @@ none_of_three false true c x y z made all h = absurd (cc)
 none_of_three false false true x y z made all h = absurd (cc)
 none_of_three false false false x y z made all h = (refl, (refl, (refl, h)))
 
-denied : (a : Bool) → not a ≡ false → a ≡ true
+pub denied : (a : Bool) → not a ≡ false → a ≡ true
 denied true h = refl
 denied false h = absurd (true≢false h)
 
-neither : (a b : Bool) → (not a || not b) ≡ false → (a ≡ true) × (b ≡ true)
+pub neither : (a b : Bool) → (not a || not b) ≡ false → (a ≡ true) × (b ≡ true)
 neither true true h = (refl, refl)
 neither true false h = absurd (true≢false h)
 neither false b h = absurd (true≢false h)
@@ -69,7 +69,7 @@ placed_so plan at given directive h =
     }
 
 -- what is given is of the model
-met_is : (activity : Activity) (values met : List Value) → if_met activity values ≡ Ok met → values ≡ met
+pub met_is : (activity : Activity) (values met : List Value) → if_met activity values ≡ Ok met → values ≡ met
 met_is activity values met h = go (first_unmet 0 values activity.requires_) h
   where
     go : (unmet : Option ℕ) → unless_unmet unmet values ≡ Ok met → values ≡ met

@@ -5,3 +5,6 @@ mod Words
 mod Types
 mod Given
 mod Additions
+mod Changes
+mod Moves
+mod Settings

@@ -109,7 +109,8 @@ fn variant_place(enumeration: &EnumType, word: &str) -> Option<usize>
 
 /// The place of the parameter with a name.
 pub fn parameter_place(parameters: &[Parameter], name: &Name) -> Option<usize>
-    ensures { result ≡ place_by parameters.now name.now }
+    ensures place { result ≡ place_by parameters.now name.now }
+    ensures within { IfSome result (λ place. place < length parameters.now) }
 {
     parameters.iter().position(|parameter| parameter.name == *name)
 }

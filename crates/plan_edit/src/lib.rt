@@ -4,16 +4,21 @@
 
 mod adding;
 mod arguments;
+mod changing;
 mod copying;
 mod errors;
 mod items;
 mod mappings;
+mod moving;
 mod placing;
 mod removing;
+mod setting;
 mod unmet;
 
 pub use adding::add;
 pub use copying::copy_plan;
 pub use errors::{EditError, MigrateError};
 pub use mappings::{Feed, Mapping, TypeRule};
+pub use moving::move_to;
 pub use removing::remove;
+pub use setting::set_argument;
