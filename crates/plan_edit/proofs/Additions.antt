@@ -1,5 +1,5 @@
 -- A plan with a directive more is of the model again.
-use Rattle.std.proofs.Common.{◌≡◌, ℕ, zero, suc, ◌+◌, ◌<◌, ◌≤◌, ◌&&◌, ◌||◌, not, Bool, true, false, IsTrue, List, [], ◌∷◌, ◌++◌, Option, Some, None, is_some, option_map, option_and_then, Result, Ok, Err, length, map, slice_get, nat_eq, nat_lt, refl, sym, ap, subst, ◌∙◌, true≢false, ltb-true, eqb-true, eq-eqb, ne_of_lt, arith, if◌then◌else◌}
+use Rattle.std.proofs.Common.{◌≡◌, ℕ, zero, suc, ◌+◌, ◌<◌, ◌&&◌, ◌||◌, not, Bool, true, false, IsTrue, List, [], ◌∷◌, ◌++◌, Option, Some, None, is_some, option_map, option_and_then, Result, Ok, length, slice_get, nat_eq, nat_lt, refl, sym, ap, subst, ◌∙◌, true≢false, ltb-true, arith, if◌then◌else◌}
 use Rattle.std.specs.List.{list_any, list_all}
 use Rattle.std.proofs.lemmas.List.{length-append}
 use Rattle.std.proofs.lemmas.List.Folds.{list_any-append}
@@ -8,7 +8,6 @@ use Rattle.aerie_base.specs.declared.values.Value.{Value}
 use Rattle.aerie_base.specs.declared.arguments.RawArgument.{RawArgument}
 use Rattle.aerie_base.specs.declared.models.Activity.{Activity}
 use Rattle.aerie_base.specs.declared.models.model.Parts.{Parts}
-use Rattle.aerie_base.specs.declared.plans.Anchor.{Anchor}
 use Rattle.aerie_base.specs.declared.plans.When.{When}
 use Rattle.aerie_base.specs.declared.plans.Directive.{Directive}
 use Rattle.aerie_base.specs.declared.plans.Plan.{Plan}
@@ -17,15 +16,15 @@ use Rattle.aerie_base.specs.models.ValidModel.{valid_model}
 use Rattle.aerie_base.specs.plans.OfModel.{directive_limit, rise_to, ids_of, are_values_of, takes, with_id, anchored_to, anchor_of, followed, is_there, is_directive_of, IsPlanOf}
 use Rattle.aerie_base.specs.plans.RisingIds.{rise_pushed, ids_pushed}
 use Rattle.plan_merge.proofs.Finds.{among}
-use Rattle.plan_merge.proofs.Renames.{both, id_found}
+use Rattle.plan_merge.proofs.Renames.{both}
 use Rattle.plan_edit.specs.declared.errors.EditError.{EditError}
 use Rattle.plan_edit.specs.declared.arguments.Given.{Given}
-use Rattle.plan_edit.specs.Answers.{Refusal, unless_refused, then_made_of}
+use Rattle.plan_edit.specs.Answers.{unless_refused, then_made_of}
 use Rattle.plan_edit.specs.Arguments.{arguments_of}
 use Rattle.plan_edit.specs.Requires.{first_unmet}
-use Rattle.plan_edit.specs.Editing.{unless_unmet, if_met, given_to, given_at, given_of, type_place, is_outside, is_full, is_loose, new_directive, with_added, placed, directive_added}
+use Rattle.plan_edit.specs.Editing.{unless_unmet, if_met, given_to, given_at_place, given_of, type_place, is_outside, is_full, is_loose, new_directive, with_added, directive_placed, directive_added}
 use Rattle.plan_edit.proofs.Given.{part_of, arguments_good}
-use Rattle.plan_edit.proofs.Types.{IsTypeOf, type_good}
+use Rattle.plan_edit.proofs.Types.{type_good}
 use Rattle.plan_edit.proofs.Trails.{IsAcyclic}
 
 -- ---- what is made where nothing is refused
@@ -55,7 +54,7 @@ pub record IsPlaced (plan : Plan) (at : When) (given : Given) (directive : Direc
   pub anchor : IsTrue (is_there plan.directives (option_map (λ anchor. anchor.to) at.anchor))
   pub is : new_directive plan at given ≡ directive
 
-pub placed_so : (plan : Plan) (at : When) (given : Given) (directive : Directive) → placed plan at given ≡ Ok directive → IsPlaced plan at given directive
+pub placed_so : (plan : Plan) (at : When) (given : Given) (directive : Directive) → directive_placed plan at given ≡ Ok directive → IsPlaced plan at given directive
 placed_so plan at given directive h =
     let none = none_of_three (is_outside plan at.start) (is_full plan) (is_loose plan at.anchor) _ _ _ (Ok (new_directive plan at given)) directive h in
     let room = neither (nat_lt (length plan.directives) directive_limit) (nat_lt plan.next_id 4_294_967_295) none.1.0 in
@@ -94,7 +93,7 @@ module _ (model : Parts) (valid : IsTrue (valid_model model)) where
       IsTrue (takes model.enums (slice_get model.activities given.kind) given.arguments)
   given_good name arguments given h = go (type_place model name) h
     where
-      go : (place : Option ℕ) → given_at model arguments place ≡ Ok given → IsTrue (takes model.enums (slice_get model.activities given.kind) given.arguments)
+      go : (place : Option ℕ) → given_at_place model arguments place ≡ Ok given → IsTrue (takes model.enums (slice_get model.activities given.kind) given.arguments)
       go None h = absurd (cc)
       go (Some kind) h = takes_given kind arguments given (slice_get model.activities kind) refl h
 
@@ -255,5 +254,5 @@ module _ (model : Parts) (valid : IsTrue (valid_model model)) (plan : Plan) (of 
 
   pub added_plan : (at : When) (name : List ℕ) (arguments : List RawArgument) (more : Directive) → directive_added model plan at name arguments ≡ Ok more → IsPlanOf model (with_added plan more)
   added_plan at name arguments more h =
-      let part = part_of (placed plan at) (given_of model name arguments) more h in
+      let part = part_of (directive_placed plan at) (given_of model name arguments) more h in
       with_one_more at part.0 more (placed_so plan at part.0 more part.1.1) (given_good model valid name arguments part.0 part.1.0)

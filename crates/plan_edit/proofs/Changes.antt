@@ -1,13 +1,13 @@
 -- A plan with one directive changed, or all of them, each with its id as before.
-use Rattle.std.proofs.Common.{◌≡◌, ℕ, zero, suc, ◌+◌, ◌<◌, ◌≤◌, ◌&&◌, not, Bool, true, false, IsTrue, List, [], ◌∷◌, Option, Some, None, is_some, option_map, option_and_then, Result, Ok, Err, length, map, slice_get, slice_set, nat_eq, nat_lt, refl, sym, ap, subst, ◌∙◌, true≢false, ltb-true, eqb-true, eq-eqb, ne_eqb, ne_of_lt, arith, if◌then◌else◌}
+use Rattle.std.proofs.Common.{◌≡◌, ℕ, zero, suc, ◌<◌, ◌&&◌, Bool, true, false, IsTrue, List, [], ◌∷◌, Option, Some, None, option_map, option_and_then, length, map, slice_get, slice_set, nat_eq, nat_lt, refl, sym, ap, subst, ◌∙◌, true≢false, ltb-true, eqb-true, eq-eqb, ne_eqb, ne_of_lt, arith, if◌then◌else◌}
 use Rattle.std.specs.List.{list_any, list_all}
 use Rattle.std.proofs.lemmas.Option.{none-some, same_Some}
 use Rattle.aerie_base.specs.declared.models.model.Parts.{Parts}
 use Rattle.aerie_base.specs.declared.plans.Anchor.{Anchor}
 use Rattle.aerie_base.specs.declared.plans.Directive.{Directive}
 use Rattle.aerie_base.specs.declared.plans.Plan.{Plan}
-use Rattle.aerie_base.specs.plans.OfModel.{directive_limit, rise_to, ids_of, takes, with_id, anchored_to, anchor_of, is_there, is_directive_of, IsPlanOf}
-use Rattle.aerie_base.specs.plans.RisingIds.{Rise, above, found_by_id}
+use Rattle.aerie_base.specs.plans.OfModel.{rise_to, ids_of, takes, with_id, anchored_to, anchor_of, is_there, is_directive_of, IsPlanOf, Rise}
+use Rattle.aerie_base.specs.plans.RisingIds.{above, found_by_id}
 use Rattle.plan_merge.proofs.Finds.{at_place, eq_back}
 use Rattle.plan_merge.proofs.Renames.{both, id_found}
 use Rattle.plan_edit.specs.Editing.{changed_where, with_changed}

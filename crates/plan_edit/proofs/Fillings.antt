@@ -1,6 +1,5 @@
 -- Values one behind another, and where values are of.
-use Rattle.std.proofs.Common.{◌≡◌, ℕ, zero, suc, ◌+◌, ◌<◌, ◌≤◌, ◌&&◌, Bool, true, false, IsTrue, List, [], ◌∷◌, ◌++◌, append_assoc, take, drop, drop-cons, get_or, length, Option, Some, None, Result, Ok, Err, slice_get, nat_le, nat_lt, refl, sym, ap, ◌∙◌, add-one, true≢false, if◌then◌else◌, subst, leb-true, arith}
-use Rattle.std.proofs.lemmas.List.{take_more, append-nil}
+use Rattle.std.proofs.Common.{◌≡◌, ℕ, zero, suc, ◌+◌, ◌<◌, ◌≤◌, ◌&&◌, IsTrue, List, [], ◌∷◌, ◌++◌, append_assoc, drop, drop-cons, get_or, length, Option, Some, None, Result, Ok, Err, slice_get, nat_le, refl, sym, ap, ◌∙◌, add-one, subst, leb-true}
 use Rattle.std.proofs.lemmas.Option.{none-some, same_Some}
 use Rattle.std.specs.List.{list_all}
 use Rattle.aerie_base.specs.declared.values.Value.{Value}
@@ -15,7 +14,7 @@ use Rattle.aerie_base.specs.models.ValidParts.{are_good}
 use Rattle.plan_merge.proofs.Renames.{both}
 use Rattle.plan_edit.specs.declared.errors.EditError.{EditError}
 use Rattle.plan_edit.specs.declared.errors.EditError.TheVariants.{BadArgument}
-use Rattle.plan_edit.specs.Arguments.{filled, in_front, parameter_value, first_bad, is_bad}
+use Rattle.plan_edit.specs.Arguments.{values_filled, value_in_front, parameter_value}
 
 abbrev pub behind : List Value → Result (List Value) EditError → Result (List Value) EditError
 behind values (Ok rest) = Ok (values ++ rest)
@@ -26,7 +25,7 @@ behind_none (Ok rest) = refl
 behind_none (Err refusal) = refl
 
 in_front_behind : (values : List Value) (name : List ℕ) (value : Value) (rest : Result (List Value) EditError) →
-    behind values (in_front name rest (Some value)) ≡ behind (values ++ value ∷ []) rest
+    behind values (value_in_front name rest (Some value)) ≡ behind (values ++ value ∷ []) rest
 in_front_behind values name value (Ok rest) = ap Ok (sym (append_assoc values (value ∷ []) rest))
 in_front_behind values name value (Err refusal) = refl
 
@@ -38,19 +37,19 @@ module _ (enums : List EnumType) (arguments : List RawArgument) where
   -- a value more
   pub one_more : (values : List Value) (parameters : List Parameter) (at : ℕ) (parameter : Parameter) (value : Value) → at < length parameters →
       parameter ≡ get_or parameters at parameter → Some value ≡ parameter_value enums arguments parameter →
-      behind values (filled enums arguments (drop at parameters)) ≡ behind (values ++ value ∷ []) (filled enums arguments (drop (at + 1) parameters))
+      behind values (values_filled enums arguments (drop at parameters)) ≡ behind (values ++ value ∷ []) (values_filled enums arguments (drop (at + 1) parameters))
   one_more values parameters at parameter value within is found =
-      ap (λ (left : List Parameter). behind values (filled enums arguments left)) (cut parameters at parameter within is)
-      ∙ ap (λ (o : Option Value). behind values (in_front parameter.name (filled enums arguments (drop (at + 1) parameters)) o)) (sym found)
-      ∙ in_front_behind values parameter.name value (filled enums arguments (drop (at + 1) parameters))
+      ap (λ (left : List Parameter). behind values (values_filled enums arguments left)) (cut parameters at parameter within is)
+      ∙ ap (λ (o : Option Value). behind values (value_in_front parameter.name (values_filled enums arguments (drop (at + 1) parameters)) o)) (sym found)
+      ∙ in_front_behind values parameter.name value (values_filled enums arguments (drop (at + 1) parameters))
 
   -- none here
   pub missing : (values : List Value) (parameters : List Parameter) (at : ℕ) (parameter : Parameter) → at < length parameters →
       parameter ≡ get_or parameters at parameter → None ≡ parameter_value enums arguments parameter →
-      behind values (filled enums arguments (drop at parameters)) ≡ Err (BadArgument parameter.name)
+      behind values (values_filled enums arguments (drop at parameters)) ≡ Err (BadArgument parameter.name)
   missing values parameters at parameter within is found =
-      ap (λ (left : List Parameter). behind values (filled enums arguments left)) (cut parameters at parameter within is)
-      ∙ ap (λ (o : Option Value). behind values (in_front parameter.name (filled enums arguments (drop (at + 1) parameters)) o)) (sym found)
+      ap (λ (left : List Parameter). behind values (values_filled enums arguments left)) (cut parameters at parameter within is)
+      ∙ ap (λ (o : Option Value). behind values (value_in_front parameter.name (values_filled enums arguments (drop (at + 1) parameters)) o)) (sym found)
 
 -- an enumeration of a valid model has few variants
 each_good : (enums : List EnumType) (kind : ℕ) (enum : EnumType) → IsTrue (list_all is_enum enums) → slice_get enums kind ≡ Some enum → length enum.variants ≤ variant_limit

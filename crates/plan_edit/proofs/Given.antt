@@ -1,9 +1,9 @@
 -- What is given: refusals on their way out, and values of arguments, which are values of the parameters.
-use Rattle.std.proofs.Common.{◌≡◌, ℕ, ℤ, zero, suc, ◌+◌, ◌<◌, ◌≤◌, ◌&&◌, Bool, true, false, IsTrue, IfSome, List, [], ◌∷◌, Option, Some, None, is_some, option_map, option_and_then, find, position, Result, Ok, Err, length, map, slice_get, get_or, nat_lt, refl, sym, ap, subst, ◌∙◌, true≢false, lt-ltb, eq-eqb, if◌then◌else◌}
+use Rattle.std.proofs.Common.{◌≡◌, ℕ, ℤ, ◌<◌, ◌&&◌, Bool, true, false, IsTrue, IfSome, List, [], ◌∷◌, Option, Some, None, is_some, option_map, option_and_then, find, Result, Ok, Err, length, map, slice_get, get_or, nat_lt, refl, sym, ap, subst, ◌∙◌, true≢false, lt-ltb, eq-eqb, if◌then◌else◌}
 use Rattle.std.specs.List.{list_all}
 use Rattle.std.proofs.lemmas.Option.{none-some, same_Some, slice_get_read}
 use Rattle.std.proofs.lemmas.List.Quantifiers.{position-Some}
-use Rattle.aerie_base.specs.Ranges.{is_number, number_of}
+use Rattle.aerie_base.specs.Ranges.{is_number, checked_number}
 use Rattle.aerie_base.specs.declared.values.Kind.{Kind}
 use Rattle.aerie_base.specs.declared.values.Kind.TheVariants.{Int, Truth, Enum}
 use Rattle.aerie_base.specs.declared.values.Value.{Value}
@@ -16,12 +16,11 @@ use Rattle.aerie_base.specs.declared.models.Parameter.{Parameter}
 use Rattle.aerie_base.specs.declared.models.Activity.{Activity}
 use Rattle.aerie_base.specs.declared.models.model.Parts.{Parts}
 use Rattle.aerie_base.specs.declared.plans.Directive.{Directive}
-use Rattle.aerie_base.specs.expressions.Arithmetic.{value_kind}
 use Rattle.aerie_base.specs.expressions.Typing.{same_kind}
 use Rattle.aerie_base.specs.models.Activities.{is_parameter, is_default}
 use Rattle.aerie_base.specs.models.Names.{same_name}
 use Rattle.aerie_base.specs.models.Signatures.{parameter_kinds}
-use Rattle.aerie_base.specs.models.Values.{is_kind, is_value, is_value_of, variant_count, variants_of}
+use Rattle.aerie_base.specs.models.Values.{is_kind, is_value_of, variant_count, variants_of}
 use Rattle.aerie_base.specs.plans.OfModel.{with_id, are_values_of}
 use Rattle.plan_merge.proofs.Finds.{at_place}
 use Rattle.plan_merge.proofs.Renames.{both}
@@ -29,10 +28,9 @@ use Rattle.plan_edit.specs.declared.errors.EditError.{EditError}
 use Rattle.plan_edit.specs.declared.errors.EditError.TheVariants.{NoDirective, UnknownType, BadArgument, Invalid, OutsidePlan, TooMany, NotAPlan, OutOfMemory, NoAnchor, Cycle, Anchored}
 use Rattle.plan_edit.specs.declared.arguments.Given.{Given}
 use Rattle.plan_edit.specs.Answers.{then_made_of, IsRefusal, IsMade}
-use Rattle.plan_edit.specs.Arguments.{variant_word, variant_written, value_given, value_or_default, parameter_value, in_front, filled, first_bad, unless_bad, arguments_of}
-use Rattle.plan_edit.specs.Requires.{first_unmet}
+use Rattle.plan_edit.specs.Arguments.{written_variant, variant_written, value_given, value_or_default, parameter_value, value_in_front, values_filled, first_bad, unless_bad, arguments_of}
 use Rattle.plan_edit.proofs.Types.{IsTypeOf}
-use Rattle.plan_edit.specs.Editing.{unless_unmet, if_met, given_to, given_at, given_of, type_place}
+use Rattle.plan_edit.specs.Editing.{if_met, given_to}
 
 -- ---- answers
 
@@ -80,7 +78,7 @@ itself Int = refl
 itself Truth = refl
 itself (Enum kind) = eq-eqb kind kind refl
 
-number_good : (enums : List EnumType) (number : ℤ) (found : Value) → option_map value.Int (number_of number) ≡ Some found → IsTrue (is_value_of enums Int found)
+number_good : (enums : List EnumType) (number : ℤ) (found : Value) → option_map value.Int (checked_number number) ≡ Some found → IsTrue (is_value_of enums Int found)
 number_good enums number found h = go (is_number number) refl h
   where
     go : (t : Bool) → is_number number ≡ t → option_map value.Int (if t then Some number else None) ≡ Some found → IsTrue (is_value_of enums Int found)
@@ -95,7 +93,7 @@ variant_good enums kind word found h = go (slice_get enums kind) refl h
         IsTrue (is_value_of enums (Enum kind) found)
     there enum is None at h = absurd (none-some found h)
     there enum is (Some number) at h =
-        let less = (position-Some (λ (variant : List ℕ). same_name (variant_word enum variant) word) enum.variants number [] at).0 in
+        let less = (position-Some (λ (variant : List ℕ). same_name (written_variant enum variant) word) enum.variants number [] at).0 in
         subst (λ (v : Value). IsTrue (is_value_of enums (Enum kind) v)) (same_Some (value.Variant kind number) found h)
         (and_too (same_kind (Enum kind) (Enum kind)) (nat_lt number (variant_count enums kind)) (itself (Enum kind))
         (ap (λ (o : Option EnumType). nat_lt number (variants_of o)) is ∙ lt-ltb number (length enum.variants) less))
@@ -127,19 +125,19 @@ module _ (enums : List EnumType) (arguments : List RawArgument) where
       go None h = default_good parameter.kind parameter.default found (both (is_kind enums parameter.kind) (is_default enums parameter.kind parameter.default) good).1 h
       go (Some argument) h = value_good enums parameter.kind argument.value found h
 
-  pub filled_good : (parameters : List Parameter) (values : List Value) → IsTrue (list_all (is_parameter enums) parameters) → filled enums arguments parameters ≡ Ok values →
+  pub filled_good : (parameters : List Parameter) (values : List Value) → IsTrue (list_all (is_parameter enums) parameters) → values_filled enums arguments parameters ≡ Ok values →
       IsTrue (are_values_of enums (map (λ (parameter : Parameter). parameter.kind) parameters) values)
   filled_good [] [] good h = refl
   filled_good [] (value ∷ values) good h = absurd (cc)
   filled_good (parameter ∷ rest) values good h =
       let parts = both (is_parameter enums parameter) (list_all (is_parameter enums) rest) good in
-      go values (filled enums arguments rest) refl (filled_good rest) parts.1 (parameter_value enums arguments parameter) refl (one_good parameter) parts.0 h
+      go values (values_filled enums arguments rest) refl (filled_good rest) parts.1 (parameter_value enums arguments parameter) refl (one_good parameter) parts.0 h
     where
-      go : (values : List Value) (others : Result (List Value) EditError) → filled enums arguments rest ≡ others →
-          ((vs : List Value) → IsTrue (list_all (is_parameter enums) rest) → filled enums arguments rest ≡ Ok vs → IsTrue (are_values_of enums (map (λ (parameter : Parameter). parameter.kind) rest) vs)) →
+      go : (values : List Value) (others : Result (List Value) EditError) → values_filled enums arguments rest ≡ others →
+          ((vs : List Value) → IsTrue (list_all (is_parameter enums) rest) → values_filled enums arguments rest ≡ Ok vs → IsTrue (are_values_of enums (map (λ (parameter : Parameter). parameter.kind) rest) vs)) →
           IsTrue (list_all (is_parameter enums) rest) → (found : Option Value) → parameter_value enums arguments parameter ≡ found →
           ((v : Value) → IsTrue (is_parameter enums parameter) → parameter_value enums arguments parameter ≡ Some v → IsTrue (is_value_of enums parameter.kind v)) →
-          IsTrue (is_parameter enums parameter) → in_front parameter.name others found ≡ Ok values →
+          IsTrue (is_parameter enums parameter) → value_in_front parameter.name others found ≡ Ok values →
           IsTrue (are_values_of enums (parameter.kind ∷ map (λ (parameter : Parameter). parameter.kind) rest) values)
       go values (Ok vs) are more goods None is one good h = absurd (cc)
       go values (Err refusal) are more goods None is one good h = absurd (cc)
@@ -153,7 +151,7 @@ module _ (enums : List EnumType) (arguments : List RawArgument) where
       IsTrue (are_values_of enums (map (λ (parameter : Parameter). parameter.kind) parameters) values)
   arguments_good parameters values good h = go (first_bad enums parameters [] arguments) h
     where
-      go : (bad : Option (List ℕ)) → unless_bad bad (filled enums arguments parameters) ≡ Ok values → IsTrue (are_values_of enums (map (λ (parameter : Parameter). parameter.kind) parameters) values)
+      go : (bad : Option (List ℕ)) → unless_bad bad (values_filled enums arguments parameters) ≡ Ok values → IsTrue (are_values_of enums (map (λ (parameter : Parameter). parameter.kind) parameters) values)
       go None h = filled_good parameters values good h
       go (Some name) h = absurd (cc)
 

@@ -1,23 +1,22 @@
 -- A plan in which a directive is moved has no cycle where following anchors from its new anchor does not reach it.
-use Rattle.std.proofs.Common.{◌≡◌, ℕ, zero, suc, ◌+◌, ◌-◌, ◌<◌, ◌≤◌, ◌&&◌, ◌||◌, ◌⊎◌, inl, inr, not, Bool, true, false, IsTrue, List, [], ◌∷◌, Option, Some, None, option_map, option_and_then, Result, Ok, Err, length, map, slice_get, slice_set, nat_eq, nat_lt, refl, sym, ap, subst, ◌∙◌, true≢false, eqb-true, eq-eqb, ltb-true, ltb-false, arith, if◌then◌else◌}
+use Rattle.std.proofs.Common.{◌≡◌, ℕ, zero, suc, ◌+◌, ◌-◌, ◌<◌, ◌≤◌, ◌&&◌, ◌||◌, ◌⊎◌, inl, inr, Bool, true, false, List, [], ◌∷◌, Option, Some, None, option_map, option_and_then, Result, Ok, length, map, slice_get, slice_set, nat_eq, nat_lt, refl, sym, ap, subst, ◌∙◌, true≢false, eqb-true, eq-eqb, ltb-true, ltb-false, arith, if◌then◌else◌}
 use Rattle.std.proofs.lemmas.Option.{none-some, same_Some}
 use Rattle.aerie_base.specs.declared.models.model.Parts.{Parts}
 use Rattle.aerie_base.specs.declared.plans.Anchor.{Anchor}
 use Rattle.aerie_base.specs.declared.plans.When.{When}
 use Rattle.aerie_base.specs.declared.plans.Directive.{Directive}
 use Rattle.aerie_base.specs.declared.plans.Plan.{Plan}
-use Rattle.aerie_base.specs.plans.OfModel.{takes, with_id, anchored_to, anchor_of, followed, is_there, is_directive_of, IsPlanOf}
-use Rattle.aerie_base.specs.plans.RisingIds.{Rise}
+use Rattle.aerie_base.specs.plans.OfModel.{takes, with_id, anchored_to, anchor_of, followed, is_there, is_directive_of, IsPlanOf, Rise}
 use Rattle.plan_merge.proofs.Doubled.{followed_on}
 use Rattle.plan_merge.proofs.Loops.{far_round}
 use Rattle.plan_merge.proofs.Renames.{both, id_found}
 use Rattle.plan_edit.specs.declared.errors.EditError.{EditError}
 use Rattle.plan_edit.specs.declared.errors.EditError.TheVariants.{OutsidePlan, NoAnchor, Cycle}
 use Rattle.plan_edit.specs.Answers.{unless_refused}
-use Rattle.plan_edit.specs.Editing.{on_next, reaches_within, leads_to, moved, changed_where, with_changed, is_outside, is_loose, of_directive, move_of}
-use Rattle.plan_edit.proofs.Additions.{none_of_three, denied, found_good}
+use Rattle.plan_edit.specs.Editing.{on_next, reaches_within, leads_to, moved_directive, changed_where, with_changed, is_outside, is_loose, of_directive, move_of}
+use Rattle.plan_edit.proofs.Additions.{denied, found_good}
 use Rattle.plan_edit.proofs.Changes.{found_changed, found_there, changed_so, one_changed, and_too}
-use Rattle.plan_edit.proofs.Trails.{IsAcyclic, LeadNoFurther, acyclic_still}
+use Rattle.plan_edit.proofs.Trails.{IsAcyclic}
 
 -- ---- following anchors, as a test
 
@@ -69,42 +68,42 @@ module _ (directives : List Directive) (id : ℕ) where
       go false e = reached steps (length directives) from (ltb-false (length directives) steps e) h
       go true e =
           let round = far_round directives (steps - suc (length directives)) from id
-                  (sym (ap (λ (n : ℕ). followed directives n from) (far (length directives) steps (ltb-true (length directives) steps e))) ∙ h) in
+          (sym (ap (λ (n : ℕ). followed directives n from) (far (length directives) steps (ltb-true (length directives) steps e))) ∙ h) in
           absurd (acyclic id round.0 round.1.1)
 
 -- ---- the moved directive
 
 module _ (directives : List Directive) (id : ℕ) (to : When) where
-  kept_id : (d : Directive) → (changed_where id (moved to) d).id ≡ d.id
+  kept_id : (d : Directive) → (changed_where id (moved_directive to) d).id ≡ d.id
   kept_id d = go (nat_eq d.id id)
     where
-      go : (t : Bool) → (if t then moved to d else d).id ≡ d.id
+      go : (t : Bool) → (if t then moved_directive to d else d).id ≡ d.id
       go true = refl
       go false = refl
 
   abbrev now : List Directive
-  now = map (changed_where id (moved to)) directives
+  now = map (changed_where id (moved_directive to)) directives
 
   -- from another directive the same anchor leads on
-  same_lead : (other : ℕ) → nat_eq other id ≡ false → anchor_of (map (changed_where id (moved to)) directives) other ≡ anchor_of directives other
-  same_lead other apart = ap (option_and_then anchored_to) (found_changed (changed_where id (moved to)) kept_id directives other) ∙ go (with_id directives other) refl
+  same_lead : (other : ℕ) → nat_eq other id ≡ false → anchor_of (map (changed_where id (moved_directive to)) directives) other ≡ anchor_of directives other
+  same_lead other apart = ap (option_and_then anchored_to) (found_changed (changed_where id (moved_directive to)) kept_id directives other) ∙ go (with_id directives other) refl
     where
-      go : (found : Option Directive) → with_id directives other ≡ found → option_and_then anchored_to (option_map (changed_where id (moved to)) found) ≡ option_and_then anchored_to found
+      go : (found : Option Directive) → with_id directives other ≡ found → option_and_then anchored_to (option_map (changed_where id (moved_directive to)) found) ≡ option_and_then anchored_to found
       go None is = refl
       go (Some d) is =
-          ap (λ (t : Bool). anchored_to (if t then moved to d else d)) (ap (λ (i : ℕ). nat_eq i id) (id_found directives other d is) ∙ apart)
+          ap (λ (t : Bool). anchored_to (if t then moved_directive to d else d)) (ap (λ (i : ℕ). nat_eq i id) (id_found directives other d is) ∙ apart)
 
   -- either the moved one is passed, or the same anchors lead on
-  walked : (steps from end : ℕ) → followed (map (changed_where id (moved to)) directives) steps from ≡ Some end →
-      ((some : ℕ) × ((some < steps) × ((followed (map (changed_where id (moved to)) directives) some from ≡ Some id) × (followed directives some from ≡ Some id)))) ⊎ (followed directives steps from ≡ Some end)
+  walked : (steps from end : ℕ) → followed (map (changed_where id (moved_directive to)) directives) steps from ≡ Some end →
+      ((some : ℕ) × ((some < steps) × ((followed (map (changed_where id (moved_directive to)) directives) some from ≡ Some id) × (followed directives some from ≡ Some id)))) ⊎ (followed directives steps from ≡ Some end)
   walked zero from end h = inr h
-  walked (suc steps) from end h = go (λ next. walked steps next end) (nat_eq from id) refl (anchor_of (map (changed_where id (moved to)) directives) from) refl h
+  walked (suc steps) from end h = go (λ next. walked steps next end) (nat_eq from id) refl (anchor_of (map (changed_where id (moved_directive to)) directives) from) refl h
     where
-      go : ((next : ℕ) → followed (map (changed_where id (moved to)) directives) steps next ≡ Some end →
-          ((some : ℕ) × ((some < steps) × ((followed (map (changed_where id (moved to)) directives) some next ≡ Some id) × (followed directives some next ≡ Some id)))) ⊎ (followed directives steps next ≡ Some end)) →
-          (t : Bool) → nat_eq from id ≡ t → (next : Option ℕ) → anchor_of (map (changed_where id (moved to)) directives) from ≡ next →
-          option_and_then (followed (map (changed_where id (moved to)) directives) steps) next ≡ Some end →
-          ((some : ℕ) × ((some < suc steps) × ((followed (map (changed_where id (moved to)) directives) some from ≡ Some id) × (followed directives some from ≡ Some id)))) ⊎ (followed directives (suc steps) from ≡ Some end)
+      go : ((next : ℕ) → followed (map (changed_where id (moved_directive to)) directives) steps next ≡ Some end →
+          ((some : ℕ) × ((some < steps) × ((followed (map (changed_where id (moved_directive to)) directives) some next ≡ Some id) × (followed directives some next ≡ Some id)))) ⊎ (followed directives steps next ≡ Some end)) →
+          (t : Bool) → nat_eq from id ≡ t → (next : Option ℕ) → anchor_of (map (changed_where id (moved_directive to)) directives) from ≡ next →
+          option_and_then (followed (map (changed_where id (moved_directive to)) directives) steps) next ≡ Some end →
+          ((some : ℕ) × ((some < suc steps) × ((followed (map (changed_where id (moved_directive to)) directives) some from ≡ Some id) × (followed directives some from ≡ Some id)))) ⊎ (followed directives (suc steps) from ≡ Some end)
       go others true e next is k = inl (0, (omega arith, (ap Some (eqb-true from id e), ap Some (eqb-true from id e))))
       go others false e None is k = absurd (none-some end k)
       go others false e (Some next) is k = on (others next k)
@@ -112,18 +111,18 @@ module _ (directives : List Directive) (id : ℕ) (to : When) where
           old : anchor_of directives from ≡ Some next
           old = sym (same_lead from e) ∙ is
 
-          on : ((some : ℕ) × ((some < steps) × ((followed (map (changed_where id (moved to)) directives) some next ≡ Some id) × (followed directives some next ≡ Some id)))) ⊎ (followed directives steps next ≡ Some end) →
-              ((some : ℕ) × ((some < suc steps) × ((followed (map (changed_where id (moved to)) directives) some from ≡ Some id) × (followed directives some from ≡ Some id)))) ⊎ (followed directives (suc steps) from ≡ Some end)
+          on : ((some : ℕ) × ((some < steps) × ((followed (map (changed_where id (moved_directive to)) directives) some next ≡ Some id) × (followed directives some next ≡ Some id)))) ⊎ (followed directives steps next ≡ Some end) →
+              ((some : ℕ) × ((some < suc steps) × ((followed (map (changed_where id (moved_directive to)) directives) some from ≡ Some id) × (followed directives some from ≡ Some id)))) ⊎ (followed directives (suc steps) from ≡ Some end)
           on (inl passed) =
-              inl (suc passed.0, (omega (arith, passed.1.0), (ap (option_and_then (followed (map (changed_where id (moved to)) directives) passed.0)) is ∙ passed.1.1.0, ap (option_and_then (followed directives passed.0)) old ∙ passed.1.1.1)))
+              inl (suc passed.0, (omega (arith, passed.1.0), (ap (option_and_then (followed (map (changed_where id (moved_directive to)) directives) passed.0)) is ∙ passed.1.1.0, ap (option_and_then (followed directives passed.0)) old ∙ passed.1.1.1)))
           on (inr same) = inr (ap (option_and_then (followed directives steps)) old ∙ same)
 
   -- the anchor of the moved one
-  own_lead : (found : Directive) → with_id directives id ≡ Some found → anchor_of (map (changed_where id (moved to)) directives) id ≡ option_map (λ anchor. anchor.to) to.anchor
+  own_lead : (found : Directive) → with_id directives id ≡ Some found → anchor_of (map (changed_where id (moved_directive to)) directives) id ≡ option_map (λ anchor. anchor.to) to.anchor
   own_lead found is =
-      ap (option_and_then anchored_to) (found_changed (changed_where id (moved to)) kept_id directives id)
-      ∙ ap (λ (o : Option Directive). option_and_then anchored_to (option_map (changed_where id (moved to)) o)) is
-      ∙ ap (λ (t : Bool). anchored_to (if t then moved to found else found)) (eq-eqb found.id id (id_found directives id found is))
+      ap (option_and_then anchored_to) (found_changed (changed_where id (moved_directive to)) kept_id directives id)
+      ∙ ap (λ (o : Option Directive). option_and_then anchored_to (option_map (changed_where id (moved_directive to)) o)) is
+      ∙ ap (λ (t : Bool). anchored_to (if t then moved_directive to found else found)) (eq-eqb found.id id (id_found directives id found is))
 
   -- a walk from the moved one never returns to it
   module _ (acyclic : IsAcyclic directives) (found : Directive) (here : with_id directives id ≡ Some found)
@@ -132,21 +131,21 @@ module _ (directives : List Directive) (id : ℕ) (to : When) where
     not_reached anchor is steps h = true≢false (sym (reached_soon directives id acyclic steps anchor.to h) ∙ apart anchor is)
 
     -- the same of anchors as they are now
-    no_return : (anchor : Anchor) → to.anchor ≡ Some anchor → (steps : ℕ) → followed (map (changed_where id (moved to)) directives) steps anchor.to ≡ Some id → ⊥
+    no_return : (anchor : Anchor) → to.anchor ≡ Some anchor → (steps : ℕ) → followed (map (changed_where id (moved_directive to)) directives) steps anchor.to ≡ Some id → ⊥
     no_return anchor is steps h = go (walked steps anchor.to id h)
       where
-        go : ((some : ℕ) × ((some < steps) × ((followed (map (changed_where id (moved to)) directives) some anchor.to ≡ Some id) × (followed directives some anchor.to ≡ Some id)))) ⊎ (followed directives steps anchor.to ≡ Some id) → ⊥
+        go : ((some : ℕ) × ((some < steps) × ((followed (map (changed_where id (moved_directive to)) directives) some anchor.to ≡ Some id) × (followed directives some anchor.to ≡ Some id)))) ⊎ (followed directives steps anchor.to ≡ Some id) → ⊥
         go (inl passed) = not_reached anchor is passed.0 passed.1.1.1
         go (inr same) = not_reached anchor is steps same
 
-    no_round : (steps : ℕ) → followed (map (changed_where id (moved to)) directives) (suc steps) id ≡ Some id → ⊥
-    no_round steps h = go to.anchor refl (ap (option_and_then (followed (map (changed_where id (moved to)) directives) steps)) (sym (own_lead found here)) ∙ h)
+    no_round : (steps : ℕ) → followed (map (changed_where id (moved_directive to)) directives) (suc steps) id ≡ Some id → ⊥
+    no_round steps h = go to.anchor refl (ap (option_and_then (followed (map (changed_where id (moved_directive to)) directives) steps)) (sym (own_lead found here)) ∙ h)
       where
-        go : (anchor : Option Anchor) → to.anchor ≡ anchor → option_and_then (followed (map (changed_where id (moved to)) directives) steps) (option_map (λ anchor. anchor.to) anchor) ≡ Some id → ⊥
+        go : (anchor : Option Anchor) → to.anchor ≡ anchor → option_and_then (followed (map (changed_where id (moved_directive to)) directives) steps) (option_map (λ anchor. anchor.to) anchor) ≡ Some id → ⊥
         go None is k = none-some id k
         go (Some anchor) is k = no_return anchor is steps k
 
-    pub acyclic_moved : IsAcyclic (map (changed_where id (moved to)) directives)
+    pub acyclic_moved : IsAcyclic (map (changed_where id (moved_directive to)) directives)
     acyclic_moved from steps h = go (walked (suc steps) from from h)
       where
         split : (some steps : ℕ) → some < suc steps → suc steps ≡ some + suc (steps - some)
@@ -156,17 +155,17 @@ module _ (directives : List Directive) (id : ℕ) (to : When) where
         whole some steps less = omega (arith, less)
 
         -- once round, from the moved one
-        turned : (some : ℕ) → some < suc steps → followed (map (changed_where id (moved to)) directives) some from ≡ Some id → followed (map (changed_where id (moved to)) directives) (suc steps) id ≡ Some id
+        turned : (some : ℕ) → some < suc steps → followed (map (changed_where id (moved_directive to)) directives) some from ≡ Some id → followed (map (changed_where id (moved_directive to)) directives) (suc steps) id ≡ Some id
         turned some less there =
-            let behind : followed (map (changed_where id (moved to)) directives) (suc (steps - some)) id ≡ Some from =
-            sym (ap (option_and_then (followed (map (changed_where id (moved to)) directives) (suc (steps - some)))) there)
-            ∙ sym (followed_on (map (changed_where id (moved to)) directives) some (suc (steps - some)) from)
-            ∙ sym (ap (λ (n : ℕ). followed (map (changed_where id (moved to)) directives) n from) (split some steps less)) ∙ h in
-            sym (ap (λ (n : ℕ). followed (map (changed_where id (moved to)) directives) n id) (whole some steps less))
-            ∙ followed_on (map (changed_where id (moved to)) directives) (suc (steps - some)) some id
-            ∙ ap (option_and_then (followed (map (changed_where id (moved to)) directives) some)) behind ∙ there
+            let behind : followed (map (changed_where id (moved_directive to)) directives) (suc (steps - some)) id ≡ Some from =
+            sym (ap (option_and_then (followed (map (changed_where id (moved_directive to)) directives) (suc (steps - some)))) there)
+            ∙ sym (followed_on (map (changed_where id (moved_directive to)) directives) some (suc (steps - some)) from)
+            ∙ sym (ap (λ (n : ℕ). followed (map (changed_where id (moved_directive to)) directives) n from) (split some steps less)) ∙ h in
+            sym (ap (λ (n : ℕ). followed (map (changed_where id (moved_directive to)) directives) n id) (whole some steps less))
+            ∙ followed_on (map (changed_where id (moved_directive to)) directives) (suc (steps - some)) some id
+            ∙ ap (option_and_then (followed (map (changed_where id (moved_directive to)) directives) some)) behind ∙ there
 
-        go : ((some : ℕ) × ((some < suc steps) × ((followed (map (changed_where id (moved to)) directives) some from ≡ Some id) × (followed directives some from ≡ Some id)))) ⊎ (followed directives (suc steps) from ≡ Some from) → ⊥
+        go : ((some : ℕ) × ((some < suc steps) × ((followed (map (changed_where id (moved_directive to)) directives) some from ≡ Some id) × (followed directives some from ≡ Some id)))) ⊎ (followed directives (suc steps) from ≡ Some from) → ⊥
         go (inl passed) = no_round steps (turned passed.0 passed.1.0 passed.1.1.0)
         go (inr same) = acyclic from steps same
 
@@ -178,11 +177,11 @@ apart_of plan id (Some own) h anchor is = subst (λ (a : Anchor). reaches_within
 
 module _ (plan : Plan) (at id : ℕ) (to : When) (rise : Rise plan.directives) (within : at < length plan.directives) (same : slice_get plan.directives at ≡ with_id plan.directives id)
     (inside : is_outside plan to.start ≡ false) (tied : is_loose plan to.anchor ≡ false) (open_ : leads_to plan id to.anchor ≡ false) (made : List Directive)
-    (is : (one : Directive) → slice_get plan.directives at ≡ Some one → made ≡ slice_set plan.directives at (moved to one)) where
-  changed_is : made ≡ map (changed_where id (moved to)) plan.directives
+    (is : (one : Directive) → slice_get plan.directives at ≡ Some one → made ≡ slice_set plan.directives at (moved_directive to one)) where
+  changed_is : made ≡ map (changed_where id (moved_directive to)) plan.directives
   changed_is =
       let one = found_there plan.directives at id within same in
-      changed_so (moved to) plan.directives at id one.0 made rise one.1.0 one.1.1 is
+      changed_so (moved_directive to) plan.directives at id one.0 made rise one.1.0 one.1.1 is
 
   none_applies : (a b c : Bool) (result : Result Plan EditError) → a ≡ false → b ≡ false → c ≡ false → unless_refused ((a, OutsidePlan) ∷ (b, NoAnchor) ∷ (c, Cycle) ∷ []) result ≡ result
   none_applies a b c result e f g =
@@ -194,8 +193,8 @@ module _ (plan : Plan) (at id : ℕ) (to : When) (rise : Rise plan.directives) (
   moved_so =
       let one = found_there plan.directives at id within same in
       ap (of_directive (λ directive. unless_refused ((is_outside plan to.start, OutsidePlan) ∷ (is_loose plan to.anchor, NoAnchor) ∷ (leads_to plan id to.anchor, Cycle) ∷ [])
-      (Ok (with_changed plan id (moved to))))) one.1.1
-      ∙ none_applies (is_outside plan to.start) (is_loose plan to.anchor) (leads_to plan id to.anchor) (Ok (with_changed plan id (moved to))) inside tied open_
+      (Ok (with_changed plan id (moved_directive to))))) one.1.1
+      ∙ none_applies (is_outside plan to.start) (is_loose plan to.anchor) (leads_to plan id to.anchor) (Ok (with_changed plan id (moved_directive to))) inside tied open_
       ∙ ap (λ (ds : List Directive). Ok (record plan { directives = ds })) (sym changed_is)
 
   pub moved_plan : (model : Parts) → IsPlanOf model plan → IsPlanOf model (record plan { directives = made })
@@ -205,7 +204,7 @@ module _ (plan : Plan) (at id : ℕ) (to : When) (rise : Rise plan.directives) (
       let parts = both (takes model.enums (slice_get model.activities one.0.kind) one.0.arguments && nat_lt one.0.start plan.duration) (is_there plan.directives (anchored_to one.0)) good in
       let given = both (takes model.enums (slice_get model.activities one.0.kind) one.0.arguments) (nat_lt one.0.start plan.duration) parts.0 in
       subst (λ (ds : List Directive). IsPlanOf model (record plan { directives = ds })) (sym changed_is)
-      (one_changed model plan of id one.0 one.1.1 (moved to) (λ d. refl)
+      (one_changed model plan of id one.0 one.1.1 (moved_directive to) (λ d. refl)
       (and_too (takes model.enums (slice_get model.activities one.0.kind) one.0.arguments && nat_lt to.start plan.duration) (is_there plan.directives (option_map (λ anchor. anchor.to) to.anchor))
       (and_too (takes model.enums (slice_get model.activities one.0.kind) one.0.arguments) (nat_lt to.start plan.duration) given.0 (denied (nat_lt to.start plan.duration) inside))
       (denied (is_there plan.directives (option_map (λ anchor. anchor.to) to.anchor)) tied))

@@ -1,16 +1,15 @@
 -- What is left of a plan without a directive.
-use Rattle.std.proofs.Common.{◌≡◌, ℕ, zero, suc, ◌+◌, ◌<◌, ◌≤◌, ◌&&◌, ◌||◌, not, cond, Bool, true, false, IsTrue, List, [], ◌∷◌, Option, Some, None, option_and_then, option_map, Ok, nat_eq, nat_lt, filter, find, remove, slice_get, length, refl, sym, ap, subst, ◌∙◌, if◌then◌else◌, eq-eqb, eqb-true, ne_eqb, ltb-true, lt-ltb, lt_trans, ne_of_lt, true≢false, arith}
+use Rattle.std.proofs.Common.{◌≡◌, ℕ, zero, suc, ◌<◌, ◌≤◌, ◌&&◌, ◌||◌, not, cond, Bool, true, false, IsTrue, List, [], ◌∷◌, Option, Some, None, option_and_then, option_map, Ok, nat_eq, nat_lt, filter, find, remove, slice_get, length, refl, sym, ap, subst, ◌∙◌, if◌then◌else◌, eq-eqb, eqb-true, ne_eqb, ltb-true, lt-ltb, lt_trans, ne_of_lt, true≢false, arith}
 use Rattle.std.proofs.lemmas.Option.{none-some, same_Some}
 use Rattle.std.specs.List.{list_any, list_all}
 use Rattle.aerie_base.specs.declared.models.model.Parts.{Parts}
 use Rattle.aerie_base.specs.declared.plans.Directive.{Directive}
 use Rattle.aerie_base.specs.declared.plans.Plan.{Plan}
-use Rattle.aerie_base.specs.plans.OfModel.{followed, with_id, anchor_of, anchored_to, ids_of, rise_to, is_there, takes, is_directive_of, directive_limit, IsPlanOf}
-use Rattle.aerie_base.specs.plans.RisingIds.{Rise, above}
+use Rattle.aerie_base.specs.plans.OfModel.{with_id, anchor_of, anchored_to, ids_of, rise_to, is_there, takes, is_directive_of, IsPlanOf, Rise}
+use Rattle.aerie_base.specs.plans.RisingIds.{above}
 use Rattle.plan_merge.specs.Merging.{is_at}
 use Rattle.plan_merge.proofs.Finds.{eq_back, at_place}
 use Rattle.plan_merge.proofs.Renames.{both}
-use Rattle.plan_edit.specs.declared.errors.EditError.{EditError}
 use Rattle.plan_edit.specs.Editing.{is_another, is_anchored_to, without, remove_of, of_directive, unless_anchored}
 use Rattle.plan_edit.proofs.Trails.{LeadNoFurther, acyclic_still}
 

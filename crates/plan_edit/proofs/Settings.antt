@@ -1,7 +1,6 @@
 -- A directive with another value of one argument is of the model again.
-use Rattle.std.proofs.Common.{◌≡◌, ℕ, zero, suc, ◌<◌, ◌≤◌, ◌&&◌, Bool, true, false, IsTrue, List, [], ◌∷◌, Option, Some, None, option_map, option_and_then, if◌then◌else◌, nat_eq, Result, Ok, Err, length, map, slice_get, slice_set, nat_lt, refl, sym, ap, subst, ◌∙◌, true≢false, arith}
+use Rattle.std.proofs.Common.{◌≡◌, ℕ, zero, suc, ◌<◌, ◌&&◌, Bool, true, false, IsTrue, List, [], ◌∷◌, Option, Some, None, option_map, option_and_then, if◌then◌else◌, nat_eq, Ok, length, map, slice_get, slice_set, nat_lt, refl, sym, ap, subst, ◌∙◌, true≢false}
 use Rattle.std.proofs.lemmas.Option.{none-some, same_Some, slice_get-map}
-use Rattle.std.specs.List.{list_all}
 use Rattle.aerie_base.specs.declared.values.Kind.{Kind}
 use Rattle.aerie_base.specs.declared.values.Value.{Value}
 use Rattle.aerie_base.specs.declared.arguments.RawValue.{RawValue}
@@ -13,16 +12,14 @@ use Rattle.aerie_base.specs.declared.plans.Directive.{Directive}
 use Rattle.aerie_base.specs.declared.plans.Plan.{Plan}
 use Rattle.aerie_base.specs.models.Signatures.{parameter_kinds}
 use Rattle.aerie_base.specs.models.Values.{is_value_of}
-use Rattle.aerie_base.specs.models.ValidModel.{valid_model}
 use Rattle.aerie_base.specs.plans.OfModel.{are_values_of, takes, with_id, anchored_to, is_there, is_directive_of, IsPlanOf}
 use Rattle.plan_merge.proofs.Renames.{both}
-use Rattle.plan_edit.specs.declared.errors.EditError.{EditError}
 use Rattle.plan_edit.specs.Answers.{then_made_of}
-use Rattle.plan_edit.specs.Arguments.{value_given, value_for_parameter, value_for, parameter_place}
-use Rattle.plan_edit.specs.Editing.{if_met, argument_set, arguments_set, with_arguments, changed_where, with_changed, of_directive, set_of}
+use Rattle.plan_edit.specs.Arguments.{value_for_parameter, value_for, parameter_place}
+use Rattle.plan_edit.specs.Editing.{argument_set, arguments_set, with_arguments, changed_where, with_changed, of_directive, set_of}
 use Rattle.plan_edit.proofs.Given.{value_good}
 use Rattle.plan_edit.proofs.Additions.{met_is, found_good}
-use Rattle.plan_edit.proofs.Changes.{and_too, leads_same, changed_so, found_there, one_changed}
+use Rattle.plan_edit.proofs.Changes.{and_too, leads_same, changed_so, one_changed}
 use Rattle.plan_edit.proofs.Trails.{acyclic_still}
 
 module _ (enums : List EnumType) where
@@ -52,9 +49,13 @@ module _ (enums : List EnumType) where
       go : (parameter : Option Parameter) → slice_get parameters place ≡ parameter → value_for_parameter enums parameter given ≡ Some value →
           (kind : Kind) × ((slice_get (map (λ (parameter : Parameter). parameter.kind) parameters) place ≡ Some kind) × IsTrue (is_value_of enums kind value))
       go None is k = absurd (none-some value k)
-      go (Some parameter) is k =
-          (parameter.kind, (slice_get-map (λ (parameter : Parameter). parameter.kind) parameters place ∙ ap (option_map (λ (parameter : Parameter). parameter.kind)) is,
-          value_good enums parameter.kind given value k))
+      go (Some parameter) is k = (
+        parameter.kind,
+        (
+          slice_get-map (λ (parameter : Parameter). parameter.kind) parameters place ∙ ap (option_map (λ (parameter : Parameter). parameter.kind)) is,
+          value_good enums parameter.kind given value k,
+        ),
+      )
 
   -- with it, the values are still values of the parameters
   pub values_set : (activity : Activity) (arguments : List Value) (name : List ℕ) (given : RawValue) (place : ℕ) (value : Value) → IsTrue (are_values_of enums (parameter_kinds activity) arguments) →
@@ -62,7 +63,7 @@ module _ (enums : List EnumType) where
       IsTrue (are_values_of enums (parameter_kinds activity) (slice_set arguments place value))
   values_set activity arguments name given place value good is found =
       let one = given_there activity.parameters place given value
-              (sym (ap (λ (o : Option ℕ). value_for_parameter enums (option_and_then (slice_get activity.parameters) o) given) is) ∙ found) in
+      (sym (ap (λ (o : Option ℕ). value_for_parameter enums (option_and_then (slice_get activity.parameters) o) given) is) ∙ found) in
       set_good (parameter_kinds activity) arguments place one.0 value good one.1.0 one.1.1
 
 module _ (model : Parts) where

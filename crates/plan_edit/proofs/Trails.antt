@@ -1,9 +1,8 @@
 -- Where anchors lead in a plan and in what is made of it.
-use Rattle.std.proofs.Common.{◌≡◌, ℕ, zero, suc, ◌+◌, ◌<◌, ◌≤◌, ◌||◌, not, Bool, true, false, IsTrue, List, [], ◌∷◌, Option, Some, None, option_and_then, nat_eq, refl, sym, ap, ◌∙◌, if◌then◌else◌, eq-eqb, true≢false, arith}
-use Rattle.std.proofs.lemmas.Option.{none-some, same_Some}
-use Rattle.std.specs.List.{list_any}
+use Rattle.std.proofs.Common.{◌≡◌, ℕ, zero, suc, List, Option, Some, None, option_and_then, refl, ap, ◌∙◌}
+use Rattle.std.proofs.lemmas.Option.{none-some}
 use Rattle.aerie_base.specs.declared.plans.Directive.{Directive}
-use Rattle.aerie_base.specs.plans.OfModel.{followed, with_id, anchor_of, anchored_to, ids_of}
+use Rattle.aerie_base.specs.plans.OfModel.{followed, anchor_of}
 
 -- no anchor leads elsewhere than among other directives
 abbrev pub LeadNoFurther : List Directive → List Directive → Type 0

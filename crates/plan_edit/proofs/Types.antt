@@ -1,5 +1,5 @@
 -- What is known of the activity types of a valid model, and of values of their parameters.
-use Rattle.std.proofs.Common.{◌≡◌, ℕ, zero, suc, ◌+◌, ◌<◌, ◌≤◌, ◌&&◌, ◌++◌, Bool, true, false, IsTrue, List, [], ◌∷◌, Option, Some, None, is_some, Ok, Err, length, map, slice_get, nat_le, not, refl, sym, ap, subst, ◌∙◌, leb-true, eqb-true, true≢false, if◌then◌else◌}
+use Rattle.std.proofs.Common.{◌≡◌, ℕ, zero, suc, ◌≤◌, ◌&&◌, ◌++◌, Bool, true, false, IsTrue, List, [], ◌∷◌, Option, Some, None, is_some, length, slice_get, nat_le, not, refl, sym, ap, subst, ◌∙◌, leb-true, eqb-true, true≢false, if◌then◌else◌}
 use Rattle.std.specs.List.{list_all}
 use Rattle.std.proofs.lemmas.Option.{none-some, same_Some}
 use Rattle.aerie_base.specs.declared.values.Kind.{Kind}
@@ -16,7 +16,7 @@ use Rattle.aerie_base.specs.models.Activities.{is_parameter, are_parameters, par
 use Rattle.aerie_base.specs.models.Bodies.{is_body}
 use Rattle.aerie_base.specs.models.Expressions.{typed, has_literals, expr_depth, is_kind_of}
 use Rattle.aerie_base.specs.models.Limits.{parameter_limit, require_limit, type_limit, depth_limit}
-use Rattle.aerie_base.specs.models.Names.{are_distinct, is_among}
+use Rattle.aerie_base.specs.models.Names.{are_distinct, is_name_among}
 use Rattle.aerie_base.specs.models.Signatures.{parameter_kinds, signatures_of}
 use Rattle.aerie_base.specs.models.Values.{is_value_of, is_value}
 use Rattle.aerie_base.specs.models.ValidModel.{valid_model, has_good_activities, enum_names, cell_names}
@@ -56,10 +56,10 @@ type_good model valid kind activity here =
     let all = both (nat_le (length model.activities) type_limit) (list_all (is_activity model.enums model.cells (signatures_of model.activities) taken) model.activities) (are_good model valid).activities in
     let is = each (is_activity model.enums model.cells (signatures_of model.activities) taken) model.activities kind activity all.1 here in
     let parts = front (are_parameters model.enums taken activity) (are_requires model.enums activity) (is_result model.enums activity.result activity.body)
-            (is_body (activity_setting model.enums model.cells (signatures_of model.activities) activity) (parameter_kinds activity) activity.slots activity.body) is in
+    (is_body (activity_setting model.enums model.cells (signatures_of model.activities) activity) (parameter_kinds activity) activity.slots activity.body) is in
     let needs = both (nat_le (length activity.requires_) require_limit) (list_all (is_require model.enums activity) activity.requires_) parts.1 in
     let given = front (nat_le (length activity.parameters) parameter_limit) (list_all (is_parameter model.enums) activity.parameters)
-            (are_distinct (parameter_names activity)) (list_all (λ name. not (is_among name taken)) (parameter_names activity)) parts.0 in
+    (are_distinct (parameter_names activity)) (list_all (λ name. not (is_name_among name taken)) (parameter_names activity)) parts.0 in
     record { parameters = given.1; few = leb-true (length activity.requires_) require_limit needs.0; requires_ = needs.1 }
 
 -- ---- types of values

@@ -4,11 +4,11 @@ use Rattle.plan_edit.specs.declared.errors.EditError.{EditError}
 use Rattle.plan_edit.specs.declared.errors.EditError.TheVariants.{OutOfMemory}
 
 -- whether a refusal applies, and which it is
-abbrev pub Refusal : Type 0
-Refusal = Bool × EditError
+abbrev pub PossibleRefusal : Type 0
+PossibleRefusal = Bool × EditError
 
 -- the first of some refusals that applies, in the order of their numbers, or else what is made
-abbrev pub unless_refused : {A : Type 0} → List Refusal → Result A EditError → Result A EditError
+abbrev pub unless_refused : {A : Type 0} → List PossibleRefusal → Result A EditError → Result A EditError
 unless_refused [] made = made
 unless_refused ((applies, refusal) ∷ rest) made = if applies then Err refusal else unless_refused rest made
 

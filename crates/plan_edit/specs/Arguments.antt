@@ -1,7 +1,7 @@
 -- The values of a directive's arguments, of those that are given.
-use Rattle.std.specs.Prelude.{◌≡◌, ℕ, ℤ, Bool, true, false, ◌||◌, not, List, [], ◌∷◌, ◌++◌, codes, map, position, find, Option, Some, None, option_map, option_and_then, is_some, slice_get, Result, Ok, Err, if◌then◌else◌}
+use Rattle.std.specs.Prelude.{ℕ, Bool, ◌||◌, not, List, [], ◌∷◌, ◌++◌, position, find, Option, Some, None, option_map, option_and_then, is_some, slice_get, Result, Ok, Err, if◌then◌else◌}
 use Rattle.std.specs.List.{list_any}
-use Rattle.aerie_base.specs.Ranges.{number_of}
+use Rattle.aerie_base.specs.Ranges.{checked_number}
 use Rattle.aerie_base.specs.declared.values.Kind.{Kind}
 use Rattle.aerie_base.specs.declared.values.Kind.TheVariants.{Int, Truth, Enum}
 use Rattle.aerie_base.specs.declared.values.Value.{Value}
@@ -14,22 +14,21 @@ use Rattle.aerie_base.specs.declared.models.Parameter.{Parameter}
 use Rattle.aerie_base.specs.models.Names.{same_name}
 use Rattle.plan_edit.specs.declared.errors.EditError.{EditError}
 use Rattle.plan_edit.specs.declared.errors.EditError.TheVariants.{BadArgument}
-use Rattle.plan_edit.specs.Answers.{then_made_of}
 
 -- ---- one value
 
 -- a variant as it is written: the enumeration's name, a dot and the variant's name
-abbrev pub variant_word : EnumType → List ℕ → List ℕ
-variant_word enum variant = enum.name ++ 46 ∷ variant
+abbrev pub written_variant : EnumType → List ℕ → List ℕ
+written_variant enum variant = enum.name ++ 46 ∷ variant
 
 -- the number of the variant that a word writes
 abbrev pub variant_written : Option EnumType → List ℕ → Option ℕ
 variant_written None word = None
-variant_written (Some enum) word = position (λ variant. same_name (variant_word enum variant) word) enum.variants
+variant_written (Some enum) word = position (λ variant. same_name (written_variant enum variant) word) enum.variants
 
 -- the value of a type that is given so, where it is of that type
 abbrev pub value_given : List EnumType → Kind → RawValue → Option Value
-value_given enums Int (raw.Int number) = option_map value.Int (number_of number)
+value_given enums Int (raw.Int number) = option_map value.Int (checked_number number)
 value_given enums Int (raw.Truth truth) = None
 value_given enums Int (raw.Word word) = None
 value_given enums Truth (raw.Int number) = None
@@ -86,16 +85,16 @@ parameter_value enums arguments parameter =
     value_or_default enums parameter (find (λ argument. same_name argument.name parameter.name) arguments)
 
 -- a value in front, or that it is missing
-abbrev pub in_front : List ℕ → Result (List Value) EditError → Option Value → Result (List Value) EditError
-in_front name rest None = Err (BadArgument name)
-in_front name (Ok values) (Some value) = Ok (value ∷ values)
-in_front name (Err refusal) (Some value) = Err refusal
+abbrev pub value_in_front : List ℕ → Result (List Value) EditError → Option Value → Result (List Value) EditError
+value_in_front name rest None = Err (BadArgument name)
+value_in_front name (Ok values) (Some value) = Ok (value ∷ values)
+value_in_front name (Err refusal) (Some value) = Err refusal
 
 -- a value for each parameter, or the first that has none
-abbrev pub filled : List EnumType → List RawArgument → List Parameter → Result (List Value) EditError
-filled enums arguments [] = Ok []
-filled enums arguments (parameter ∷ rest) =
-    in_front parameter.name (filled enums arguments rest) (parameter_value enums arguments parameter)
+abbrev pub values_filled : List EnumType → List RawArgument → List Parameter → Result (List Value) EditError
+values_filled enums arguments [] = Ok []
+values_filled enums arguments (parameter ∷ rest) =
+    value_in_front parameter.name (values_filled enums arguments rest) (parameter_value enums arguments parameter)
 
 abbrev pub unless_bad : {A : Type 0} → Option (List ℕ) → Result A EditError → Result A EditError
 unless_bad None made = made
@@ -105,4 +104,4 @@ unless_bad (Some name) made = Err (BadArgument name)
 -- parameter without a default that is not given
 abbrev pub arguments_of : List EnumType → List Parameter → List RawArgument → Result (List Value) EditError
 arguments_of enums parameters arguments =
-    unless_bad (first_bad enums parameters [] arguments) (filled enums arguments parameters)
+    unless_bad (first_bad enums parameters [] arguments) (values_filled enums arguments parameters)

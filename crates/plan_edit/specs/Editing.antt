@@ -1,5 +1,5 @@
 -- The edits of a plan: each gives the edited plan, or the refusal with the smallest number of those that apply.
-use Rattle.std.specs.Prelude.{◌≡◌, ℕ, suc, zero, ◌+◌, ◌||◌, not, Bool, true, false, List, [], ◌∷◌, ◌++◌, map, filter, find, length, nat_eq, nat_lt, position, slice_get, slice_set, Option, Some, None, is_some, option_map, option_and_then, Result, Ok, Err, if◌then◌else◌}
+use Rattle.std.specs.Prelude.{ℕ, suc, zero, ◌+◌, ◌||◌, not, Bool, false, List, [], ◌∷◌, ◌++◌, map, filter, find, length, nat_eq, nat_lt, position, slice_get, slice_set, Option, Some, None, option_map, Result, Ok, Err, if◌then◌else◌}
 use Rattle.aerie_base.specs.declared.values.Value.{Value}
 use Rattle.aerie_base.specs.declared.arguments.RawValue.{RawValue}
 use Rattle.aerie_base.specs.declared.arguments.RawArgument.{RawArgument}
@@ -15,7 +15,7 @@ use Rattle.plan_merge.specs.Merging.{is_at}
 use Rattle.plan_edit.specs.declared.errors.EditError.{EditError}
 use Rattle.plan_edit.specs.declared.errors.EditError.TheVariants.{NoDirective, UnknownType, BadArgument, Invalid, OutsidePlan, TooMany, NoAnchor, Cycle, Anchored}
 use Rattle.plan_edit.specs.declared.arguments.Given.{Given}
-use Rattle.plan_edit.specs.Answers.{Refusal, unless_refused, then_made_of}
+use Rattle.plan_edit.specs.Answers.{unless_refused, then_made_of}
 use Rattle.plan_edit.specs.Arguments.{arguments_of, parameter_place, value_for}
 use Rattle.plan_edit.specs.Requires.{first_unmet}
 
@@ -41,13 +41,13 @@ given_to model kind arguments (Some activity) =
     then_made_of (λ values. Ok (record { kind = kind; arguments = values }))
     (then_made_of (if_met activity) (arguments_of model.enums activity.parameters arguments))
 
-abbrev pub given_at : Parts → List RawArgument → Option ℕ → Result Given EditError
-given_at model arguments None = Err UnknownType
-given_at model arguments (Some kind) = given_to model kind arguments (slice_get model.activities kind)
+abbrev pub given_at_place : Parts → List RawArgument → Option ℕ → Result Given EditError
+given_at_place model arguments None = Err UnknownType
+given_at_place model arguments (Some kind) = given_to model kind arguments (slice_get model.activities kind)
 
 -- the type with a name and the values of its arguments, or UnknownType, BadArgument or Invalid
 abbrev pub given_of : Parts → List ℕ → List RawArgument → Result Given EditError
-given_of model name arguments = given_at model arguments (type_place model name)
+given_of model name arguments = given_at_place model arguments (type_place model name)
 
 -- ---- where a directive may stand
 
@@ -73,15 +73,15 @@ new_directive plan at given =
 abbrev pub with_added : Plan → Directive → Plan
 with_added plan directive = record plan { next_id = plan.next_id + 1; directives = plan.directives ++ directive ∷ [] }
 
-abbrev pub placed : Plan → When → Given → Result Directive EditError
-placed plan at given =
+abbrev pub directive_placed : Plan → When → Given → Result Directive EditError
+directive_placed plan at given =
     unless_refused
     ((is_outside plan at.start, OutsidePlan) ∷ (is_full plan, TooMany) ∷ (is_loose plan at.anchor, NoAnchor) ∷ [])
     (Ok (new_directive plan at given))
 
 -- the directive that an `add` adds
 abbrev pub directive_added : Parts → Plan → When → List ℕ → List RawArgument → Result Directive EditError
-directive_added model plan at name arguments = then_made_of (placed plan at) (given_of model name arguments)
+directive_added model plan at name arguments = then_made_of (directive_placed plan at) (given_of model name arguments)
 
 -- the plan after an `add`
 abbrev pub add_of : Parts → Plan → When → List ℕ → List RawArgument → Result Plan EditError
@@ -145,8 +145,8 @@ abbrev pub leads_to : Plan → ℕ → Option Anchor → Bool
 leads_to plan id None = false
 leads_to plan id (Some anchor) = reaches_within plan.directives id (length plan.directives) anchor.to
 
-abbrev pub moved : When → Directive → Directive
-moved to directive = record directive { start = to.start; anchor = to.anchor }
+abbrev pub moved_directive : When → Directive → Directive
+moved_directive to directive = record directive { start = to.start; anchor = to.anchor }
 
 -- the plan after a `move` of a directive
 abbrev pub move_of : Plan → ℕ → When → Result Plan EditError
@@ -154,7 +154,7 @@ move_of plan id to =
     of_directive
     (λ directive. unless_refused
     ((is_outside plan to.start, OutsidePlan) ∷ (is_loose plan to.anchor, NoAnchor) ∷ (leads_to plan id to.anchor, Cycle) ∷ [])
-    (Ok (with_changed plan id (moved to))))
+    (Ok (with_changed plan id (moved_directive to))))
     (with_id plan.directives id)
 
 -- ---- set

@@ -1,5 +1,5 @@
 -- The mappings from one model to another that may be used: those that fit both models.
-use Rattle.std.specs.Prelude.{◌≡◌, ℕ, Bool, true, false, ◌&&◌, IsTrue, List, [], ◌∷◌, map, Option, Some, None, slice_get}
+use Rattle.std.specs.Prelude.{Bool, true, false, ◌&&◌, IsTrue, List, [], ◌∷◌, Option, Some, None, slice_get}
 use Rattle.std.specs.List.{list_all}
 use Rattle.std.specs.Cmp.Lexicographic.{pointwise}
 use Rattle.aerie_base.specs.declared.values.Kind.{Kind}
@@ -55,9 +55,9 @@ is_rule_for old new feeds (Some from) None = false
 is_rule_for old new feeds (Some from) (Some to) = are_feeds old.enums new.enums (parameter_kinds from) (parameter_kinds to) feeds
 
 -- whether a rule is from a type of the old model to one of the new
-abbrev pub is_rule : Parts → Parts → TypeRule → Bool
-is_rule old new rule = is_rule_for old new rule.feeds (slice_get old.activities rule.old) (slice_get new.activities rule.new)
+abbrev pub is_type_rule : Parts → Parts → TypeRule → Bool
+is_type_rule old new rule = is_rule_for old new rule.feeds (slice_get old.activities rule.old) (slice_get new.activities rule.new)
 
 -- the condition on a mapping. That no type has two rules is not asked: the first rule counts.
 abbrev pub IsMappingOf : Parts → Parts → Mapping → Type 0
-IsMappingOf old new mapping = IsTrue (list_all (is_rule old new) mapping.rules)
+IsMappingOf old new mapping = IsTrue (list_all (is_type_rule old new) mapping.rules)

@@ -1,5 +1,5 @@
 -- What a plan becomes in another model.
-use Rattle.std.specs.Prelude.{◌≡◌, ℕ, pos, Bool, List, [], ◌∷◌, find, nat_eq, slice_get, slice_index_or, Option, Some, None, Result, Ok, Err}
+use Rattle.std.specs.Prelude.{◌≡◌, ℕ, pos, List, [], ◌∷◌, find, nat_eq, slice_get, slice_index_or, Option, Some, None, Result, Ok, Err}
 use Rattle.aerie_base.specs.declared.values.Kind.{Kind}
 use Rattle.aerie_base.specs.declared.values.Kind.TheVariants as kind
 use Rattle.aerie_base.specs.declared.values.Value.{Value}
@@ -56,9 +56,9 @@ abbrev pub requires_of : Option Activity → List Value → Option ℕ
 requires_of None values = None
 requires_of (Some activity) values = first_unmet 0 values activity.requires_
 
-abbrev pub kinds_of : Option Activity → List Kind
-kinds_of None = []
-kinds_of (Some activity) = parameter_kinds activity
+abbrev pub parameter_kinds_of : Option Activity → List Kind
+parameter_kinds_of None = []
+parameter_kinds_of (Some activity) = parameter_kinds activity
 
 -- what a rule makes of a directive, where the `require`s of the new type are met
 abbrev pub ruled : Directive → ℕ → Option Activity → List Value → Result Directive MigrateError
@@ -68,7 +68,7 @@ abbrev pub by_rule : Parts → Directive → Option TypeRule → Result Directiv
 by_rule new directive None = Err (Unmapped directive.id)
 by_rule new directive (Some rule) =
     ruled directive rule.new (slice_get new.activities rule.new)
-    (all_fed directive.arguments (kinds_of (slice_get new.activities rule.new)) rule.feeds)
+    (all_fed directive.arguments (parameter_kinds_of (slice_get new.activities rule.new)) rule.feeds)
 
 -- what becomes of a directive
 abbrev pub migrated : Parts → Mapping → Directive → Result Directive MigrateError

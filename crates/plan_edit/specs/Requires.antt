@@ -1,5 +1,5 @@
 -- What the arguments of a directive must meet: the `require`s of its type.
-use Rattle.std.specs.Prelude.{ℕ, ◌+◌, pos, Bool, true, false, List, [], ◌∷◌, Option, Some, None, is_some, Ok, Err, if◌then◌else◌}
+use Rattle.std.specs.Prelude.{ℕ, ◌+◌, pos, Bool, false, List, [], ◌∷◌, Option, Some, None, is_some, Ok, Err, if◌then◌else◌}
 use Rattle.std.proofs.lemmas.Option.{none-some}
 use Rattle.aerie_base.specs.declared.values.Kind.{Kind}
 use Rattle.aerie_base.specs.expressions.Readings.{AreReadings}
@@ -8,7 +8,7 @@ use Rattle.aerie_base.specs.declared.values.Value.{Value}
 use Rattle.aerie_base.specs.declared.values.Value.TheVariants.{Int, Truth, Variant}
 use Rattle.aerie_base.specs.declared.operands.CellRead.{CellRead}
 use Rattle.aerie_base.specs.declared.expressions.Expr.{Expr}
-use Rattle.aerie_base.specs.expressions.Arithmetic.{Outcome}
+use Rattle.aerie_base.specs.expressions.Arithmetic.{ValueOrFault}
 use Rattle.aerie_base.specs.expressions.Evaluation.{evaluated}
 
 -- a `require` reads parameters alone, so it does not matter what a cell would read
@@ -26,7 +26,7 @@ no_readings = record {
 }
 
 -- a fault is not true
-abbrev pub is_true : Outcome → Bool
+abbrev pub is_true : ValueOrFault → Bool
 is_true (Ok (Truth truth)) = truth
 is_true (Ok (Int number)) = false
 is_true (Ok (Variant kind number)) = false

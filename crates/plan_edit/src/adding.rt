@@ -4,17 +4,18 @@ ghost use Rattle.std.specs.Prelude.{◌≡◌, ◌<◌, ◌≤◌, IsTrue, Ok, I
 ghost use Rattle.std.specs.List.{list_all};
 ghost use Rattle.aerie_base.specs.models.Limits.{require_limit};
 ghost use Rattle.aerie_base.specs.models.ValidModel.{valid_model};
-ghost use Rattle.aerie_base.specs.plans.OfModel.{IsPlanOf};
-ghost use Rattle.aerie_base.specs.plans.RisingIds.{Rise};
+ghost use Rattle.aerie_base.specs.plans.OfModel.{IsPlanOf, Rise};
 ghost use Rattle.plan_edit.specs.Answers.{IsMade, IsRefusal};
-ghost use Rattle.plan_edit.specs.Editing.{add_of, directive_added, given_of as given_by, given_to as given_to_by, if_met as if_met_by, placed as placed_by, type_place as type_place_by, with_added};
+ghost use Rattle.plan_edit.specs.Editing.{add_of, directive_added, given_of as given_by, given_to as given_to_by, if_met as if_met_by, directive_placed as placed_by, type_place as type_place_by, with_added};
 ghost use Rattle.plan_edit.specs.Requires.{is_typed_for};
 
 use crate::arguments::{Given, arguments_of};
 use crate::errors::EditError;
 use crate::placing::{is_full, is_loose, is_outside};
 use crate::unmet::first_unmet;
-use aerie_base::{Activity, Directive, List, Model, Name, OutOfMemory, Plan, RawArgument, Value, When};
+use aerie_base::{
+    Activity, Directive, List, Model, Name, OutOfMemory, Plan, RawArgument, Value, When,
+};
 use std::alloc::Global;
 
 /// Adds a directive of a type with arguments, and answers its id, which is the plan's next id. It refuses with
@@ -114,7 +115,10 @@ fn type_place(model: &Model, name: &Name) -> Option<usize>
     ensures within { IfSome result (λ kind. kind < length model.now.activities) }
     ensures valid { IsTrue (valid_model model.now) }
 {
-    model.activities().iter().position(|activity| activity.name == *name)
+    model
+        .activities()
+        .iter()
+        .position(|activity| activity.name == *name)
 }
 
 /// A type with the values of its arguments.

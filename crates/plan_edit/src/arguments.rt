@@ -1,16 +1,18 @@
 //! The values of a directive's arguments, of those that are given.
 
 ghost use Rattle.std.specs.Prelude.{◌≡◌, ◌≤◌, ◌<◌, ◌++◌, ◌∷◌, [], Some, IfSome, MatchOption, Decides, ◌≢◌, ℕ, List as Bytes, length, option_copied, option_map, slice_get};
-ghost use Rattle.aerie_base.specs.Ranges.{number_of};
+ghost use Rattle.aerie_base.specs.Ranges.{checked_number};
 ghost use Rattle.aerie_base.specs.declared.values.Value.TheVariants.{Int, Variant};
 ghost use Rattle.aerie_base.specs.models.Limits.{variant_limit};
 ghost use Rattle.aerie_base.specs.models.Names.{same_name};
 ghost use Rattle.plan_edit.specs.Answers.{IsMade};
-ghost use Rattle.plan_edit.specs.Arguments.{arguments_of as arguments_by, filled as filled_by, first_bad as first_bad_by, is_bad as is_bad_by, parameter_place as place_by, parameter_value as parameter_value_by, value_for as value_for_by, value_given as value_by, is_given as is_given_by, variant_written};
+ghost use Rattle.plan_edit.specs.Arguments.{arguments_of as arguments_by, values_filled as filled_by, first_bad as first_bad_by, is_bad as is_bad_by, parameter_place as place_by, parameter_value as parameter_value_by, value_for as value_for_by, value_given as value_by, is_given as is_given_by, variant_written};
 
 use crate::errors::EditError;
 use crate::items::item_at;
-use aerie_base::{EnumType, Kind, List, Model, Name, Number, Parameter, RawArgument, RawValue, Value};
+use aerie_base::{
+    EnumType, Kind, List, Model, Name, Number, Parameter, RawArgument, RawValue, Value,
+};
 use std::alloc::Global;
 
 /// A type with a value for each of its parameters.
@@ -63,7 +65,7 @@ fn value_given(model: &Model, kind: Kind, given: &RawValue) -> Option<Value>
 
 /// The value that a number is.
 fn number_given(number: Number) -> Option<Value>
-    ensures { result ≡ option_map Int (number_of number) }
+    ensures { result ≡ option_map Int (checked_number number) }
 {
     match Number::new(number.get()) {
         Some(number) => Some(Value::Int(number)),
@@ -112,7 +114,9 @@ pub fn parameter_place(parameters: &[Parameter], name: &Name) -> Option<usize>
     ensures place { result ≡ place_by parameters.now name.now }
     ensures within { IfSome result (λ place. place < length parameters.now) }
 {
-    parameters.iter().position(|parameter| parameter.name == *name)
+    parameters
+        .iter()
+        .position(|parameter| parameter.name == *name)
 }
 
 /// The value that is given for the parameter with a name, where there is one and the value is of its type.
@@ -165,11 +169,7 @@ fn first_bad<'a>(
 }
 
 /// The value of a parameter, where it is given or has a default.
-fn parameter_value(
-    model: &Model,
-    arguments: &[RawArgument],
-    parameter: &Parameter,
-) -> Option<Value>
+fn parameter_value(model: &Model, arguments: &[RawArgument], parameter: &Parameter) -> Option<Value>
     ensures { result ≡ parameter_value_by model.now.enums arguments.now parameter.now }
 {
     for argument in arguments {

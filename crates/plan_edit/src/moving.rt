@@ -2,8 +2,7 @@
 
 ghost use Rattle.std.specs.Prelude.{◌≡◌, Ok, Err, IfErr, OnOk, OnErr, length};
 ghost use Rattle.aerie_base.specs.declared.models.model.Parts.{Parts};
-ghost use Rattle.aerie_base.specs.plans.OfModel.{IsPlanOf, anchor_of as anchor_by, anchored_to};
-ghost use Rattle.aerie_base.specs.plans.RisingIds.{Rise};
+ghost use Rattle.aerie_base.specs.plans.OfModel.{IsPlanOf, anchor_of as anchor_by, anchored_to, Rise};
 ghost use Rattle.plan_edit.specs.Editing.{leads_to as leads_to_by, move_of, reaches_within};
 
 use crate::changing::put_when;

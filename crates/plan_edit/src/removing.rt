@@ -3,8 +3,7 @@
 ghost use Rattle.std.specs.Prelude.{◌≡◌, Ok, Err, IfErr, OnOk, OnErr, find, option_map};
 ghost use Rattle.aerie_base.specs.declared.models.model.Parts.{Parts};
 ghost use Rattle.aerie_base.specs.declared.plans.Directive.{Directive as Shown};
-ghost use Rattle.aerie_base.specs.plans.OfModel.{IsPlanOf};
-ghost use Rattle.aerie_base.specs.plans.RisingIds.{Rise};
+ghost use Rattle.aerie_base.specs.plans.OfModel.{IsPlanOf, Rise};
 ghost use Rattle.plan_edit.specs.Editing.{is_anchored_to as is_anchored, remove_of};
 
 use crate::errors::EditError;

@@ -1,4 +1,4 @@
-use Rattle.std.proofs.Common.{sym, ◌∙◌, subst}
+use Rattle.std.proofs.Common.{sym, subst}
 use Rattle.aerie_base.specs.plans.OfModel.{IsPlanOf}
 use Rattle.plan_edit.proofs.Additions.{added_plan}
 use Rattle.plan_edit.proofs.adding.add.Goals as goal

@@ -1,6 +1,6 @@
 -- The values so far, and those of the parameters behind.
 use Rattle.std.proofs.Common.{◌≡◌, drop}
-use Rattle.plan_edit.specs.Arguments.{filled as filled_by}
+use Rattle.plan_edit.specs.Arguments.{values_filled as filled_by}
 use Rattle.plan_edit.proofs.Fillings.{behind}
 use Rattle.plan_edit.proofs.arguments.filled.Given as goal
 

@@ -1,4 +1,4 @@
-use Rattle.std.proofs.Common.{◌≡◌, List, Option, Some, None, ap, sym, ◌∙◌, option_map, slice_get}
+use Rattle.std.proofs.Common.{List, Option, ap, sym, ◌∙◌, option_map, slice_get}
 use Rattle.aerie_base.specs.declared.models.EnumType.{EnumType}
 use Rattle.aerie_base.specs.declared.values.Value.TheVariants.{Variant}
 use Rattle.plan_edit.specs.Arguments.{variant_written}

@@ -1,4 +1,4 @@
-use Rattle.std.proofs.Common.{◌≡◌, ◌<◌, List, ap, ◌∙◌, sym, subst, length, slice_get}
+use Rattle.std.proofs.Common.{◌≡◌, ◌<◌, List, ◌∙◌, sym, subst, length, slice_get}
 use Rattle.aerie_base.specs.declared.plans.Directive.{Directive}
 use Rattle.aerie_base.specs.plans.OfModel.{with_id}
 use Rattle.plan_edit.proofs.Moves.{moved_so, moved_plan}

@@ -1,4 +1,4 @@
-use Rattle.std.proofs.Common.{Bool, Option, ℕ, ◌-◌, ◌+◌, ◌||◌, ap, sym, ◌∙◌, length, ne_eqb}
+use Rattle.std.proofs.Common.{Bool, ◌-◌, ◌+◌, ◌||◌, ap, sym, ◌∙◌, length, ne_eqb}
 use Rattle.aerie_base.specs.plans.OfModel.{anchor_of}
 use Rattle.plan_edit.specs.Editing.{on_next, reaches_within}
 use Rattle.plan_edit.proofs.Moves.{one_step}

@@ -1,5 +1,4 @@
-use Rattle.std.proofs.Common.{◌≡◌, ◌<◌, List, Some, refl, ap, sym, subst, ◌∙◌, length, slice_get}
-use Rattle.std.proofs.lemmas.Option.{slice_get_read}
+use Rattle.std.proofs.Common.{◌≡◌, ◌<◌, List, subst, length, slice_get}
 use Rattle.aerie_base.specs.declared.plans.Directive.{Directive}
 use Rattle.aerie_base.specs.plans.OfModel.{with_id}
 use Rattle.plan_edit.proofs.Given.{item_read}
