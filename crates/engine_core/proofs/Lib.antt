@@ -1,4 +1,5 @@
 mod BatchFilling
+mod ChildViews
 mod ListedTimes
 mod MarkedPaths
 mod Pairs

@@ -1,4 +1,6 @@
+pub mod BatchDues
 pub mod BatchEnds
+pub mod BatchViews
 pub mod Phases
 pub mod TasksByNumber
 pub mod Times

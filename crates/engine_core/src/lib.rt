@@ -2,6 +2,7 @@
 #![tactic(auto)]
 
 mod batch_ends;
+mod batches;
 mod beginnings;
 mod indexes;
 mod phases;
