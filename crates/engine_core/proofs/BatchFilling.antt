@@ -1,5 +1,5 @@
 -- One value more behind a list that is filled up to a length.
-use Rattle.std.proofs.Common.{◌≡◌, ℕ, suc, ◌+◌, ◌-◌, ◌<◌, List, [], ◌∷◌, ◌++◌, length, replicate, append_assoc, length-append, ap, ◌∙◌, arith}
+use Rattle.std.proofs.Common.{◌≡◌, ℕ, suc, ◌-◌, ◌<◌, List, [], ◌∷◌, ◌++◌, length, replicate, append_assoc, length-append, ap, ◌∙◌, arith}
 
 pub one_filled : {A : Type 0} (items : List A) (value : A) (size : ℕ) → length items < size →
     (items ++ value ∷ []) ++ replicate (size - length (items ++ value ∷ [])) value ≡ items ++ replicate (size - length items) value

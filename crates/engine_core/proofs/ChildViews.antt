@@ -14,7 +14,7 @@ use Rattle.run_data.specs.declared.jobs.Job.{Job}
 use Rattle.run_data.specs.Frames.{child_job}
 use Rattle.run_data.specs.laws.Generations.{child_jobs, deep_frame}
 use Rattle.engine_core.specs.BatchDues.{fresh, deep_children}
-use Rattle.engine_core.specs.BatchViews.{seen_after, CanEmit, CanEmitAll}
+use Rattle.engine_core.specs.BatchViews.{seen_after, CanEmitAll}
 
 -- ---- items one after another
 

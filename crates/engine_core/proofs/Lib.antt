@@ -1,4 +1,8 @@
 mod BatchFilling
+mod BatchLoop
+mod BatchRuns
+mod BatchTurns
+mod ChildEffects
 mod ChildViews
 mod ListedTimes
 mod MarkedPaths

@@ -1,5 +1,5 @@
 -- What a child sees: the view of its maker with the effects that the maker emitted before it.
-use Rattle.std.specs.Prelude.{ℕ, ◌<◌, List, [], ◌∷◌, length, slice_get}
+use Rattle.std.specs.Prelude.{◌<◌, List, [], ◌∷◌, length, slice_get}
 use Rattle.effect_cells.specs.declared.effects.CellState.{CellState}
 use Rattle.effect_cells.specs.Cells.{emitted, IsSmallOn}
 use Rattle.run_data.specs.declared.frames.Item.{Item}

@@ -1,5 +1,6 @@
 pub mod BatchDues
 pub mod BatchEnds
+pub mod BatchGenerations
 pub mod BatchViews
 pub mod Phases
 pub mod TasksByNumber

@@ -91,7 +91,15 @@ pub(super) fn with_children(
         };
         view = seen_after(alloc, &view, &items[seen..at])?;
         seen = at;
-        let job = child(alloc, model, &job.path, next, &view, *kind, arguments.as_slice())?;
+        let job = child(
+            alloc,
+            model,
+            &job.path,
+            next,
+            &view,
+            *kind,
+            arguments.as_slice(),
+        )?;
         all = all.with(0, job)?;
         next += 1;
     }

@@ -1,0 +1,89 @@
+-- The first generation, and then at most one for each number that a path may have.
+use Rattle.std.proofs.Common.{◌≡◌, ◌+◌, ◌-◌, ◌∙◌, List, refl, ap, sym, arith, length}
+use Rattle.aerie_base.specs.Paths.{child_limit}
+use Rattle.run_data.specs.declared.frames.Frame.{Frame}
+use Rattle.run_data.specs.Records.{unmatched}
+use Rattle.engine_core.proofs.BatchLoop.{begins, can_run, stopped, turned, one_less, pays_on, looks_on, ended, out_of_turns}
+use Rattle.engine_core.proofs.BatchRuns.{ran_on}
+use Rattle.engine_core.proofs.batches.generations.all_frames.Goals as goal
+
+pub run_generation-requires-clause-jobs : goal.run_generation-requires-clause-jobs
+run_generation-requires-clause-jobs g c =
+    can_run c.args.model.now c.args.bound c.args.spent c.args.jobs.now child_limit c.new-made.result.items (c.args.bound - c.args.spent) c.args.jobs.now
+    (begins c.args.model.now c.args.bound c.args.spent c.args.jobs.now c.new-made.result.items c.new-made.ensures.items c.requires.spent c.requires.jobs)
+    c.steps_are_small.ensures.jobs c.steps_are_small.ensures.small c.budget_decides_the_end_alone.ensures.within c.cells.ensures.valid c.requires.bound (omega arith)
+
+pub returns-in_default-clause-frames : goal.returns-in_default-clause-frames
+returns-in_default-clause-frames g c =
+    stopped c.args.model.now c.args.bound c.args.spent c.args.jobs.now child_limit c.new-made.result.items (c.args.bound - c.args.spent) c.args.jobs.now
+    (begins c.args.model.now c.args.bound c.args.spent c.args.jobs.now c.new-made.result.items c.new-made.ensures.items c.requires.spent c.requires.jobs)
+    c.waves_go_by_what_is_left.ensures.limit c.requires.jobs.apart c.run_generation.new.made.items c.in_ok-first.first c.in_default.is c.in_ok-first.ensures.turn
+
+pub loop-turn-init : goal.loop-turn-init
+loop-turn-init g c =
+    let free : unmatched c.new-made.result.items (g.S.Stepper.records c.args.stepper.now) ≡ 0 = ap (λ (l : List Frame). unmatched l (g.S.Stepper.records c.args.stepper.now)) c.new-made.ensures.items in
+    let none : length c.new-made.result.items ≡ 0 = ap (λ (l : List Frame). length l) c.new-made.ensures.items in
+    record {
+      stands =
+          turned c.args.model.now c.args.bound c.args.spent c.args.jobs.now child_limit c.new-made.result.items (c.args.bound - c.args.spent) c.args.jobs.now
+          (begins c.args.model.now c.args.bound c.args.spent c.args.jobs.now c.new-made.result.items c.new-made.ensures.items c.requires.spent c.requires.jobs)
+          c.waves_go_by_what_is_left.ensures.frames c.same_by_generations.ensures.frames c.steps_are_small.ensures.generation c.cells.ensures.valid c.requires.bound (omega arith)
+          c.run_generation.new.made.items c.in_ok-first.first c.in-Some.dues c.in-Some.left c.in-Some.is c.in_ok-first.ensures.turn;
+      pays =
+          pays_on c.in_ok-first.first (c.in-Some.dues, c.in-Some.left) (g.S.Stepper.records c.args.stepper.now) (g.S.Stepper.records c.args.stepper.now) c.new-made.result.items c.run_generation.new.made.items
+          c.args.steps.now c.args.steps.now c.run_generation.new.steps c.in-Some.is refl (omega (arith, free)) c.in_ok-first.ensures.pays;
+      few_looks =
+          looks_on c.in_ok-first.first (c.in-Some.dues, c.in-Some.left) c.new-made.result.items c.run_generation.new.made.items
+          c.args.looks.now c.args.looks.now c.run_generation.new.looks c.in-Some.is (omega (arith, none)) c.in_ok-first.ensures.few_looks;
+      ran = c.run_generation.ensures.ran;
+    }
+
+pub returns-then-len-eq0-clause-frames : goal.returns-then-len-eq0-clause-frames
+returns-then-len-eq0-clause-frames g c =
+    ended c.args.model.now c.args.bound c.args.spent c.args.jobs.now (child_limit - c.loop-turn.turn) c.loop-turn.made.items c.loop-turn.left c.loop-turn.dues
+    (sym c.len.ensures ∙ c.if-len-eq0.true) c.loop-turn.invariant.stands
+
+pub run_generation-requires-in-loop-turn-clause-model : goal.run_generation-requires-in-loop-turn-clause-model
+run_generation-requires-in-loop-turn-clause-model g c = (c.loop-turn.invariant.ran.models c.args.model.now).0 c.requires.model
+
+pub run_generation-requires-in-loop-turn-clause-fuel : goal.run_generation-requires-in-loop-turn-clause-fuel
+run_generation-requires-in-loop-turn-clause-fuel g c = let paid = c.loop-turn.invariant.stands.paid in omega (arith, paid)
+
+pub run_generation-requires-in-loop-turn-clause-jobs : goal.run_generation-requires-in-loop-turn-clause-jobs
+run_generation-requires-in-loop-turn-clause-jobs g c =
+    can_run c.args.model.now c.args.bound c.args.spent c.args.jobs.now (child_limit - (c.loop-turn.turn + 1)) c.loop-turn.made.items c.loop-turn.left c.loop-turn.dues
+    (one_less c.args.model.now c.args.bound c.args.spent c.args.jobs.now c.loop-turn.turn c.loop-turn.made.items c.loop-turn.left c.loop-turn.dues c.loop-turn-test.true c.loop-turn.invariant.stands)
+    c.steps_are_small.ensures.jobs c.steps_are_small.ensures.small c.budget_decides_the_end_alone.ensures.within c.cells.ensures.valid c.requires.bound (omega arith)
+
+pub returns-in_err-next-clause-ran : goal.returns-in_err-next-clause-ran
+returns-in_err-next-clause-ran g c = ran_on c.loop-turn.invariant.ran c.run_generation-in-loop-turn.ensures.ran
+
+pub returns-in_default-next-clause-frames : goal.returns-in_default-next-clause-frames
+returns-in_default-next-clause-frames g c =
+    stopped c.args.model.now c.args.bound c.args.spent c.args.jobs.now (child_limit - (c.loop-turn.turn + 1)) c.loop-turn.made.items c.loop-turn.left c.loop-turn.dues
+    (one_less c.args.model.now c.args.bound c.args.spent c.args.jobs.now c.loop-turn.turn c.loop-turn.made.items c.loop-turn.left c.loop-turn.dues c.loop-turn-test.true c.loop-turn.invariant.stands)
+    c.waves_go_by_what_is_left.ensures.limit c.requires.jobs.apart c.run_generation-in-loop-turn.new.made.items c.in_ok-next.next c.in_default-next.is c.in_ok-next.ensures.turn
+
+pub returns-in_default-next-clause-ran : goal.returns-in_default-next-clause-ran
+returns-in_default-next-clause-ran g c = ran_on c.loop-turn.invariant.ran c.run_generation-in-loop-turn.ensures.ran
+
+pub loop-turn-preserved : goal.loop-turn-preserved
+loop-turn-preserved g c = record {
+  stands =
+      turned c.args.model.now c.args.bound c.args.spent c.args.jobs.now (child_limit - (c.loop-turn.turn + 1)) c.loop-turn.made.items c.loop-turn.left c.loop-turn.dues
+      (one_less c.args.model.now c.args.bound c.args.spent c.args.jobs.now c.loop-turn.turn c.loop-turn.made.items c.loop-turn.left c.loop-turn.dues c.loop-turn-test.true c.loop-turn.invariant.stands)
+      c.waves_go_by_what_is_left.ensures.frames c.same_by_generations.ensures.frames c.steps_are_small.ensures.generation c.cells.ensures.valid c.requires.bound (omega arith)
+      c.run_generation-in-loop-turn.new.made.items c.in_ok-next.next c.in-Some-next.later c.in-Some-next.rest c.in-Some-next.is c.in_ok-next.ensures.turn;
+  pays =
+      pays_on c.in_ok-next.next (c.in-Some-next.later, c.in-Some-next.rest) (g.S.Stepper.records c.loop-turn.stepper) (g.S.Stepper.records c.args.stepper.now) c.loop-turn.made.items
+      c.run_generation-in-loop-turn.new.made.items c.args.steps.now c.loop-turn.steps c.run_generation-in-loop-turn.new.steps c.in-Some-next.is c.loop-turn.invariant.ran.records
+      c.loop-turn.invariant.pays c.in_ok-next.ensures.pays;
+  few_looks =
+      looks_on c.in_ok-next.next (c.in-Some-next.later, c.in-Some-next.rest) c.loop-turn.made.items c.run_generation-in-loop-turn.new.made.items
+      c.args.looks.now c.loop-turn.looks c.run_generation-in-loop-turn.new.looks c.in-Some-next.is c.loop-turn.invariant.few_looks c.in_ok-next.ensures.few_looks;
+  ran = ran_on c.loop-turn.invariant.ran c.run_generation-in-loop-turn.ensures.ran;
+}
+
+pub returns-clause-frames : goal.returns-clause-frames
+returns-clause-frames g c =
+    out_of_turns c.args.model.now c.args.bound c.args.spent c.args.jobs.now c.loop-turn.made.items c.loop-turn.left c.loop-turn.dues c.loop-turn.turn c.loop-turn-test.false c.loop-turn.invariant.stands
