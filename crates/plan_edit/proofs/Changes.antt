@@ -106,19 +106,19 @@ leads_same f same anchors directives id = ap (option_and_then anchored_to) (foun
     go None = refl
     go (Some d) = ap (option_map (λ (anchor : Anchor). anchor.to)) (anchors d)
 
-module _ (model : Parts) (plan : Plan) (of : IsPlanOf model plan) (f : Directive → Directive) (same : (d : Directive) → (f d).id ≡ d.id) where
+module _ (model other : Parts) (place : ℕ) (plan : Plan) (of : IsPlanOf model plan) (f : Directive → Directive) (same : (d : Directive) → (f d).id ≡ d.id) where
   abbrev changed : Plan
-  changed = record plan { directives = map f plan.directives }
+  changed = record plan { model = place; directives = map f plan.directives }
 
-  pub changed_plan : ((at : ℕ) (d : Directive) → slice_get plan.directives at ≡ Some d → IsTrue (is_directive_of model plan d) → IsTrue (is_directive_of model plan (f d))) →
-      IsAcyclic (map f plan.directives) → IsPlanOf model (record plan { directives = map f plan.directives })
+  pub changed_plan : ((at : ℕ) (d : Directive) → slice_get plan.directives at ≡ Some d → IsTrue (is_directive_of model plan d) → IsTrue (is_directive_of other plan (f d))) →
+      IsAcyclic (map f plan.directives) → IsPlanOf other (record plan { model = place; directives = map f plan.directives })
   changed_plan each acyclic = record {
     duration = of.duration;
     count = omega (arith, of.count, length_same f plan.directives);
     next_id = of.next_id;
     ids = subst (λ (ids : List ℕ). IsTrue (rise_to plan.next_id 0 ids)) (sym (ids_same f same plan.directives)) of.ids;
-    directives = all_changed (is_directive_of model plan) (is_directive_of model changed) f plan.directives
-        (λ at d here good. subst (λ (t : Bool). IsTrue (takes model.enums (slice_get model.activities (f d).kind) (f d).arguments && nat_lt (f d).start plan.duration && t))
+    directives = all_changed (is_directive_of model plan) (is_directive_of other changed) f plan.directives
+        (λ at d here good. subst (λ (t : Bool). IsTrue (takes other.enums (slice_get other.activities (f d).kind) (f d).arguments && nat_lt (f d).start plan.duration && t))
         (sym (there_same plan.directives (map f plan.directives) (ids_same f same plan.directives) (anchored_to (f d)))) (each at d here good))
         of.directives;
     anchors = acyclic;
@@ -135,7 +135,7 @@ module _ (model : Parts) (plan : Plan) (of : IsPlanOf model plan) (id : ℕ) (fo
 
   pub one_changed : ((d : Directive) → (change d).id ≡ d.id) → IsTrue (is_directive_of model plan (change found)) → IsAcyclic (map (changed_where id change) plan.directives) →
       IsPlanOf model (with_changed plan id change)
-  one_changed same good acyclic = changed_plan model plan of (changed_where id change) (one_kept same) each acyclic
+  one_changed same good acyclic = changed_plan model model plan.model plan of (changed_where id change) (one_kept same) each acyclic
     where
       each : (at : ℕ) (d : Directive) → slice_get plan.directives at ≡ Some d → IsTrue (is_directive_of model plan d) → IsTrue (is_directive_of model plan (changed_where id change d))
       each at d here one = go (nat_eq d.id id) refl

@@ -8,3 +8,4 @@ mod Additions
 mod Changes
 mod Moves
 mod Settings
+mod Migrations

@@ -1,5 +1,5 @@
 -- What a plan becomes in another model.
-use Rattle.std.specs.Prelude.{◌≡◌, ℕ, pos, List, [], ◌∷◌, find, nat_eq, slice_get, slice_index_or, Option, Some, None, Result, Ok, Err}
+use Rattle.std.specs.Prelude.{◌≡◌, ℕ, ◌<◌, pos, Bool, true, List, [], ◌∷◌, find, length, nat_eq, nat_lt, slice_get, slice_index_or, Option, Some, None, option_and_then, Result, Ok, Err}
 use Rattle.aerie_base.specs.declared.values.Kind.{Kind}
 use Rattle.aerie_base.specs.declared.values.Kind.TheVariants as kind
 use Rattle.aerie_base.specs.declared.values.Value.{Value}
@@ -99,3 +99,20 @@ abbrev pub IsMigrateRefusal : {A : Type 0} → Result A MigrateError → Migrate
 IsMigrateRefusal made OutOfMemory = Unit {0}
 IsMigrateRefusal made (Unmapped id) = made ≡ Err (Unmapped id)
 IsMigrateRefusal made (Misfit id number) = made ≡ Err (Misfit id number)
+
+-- this is what becomes of something, or why nothing does
+abbrev pub IsMigrated : {A : Type 0} → Result A MigrateError → Result A MigrateError → Type 0
+IsMigrated made (Ok part) = made ≡ Ok part
+IsMigrated made (Err refusal) = IsMigrateRefusal made refusal
+
+-- ---- a table of rules by old type
+
+-- at the place of each type stands the place of the first rule for it, where there is one
+abbrev pub IsRuleTable : List TypeRule → List (Option ℕ) → Type 0
+IsRuleTable rules table =
+    (kind : ℕ) → kind < length table → option_and_then (slice_get rules) (slice_index_or table kind None) ≡ rule_of rules kind
+
+-- whether a feed is of one of so many old parameters, where it is of one
+abbrev pub is_within : ℕ → Feed → Bool
+is_within count (Old place) = nat_lt place count
+is_within count (Fixed value) = true
