@@ -1,9 +1,8 @@
 -- What a plan becomes in another model is a plan of that model.
-use Rattle.std.proofs.Common.{◌≡◌, ℕ, ℤ, zero, suc, pos, ◌+◌, ◌<◌, ◌≤◌, ◌&&◌, Bool, true, false, IsTrue, List, [], ◌∷◌, ◌++◌, append_assoc, Option, Some, None, option_map, option_and_then, Result, Ok, Err, length, map, drop, find, get_or, slice_get, slice_index_or, nat_eq, nat_lt, refl, sym, ap, subst, ◌∙◌, true≢false, eqb-true, eq-eqb, ltb-true, lt-ltb, arith, if◌then◌else◌}
+use Rattle.std.proofs.Common.{◌≡◌, ℕ, zero, suc, pos, ◌+◌, ◌<◌, ◌&&◌, Bool, true, false, IsTrue, List, [], ◌∷◌, ◌++◌, append_assoc, Option, Some, None, option_map, Result, Ok, Err, length, map, drop, get_or, slice_get, slice_index_or, nat_eq, nat_lt, refl, sym, ap, subst, ◌∙◌, true≢false, eqb-true, eq-eqb, lt-ltb, arith, if◌then◌else◌}
 use Rattle.std.proofs.lemmas.Option.{none-some, same_Some, get_or_from_slice_get}
 use Rattle.std.specs.List.{list_all}
 use Rattle.std.specs.Cmp.Lexicographic.{pointwise}
-use Rattle.aerie_base.specs.Ranges.{is_number}
 use Rattle.aerie_base.specs.declared.values.Kind.{Kind}
 use Rattle.aerie_base.specs.declared.values.Kind.TheVariants as kind
 use Rattle.aerie_base.specs.declared.values.Value.{Value}
@@ -15,27 +14,23 @@ use Rattle.aerie_base.specs.declared.models.model.Parts.{Parts}
 use Rattle.aerie_base.specs.declared.plans.Anchor.{Anchor}
 use Rattle.aerie_base.specs.declared.plans.Directive.{Directive}
 use Rattle.aerie_base.specs.declared.plans.Plan.{Plan}
-use Rattle.aerie_base.specs.expressions.Arithmetic.{value_kind}
-use Rattle.aerie_base.specs.expressions.Typing.{same_kind}
 use Rattle.aerie_base.specs.models.Names.{same_name}
 use Rattle.aerie_base.specs.models.Signatures.{parameter_kinds}
-use Rattle.aerie_base.specs.models.Values.{is_value, is_value_of, variant_count, variants_of}
+use Rattle.aerie_base.specs.models.Values.{is_value_of, variant_count, variants_of}
 use Rattle.aerie_base.specs.plans.OfModel.{are_values_of, takes, anchored_to, is_there, is_directive_of, IsPlanOf}
 use Rattle.plan_merge.proofs.Renames.{both}
 use Rattle.plan_edit.specs.declared.errors.MigrateError.{MigrateError}
-use Rattle.plan_edit.specs.declared.errors.MigrateError.TheVariants.{Unmapped, Misfit}
 use Rattle.plan_edit.specs.declared.mappings.Feed.{Feed}
 use Rattle.plan_edit.specs.declared.mappings.Feed.TheVariants.{Old, Fixed}
 use Rattle.plan_edit.specs.declared.mappings.TypeRule.{TypeRule}
 use Rattle.plan_edit.specs.declared.mappings.Mapping.{Mapping}
 use Rattle.plan_edit.specs.Mappings.{same_variants, may_feed, feeds_from, is_feed, are_feeds, is_rule_for, is_type_rule, IsMappingOf}
-use Rattle.plan_edit.specs.Migrating.{retyped, fed, all_fed, rule_of, retyped_directive, unless_misfit, requires_of, parameter_kinds_of, ruled, by_rule, migrated, one_more_migrated, all_migrated, with_migrated, migrate_of, is_within}
+use Rattle.plan_edit.specs.Migrating.{retyped, fed, all_fed, rule_of, retyped_directive, unless_misfit, requires_of, parameter_kinds_of, ruled, by_rule, migrated, one_more_migrated, all_migrated, with_migrated, migrate_of, is_feed_within}
 use Rattle.plan_merge.proofs.Steps.{length_map}
 use Rattle.plan_edit.specs.Requires.{first_unmet}
 use Rattle.plan_edit.proofs.Changes.{and_too, changed_plan, leads_same}
 use Rattle.plan_edit.proofs.Fillings.{cut}
-use Rattle.plan_edit.proofs.Trails.{IsAcyclic, acyclic_still}
-use Rattle.plan_edit.proofs.Types.{kinds_agree}
+use Rattle.plan_edit.proofs.Trails.{acyclic_still}
 
 -- ---- one behind another
 
@@ -133,11 +128,11 @@ module _ (old new : List EnumType) where
       (one.0, omega (arith, one.1))
 
   module _ (from : List Kind) (arguments : List Value) (good : IsTrue (are_values_of old from arguments)) where
-    one_fed : (to : Kind) (feed : Feed) → IsTrue (is_feed old new from to feed) → IsTrue (is_value_of new to (fed arguments to feed)) × IsTrue (is_within (length arguments) feed)
+    one_fed : (to : Kind) (feed : Feed) → IsTrue (is_feed old new from to feed) → IsTrue (is_value_of new to (fed arguments to feed)) × IsTrue (is_feed_within (length arguments) feed)
     one_fed to (Fixed value) is = (is, refl)
     one_fed to (Old place) is = go (slice_get from place) refl is
       where
-        go : (found : Option Kind) → slice_get from place ≡ found → IsTrue (feeds_from old new found to) → IsTrue (is_value_of new to (fed arguments to (Old place))) × IsTrue (is_within (length arguments) (Old place))
+        go : (found : Option Kind) → slice_get from place ≡ found → IsTrue (feeds_from old new found to) → IsTrue (is_value_of new to (fed arguments to (Old place))) × IsTrue (is_feed_within (length arguments) (Old place))
         go None here is = absurd (true≢false (sym is))
         go (Some kind) here is =
             let one = value_at from arguments place kind (Int (pos 0)) good here in
@@ -151,12 +146,12 @@ module _ (old new : List EnumType) where
         let parts = both (is_feed old new from kind feed) (are_feeds old new from kinds feeds) are in
         and_too (is_value_of new kind (fed arguments kind feed)) (are_values_of new kinds (all_fed arguments kinds feeds)) (one_fed kind feed parts.0).0 (all_good kinds feeds parts.1)
 
-    pub all_within : (to : List Kind) (feeds : List Feed) → IsTrue (are_feeds old new from to feeds) → IsTrue (list_all (is_within (length arguments)) feeds)
+    pub all_within : (to : List Kind) (feeds : List Feed) → IsTrue (are_feeds old new from to feeds) → IsTrue (list_all (is_feed_within (length arguments)) feeds)
     all_within to [] are = refl
     all_within [] (feed ∷ feeds) are = absurd (true≢false (sym are))
     all_within (kind ∷ kinds) (feed ∷ feeds) are =
         let parts = both (is_feed old new from kind feed) (are_feeds old new from kinds feeds) are in
-        and_too (is_within (length arguments) feed) (list_all (is_within (length arguments)) feeds) (one_fed kind feed parts.0).1 (all_within kinds feeds parts.1)
+        and_too (is_feed_within (length arguments) feed) (list_all (is_feed_within (length arguments)) feeds) (one_fed kind feed parts.0).1 (all_within kinds feeds parts.1)
 
   pub as_many_feeds : (from to : List Kind) (feeds : List Feed) → IsTrue (are_feeds old new from to feeds) → length feeds ≡ length to
   as_many_feeds from [] [] are = refl
@@ -184,7 +179,7 @@ are_ruled old new rule arguments is good = go (slice_get old.activities rule.old
 -- what is known of a rule whose new type was read
 pub record IsReady (new : Parts) (rule : TypeRule) (arguments : List Value) (activity : Activity) : Type 0 where
   pub count : length rule.feeds ≡ length activity.parameters
-  pub within : IsTrue (list_all (is_within (length arguments)) rule.feeds)
+  pub within : IsTrue (list_all (is_feed_within (length arguments)) rule.feeds)
   pub good : IsTrue (are_values_of new.enums (parameter_kinds activity) (all_fed arguments (parameter_kinds activity) rule.feeds))
 
 pub is_ready : (old new : Parts) (rule : TypeRule) (kind : ℕ) (arguments : List Value) (activity : Activity) → IsTrue (is_type_rule old new rule) → rule.old ≡ kind →

@@ -113,6 +113,6 @@ IsRuleTable rules table =
     (kind : ℕ) → kind < length table → option_and_then (slice_get rules) (slice_index_or table kind None) ≡ rule_of rules kind
 
 -- whether a feed is of one of so many old parameters, where it is of one
-abbrev pub is_within : ℕ → Feed → Bool
-is_within count (Old place) = nat_lt place count
-is_within count (Fixed value) = true
+abbrev pub is_feed_within : ℕ → Feed → Bool
+is_feed_within count (Old place) = nat_lt place count
+is_feed_within count (Fixed value) = true

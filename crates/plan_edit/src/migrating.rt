@@ -6,7 +6,7 @@ ghost use Rattle.aerie_base.specs.declared.models.Parameter.{Parameter as ShownP
 ghost use Rattle.aerie_base.specs.declared.plans.Plan.{Plan as ShownPlan};
 ghost use Rattle.aerie_base.specs.plans.OfModel.{IsPlanOf, is_directive_of, takes};
 ghost use Rattle.plan_edit.specs.Mappings.{IsMappingOf, is_type_rule};
-ghost use Rattle.plan_edit.specs.Migrating.{all_fed as all_fed_by, all_migrated as all_migrated_by, by_rule as made_by_rule, fed as fed_by, is_within, migrate_of, migrated as migrated_by, retyped as retyped_by, rule_of, IsMigrated, IsMigrateRefusal, IsRuleTable};
+ghost use Rattle.plan_edit.specs.Migrating.{all_fed as all_fed_by, all_migrated as all_migrated_by, by_rule as made_by_rule, fed as fed_by, is_feed_within, migrate_of, migrated as migrated_by, retyped as retyped_by, rule_of, IsMigrated, IsMigrateRefusal, IsRuleTable};
 
 use crate::errors::MigrateError;
 use crate::items::item_at;
@@ -165,7 +165,7 @@ fn all_fed(
     arguments: &[Value],
 ) -> Result<List<Value>, OutOfMemory>
     requires count { length feeds.now ≡ length parameters.now }
-    requires within { IsTrue (list_all (is_within (length arguments.now)) feeds.now) }
+    requires within { IsTrue (list_all (is_feed_within (length arguments.now)) feeds.now) }
     ensures { IfOk result (λ values. values ≡ all_fed_by arguments.now (map (λ (parameter : ShownParameter). parameter.kind) parameters.now) feeds.now) }
 {
     let mut values = List::with_capacity(alloc, parameters.len())?;
@@ -177,7 +177,7 @@ fn all_fed(
 
 /// What a parameter of a type gets of the old arguments.
 fn fed(arguments: &[Value], kind: Kind, feed: &Feed) -> Value
-    requires { IsTrue (is_within (length arguments.now) feed.now) }
+    requires { IsTrue (is_feed_within (length arguments.now) feed.now) }
     ensures { result ≡ fed_by arguments.now kind feed.now }
 {
     match feed {

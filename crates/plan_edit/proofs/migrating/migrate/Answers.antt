@@ -1,5 +1,4 @@
-use Rattle.std.proofs.Common.{List, ap, sym, ◌∙◌}
-use Rattle.aerie_base.specs.declared.plans.Directive.{Directive}
+use Rattle.std.proofs.Common.{ap, sym, ◌∙◌}
 use Rattle.plan_edit.specs.Migrating.{all_migrated}
 use Rattle.plan_edit.proofs.Migrations.{migrated_plan}
 use Rattle.plan_edit.proofs.migrating.migrate.Goals as goal

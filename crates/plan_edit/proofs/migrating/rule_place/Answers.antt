@@ -1,4 +1,4 @@
-use Rattle.std.proofs.Common.{◌≡◌, ap, sym, ◌∙◌, length, refl, eq-eqb, nat_eq, Bool, Some, drop, ◌+◌, if◌then◌else◌}
+use Rattle.std.proofs.Common.{ap, sym, ◌∙◌, length, refl, eq-eqb, Bool, Some, drop, ◌+◌, if◌then◌else◌}
 use Rattle.std.proofs.lemmas.Option.{slice_get_read}
 use Rattle.plan_edit.specs.declared.mappings.TypeRule.{TypeRule}
 use Rattle.plan_edit.specs.Migrating.{rule_of}

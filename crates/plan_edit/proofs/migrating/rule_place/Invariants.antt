@@ -1,5 +1,5 @@
 -- Those before are for other types.
-use Rattle.std.proofs.Common.{◌≡◌, find, drop, nat_eq}
+use Rattle.std.proofs.Common.{◌≡◌, drop}
 use Rattle.plan_edit.specs.Migrating.{rule_of}
 use Rattle.plan_edit.proofs.migrating.rule_place.Given as goal
 
