@@ -4,8 +4,6 @@
 mod boxed;
 mod list;
 mod shared;
-#[cfg(test)]
-mod tests;
 
 pub use boxed::Boxed;
 pub use list::List;

@@ -68,6 +68,3 @@ fn operand_value<K: Look>(operand: Operand, locals: &[Value], cells: &mut K) -> 
         Operand::Read(read) => cells.look(read),
     }
 }
-
-#[cfg(test)]
-mod tests;

@@ -182,6 +182,3 @@ impl<A: PlainData + Drop, B: PlainData + Drop> PlainData for (A, B) {
         self.0.equals(&other.0) && self.1.equals(&other.1)
     }
 }
-
-#[cfg(test)]
-mod tests;

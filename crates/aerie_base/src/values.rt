@@ -78,30 +78,3 @@ pub fn same_value(left: &Value, right: &Value) -> bool
         _ => false,
     }
 }
-
-#[cfg(test)]
-mod tests {
-    use super::*;
-    use crate::numbers::Time;
-    use std::hash::{FoldHasher, Hash, Hasher};
-
-    /// A number from all that a value gives a hasher.
-    fn digest<T: Hash>(value: &T) -> u64 {
-        let mut hasher = FoldHasher::default();
-        value.hash(&mut hasher);
-        hasher.finish()
-    }
-
-    #[test]
-    fn hashes_values_types_and_times(rt: HostRuntime) {
-        let one = Number::new(1).expect(&rt, "a number");
-        let two = Number::new(2).expect(&rt, "a number");
-        assert_eq!(&rt; digest(&Value::Int(one)), digest(&Value::Int(one)));
-        assert!(&rt; digest(&Value::Int(one)) != digest(&Value::Int(two)));
-        assert!(&rt; digest(&Kind::Enum(1)) != digest(&Kind::Enum(2)));
-        assert_eq!(&rt;
-            Time::new(7).map(|time| digest(&time)),
-            Time::new(7).map(|time| digest(&time))
-        );
-    }
-}

@@ -15,8 +15,6 @@ mod std_sink;
 mod std_source;
 mod sure_sink;
 mod sure_source;
-#[cfg(test)]
-mod tests;
 
 pub use gate::{Gate, Point};
 pub use hold_until::HoldUntil;

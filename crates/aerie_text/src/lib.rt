@@ -13,8 +13,6 @@ mod quotes;
 mod scanner;
 mod sorts;
 mod symbols;
-#[cfg(test)]
-mod tests;
 mod text_error;
 mod token;
 

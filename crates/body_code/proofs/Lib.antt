@@ -6,4 +6,3 @@ pub mod CodeOfBody
 pub mod Rooms
 pub mod Patches
 pub mod ModelBodies
-pub mod Counting

@@ -2,4 +2,3 @@ pub mod FlatCode
 pub mod Denoting
 pub mod ModelCodes
 pub mod Cases
-pub mod SmallModels

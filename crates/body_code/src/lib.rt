@@ -7,8 +7,6 @@ mod compiling;
 mod emitting;
 mod instructions;
 mod models;
-#[cfg(test)]
-mod tests;
 
 pub use codes::Code;
 pub use compiling::compile;

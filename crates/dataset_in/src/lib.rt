@@ -7,8 +7,6 @@ mod entries;
 mod forms;
 mod reading;
 mod series;
-#[cfg(test)]
-mod tests;
 
 pub use dataset_error::DatasetError;
 pub use reading::read_dataset;

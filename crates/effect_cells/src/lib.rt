@@ -18,8 +18,6 @@ mod registers;
 mod starts;
 mod states;
 mod sums;
-#[cfg(test)]
-mod tests;
 mod touching;
 mod trees;
 mod worths;

@@ -6,8 +6,6 @@ mod bad_start;
 mod forms;
 mod reading;
 mod start;
-#[cfg(test)]
-mod tests;
 mod writing;
 
 pub use bad_start::BadStart;

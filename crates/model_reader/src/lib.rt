@@ -7,8 +7,6 @@ mod model_answers;
 mod raw;
 mod read_error;
 mod reading;
-#[cfg(test)]
-mod tests;
 
 pub use model_answers::read_model;
 pub use raw::{

@@ -9,8 +9,6 @@ mod models;
 mod names;
 mod reads;
 mod statements;
-#[cfg(test)]
-mod tests;
 mod types;
 
 pub use expressions::{RawExpr, RawExprKind};

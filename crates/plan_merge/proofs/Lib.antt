@@ -10,4 +10,3 @@ mod Merges
 mod Nothing
 mod Members
 mod SourceOnly
-mod InOrder

@@ -8,4 +8,3 @@ pub mod Leads
 pub mod Answers
 pub mod Anchors
 pub mod Cases
-pub mod Unanchored

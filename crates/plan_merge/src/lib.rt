@@ -11,8 +11,6 @@ mod merging;
 mod numbered;
 mod renaming;
 mod table;
-#[cfg(test)]
-mod tests;
 
 pub use answers::{Conflict, ConflictKind, MergeError, Merged};
 pub use laws::{a_source_that_changed_nothing, a_target_that_changed_nothing};

@@ -66,4 +66,3 @@ mod ValidRecords
 mod Waiting
 mod WaveFuel
 mod WaveGenerations
-pub mod IdleRuns

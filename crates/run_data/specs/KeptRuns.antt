@@ -1,20 +1,7 @@
--- A kept run beside its model, and the fresh run of a plan in which nothing happens.
-use Rattle.std.proofs.Common.{ℕ, [], ◌∷◌}
+-- A kept run beside its model.
 use Rattle.aerie_base.specs.declared.models.model.Parts.{Parts}
-use Rattle.aerie_base.specs.declared.plans.Plan.{Plan}
-use Rattle.run_data.specs.declared.runs.Outcome.TheVariants.{Completed}
 use Rattle.run_data.specs.declared.runs.Run.{Run}
 
 pub record KeptRun : Type 0 where
   pub model : Parts
   pub run : Run
-
--- without cells, daemons and directives there is one instant, without batches, and the run comes to the plan's end
-abbrev pub idle_run : Plan → ℕ → Run
-idle_run plan bound = record {
-  plan = plan;
-  bound = bound;
-  instants = record { time = 0; batches = []; changed = [] } ∷ [];
-  reach = plan.duration;
-  outcome = Completed;
-}

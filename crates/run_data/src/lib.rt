@@ -9,8 +9,6 @@ mod runs;
 mod simulators;
 mod steppers;
 mod tasks;
-#[cfg(test)]
-mod tests;
 
 pub use frames::{Frame, Item, Record, Status};
 pub use jobs::Job;

@@ -4,8 +4,6 @@
 pub mod laws;
 mod raw;
 mod reading;
-#[cfg(test)]
-mod tests;
 
 pub use raw::{RawClient, RawCommand, RawGiven};
 pub use reading::{argument, client, given, when};

@@ -1,6 +1,5 @@
 pub mod CellsRead
 pub mod Doing
-pub mod FamilyJobs
 pub mod FillableFolds
 pub mod Fillings
 pub mod Grouping
@@ -9,7 +8,6 @@ pub mod OneByOne
 pub mod Overlays
 pub mod Places
 pub mod Simple
-pub mod SmallJobs
 pub mod Soundness
 pub mod Starting
 pub mod Taking

@@ -2,12 +2,10 @@ pub mod Cases
 pub mod Directs
 pub mod Doable
 pub mod Ends
-pub mod FamilyMission
 pub mod Fillable
 pub mod GroupedFlags
 pub mod Moves
 pub mod Overlays
 pub mod OwnCells
 pub mod ReadingCells
-pub mod SmallMission
 pub mod Ways

@@ -15,8 +15,6 @@ mod sight;
 mod statement_parts;
 mod step_end;
 mod step_state;
-#[cfg(test)]
-mod tests;
 mod written_cells;
 
 pub use direct::Direct;

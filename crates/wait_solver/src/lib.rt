@@ -10,6 +10,3 @@ mod outlooks;
 mod waiting;
 
 pub use waiting::{earliest, holds_now};
-
-#[cfg(test)]
-mod tests;

@@ -11,6 +11,5 @@ pub mod Order
 pub mod Pieces
 pub mod Profiles
 pub mod Shifts
-pub mod Single
 pub mod Spans
 pub mod Unique

@@ -9,6 +9,3 @@ mod windows;
 
 pub use segments::Segment;
 pub use windows::Windows;
-
-#[cfg(test)]
-mod tests;
