@@ -5,7 +5,7 @@ use Rattle.readers.specs.Marks.{Mark}
 use Rattle.aerie_text.specs.declared.token.Token.{Token}
 use Rattle.readers.specs.Marks.{marks_of}
 use Rattle.aerie_text.specs.Places.{place_of}
-use Rattle.readers.specs.grammar.Readings.{IsReadable, IsRefusedAt, IsRefusedAtEnd}
+use Rattle.readers.specs.grammar.Readings.{IsRead, IsReadable, IsRefusedAt, IsRefusedAtEnd}
 use Rattle.readers.specs.Parsed.{Parsed, parsed, failed, over_limit}
 use Rattle.readers.specs.Words.{word_of}
 use Rattle.model_reader.specs.declared.raw.models.RawModel.{RawModel}
@@ -60,3 +60,19 @@ pub record IsReadThrough (marks : List Mark) (place : Place) : Type 0 where
   pub is : marks ≡ front ++ (mark ∷ behind)
   pub stands : place ≡ mark.at
   pub readable : IsReadable written model_rule (front ++ (mark ∷ []))
+
+-- what holds of the place where the answer is this place alone
+abbrev pub IfSyntax : {A : Type 0} → Result A ReadError → (Place → Type 0) → Type 0
+IfSyntax result Holds = (place : Place) → result ≡ Err (Syntax place) → Holds place
+
+-- what holds of the place where the answer is that a limit is passed there
+abbrev pub IfTooMany : {A : Type 0} → Result A ReadError → (Place → Type 0) → Type 0
+IfTooMany result Holds = (what : List ℕ) (place : Place) → result ≡ Err (TooMany what place) → Holds place
+
+-- the tokens from this one up to another are a model, by the grammar as it is written
+abbrev pub AreModel : List ℕ → List Token → ℕ → ℕ → Type 0
+AreModel text tokens from to = IsRead written model_rule (marks_between text tokens from to)
+
+-- no tokens from this one on are a model
+abbrev pub NoModelBegins : List ℕ → List Token → ℕ → Type 0
+NoModelBegins text tokens from = (to : ℕ) → AreModel text tokens from to → ⊥

@@ -5,11 +5,11 @@ ghost use Rattle.readers.specs.Marks.{Mark};
 ghost use Rattle.readers.specs.grammar.Alike.{AreAlike};
 ghost use Rattle.readers.specs.grammar.Predictive.{IsPredictive};
 ghost use Rattle.readers.specs.grammar.Readings.{IsRead};
+ghost use Rattle.readers.specs.grammar.Tells.{AnswersAreRight};
 ghost use Rattle.readers.specs.Parsed.{failed};
 ghost use Rattle.readers.specs.Verdicts.{Judges};
 ghost use Rattle.model_reader.specs.grammar.Factored.{look, factored};
 ghost use Rattle.model_reader.specs.grammar.Rules.{model_rule};
-ghost use Rattle.model_reader.specs.grammar.Verdicts.{AnswersAreRight};
 ghost use Rattle.model_reader.specs.grammar.Written.{written};
 ghost use Rattle.model_reader.specs.reading.Models.{model_at};
 
@@ -21,7 +21,7 @@ pub fn one_token_decides()
 
 /// Where a reader that looks one mark ahead stops, every reading of the grammar as it is written stops.
 pub fn answers_are_right()
-    ensures { AnswersAreRight }
+    ensures { AnswersAreRight look model_rule written model_rule }
 {}
 
 /// What is read tells of the readings of the grammar as it is written: a model is read where the marks before those that

@@ -1,15 +1,11 @@
 //! Models in a text that is cut into tokens.
 
-ghost use Rattle.std.specs.Prelude.{◌≡◌, ◌≤◌, ◌<◌, ◌-◌, ℕ, List, Err, IfOk, length};
-ghost use Rattle.aerie_base.specs.declared.places.Place.{Place};
+ghost use Rattle.std.specs.Prelude.{◌≡◌, ◌≤◌, ◌<◌, ◌-◌, IfOk, length};
 ghost use Rattle.aerie_text.specs.Marks.{AreTokensWithin};
 ghost use Rattle.readers.specs.Words.{word_of};
-ghost use Rattle.readers.specs.grammar.Readings.{IsRead};
-ghost use Rattle.model_reader.specs.declared.read_error.ReadError.TheVariants.{Syntax, TooMany};
-ghost use Rattle.model_reader.specs.grammar.Rules.{model_rule};
-ghost use Rattle.model_reader.specs.grammar.Written.{written};
+ghost use Rattle.model_reader.specs.declared.read_error.ReadError.TheVariants.{TooMany};
 ghost use Rattle.model_reader.specs.reading.Models.{model_at};
-ghost use Rattle.model_reader.specs.ModelAnswers.{marks_from, marks_between, place_left, answer_of, UnlessOutOfMemory, IsFirstRefused, IsReadThrough, IsAnswer};
+ghost use Rattle.model_reader.specs.ModelAnswers.{marks_from, place_left, answer_of, UnlessOutOfMemory, IsFirstRefused, IsReadThrough, IsAnswer, IfSyntax, IfTooMany, AreModel, NoModelBegins};
 
 use crate::laws::models_conform;
 use crate::raw::RawModel;
@@ -34,10 +30,10 @@ pub fn read_model(
     requires from { from ≤ length tokens.now }
     ensures exact { IsAnswer text.now tokens.now from result }
     ensures behind { IfOk result (λ answer. (from < answer.1) × (answer.1 ≤ length tokens.now)) }
-    ensures read { IfOk result (λ answer. IsRead written model_rule (marks_between text.now tokens.now from answer.1)) }
-    ensures refused { (place : Place) → result ≡ Err (Syntax place) → IsFirstRefused text.now (marks_from text.now tokens.now from) place }
-    ensures no_model { (place : Place) → result ≡ Err (Syntax place) → (to : ℕ) → IsRead written model_rule (marks_between text.now tokens.now from to) → ⊥ }
-    ensures too_many { (what : List ℕ) (place : Place) → result ≡ Err (TooMany what place) → IsReadThrough (marks_from text.now tokens.now from) place }
+    ensures read { IfOk result (λ answer. AreModel text.now tokens.now from answer.1) }
+    ensures refused { IfSyntax result (IsFirstRefused text.now (marks_from text.now tokens.now from)) }
+    ensures no_model { IfSyntax result (λ place. NoModelBegins text.now tokens.now from) }
+    ensures too_many { IfTooMany result (IsReadThrough (marks_from text.now tokens.now from)) }
 {
     models_conform();
     let mut reader = Reader::new(text, tokens, from);

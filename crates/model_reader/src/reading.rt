@@ -1,7 +1,7 @@
 //! Reading: what the marks of a model are, part by part.
 
+mod assignment_operator;
 mod body;
-mod change;
 mod child_start;
 mod declarations;
 mod expressions;
@@ -14,8 +14,8 @@ mod statements;
 mod types;
 mod with_height;
 
+pub use assignment_operator::AssignmentOperator;
 pub use body::Body;
-pub use change::Change;
 pub use declarations::Declarations;
 pub use models::model;
 pub use with_height::WithHeight;

@@ -14,7 +14,7 @@ use Rattle.readers.specs.grammar.Notation.{one_of}
 use Rattle.readers.specs.grammar.Parsing.{Stops}
 use Rattle.readers.specs.grammar.Tables.{is_among}
 use Rattle.readers.specs.Parsed.{Parsed, parsed, failed, over_limit, ◌>>=◌, next_fits, next_is, is_of, is_one_of, one_of_at, chosen, taken, mark_at, had, has_at, limited, turns_at, repeated, separated_at}
-use Rattle.readers.specs.Conforms.{Covers, Reaches, GoesAlong, Conforms}
+use Rattle.readers.specs.Conforms.{Covers, ReadsPast, GoesAlong, Conforms}
 use Rattle.readers.proofs.Grammars.Parsing.{token_read, token_stops, token_ends, both_read, first_stops, second_stops, answer_first, answer_second, option_read, option_left, answer_turn, answer_over, answer_rule}
 use Rattle.readers.proofs.Begun.{joined, begun}
 
@@ -241,7 +241,7 @@ module _ {Rule Kind : Type 0} (look : Lookahead Rule Kind Mark) where
 
   -- ---- a limit
 
-  goes_over : IsPredictive look → (a : Form Rule Kind) (marks : List Mark) → IsTrue (next_in_first look a marks) → Reaches look a marks marks
+  goes_over : IsPredictive look → (a : Form Rule Kind) (marks : List Mark) → IsTrue (next_in_first look a marks) → ReadsPast look a marks marks
   goes_over ok a [] b = cc
   goes_over ok a (k ∷ rest) b = record { front = []; next = k; behind = rest; here = refl; is = refl; part = begun look ok k a b }
 

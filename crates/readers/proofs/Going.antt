@@ -1,11 +1,13 @@
 -- Loops over turns: where a loop stands between two turns.
-use Rattle.std.proofs.Common.{◌≡◌, ℕ, zero, suc, ◌<◌, ◌≤◌, Bool, true, false, List, [], ◌∷◌, length, refl, sym, ap, ◌∙◌, arith}
+use Rattle.std.proofs.Common.{◌≡◌, ℕ, zero, suc, ◌<◌, ◌≤◌, Bool, true, false, List, [], ◌∷◌, length, Result, Ok, Err, refl, sym, ap, ◌∙◌, arith, subst}
+use Rattle.std.specs.Prelude.{IsErrAnd}
+use Rattle.aerie_text.specs.declared.sorts.Sort.{Sort}
 use Rattle.readers.specs.Marks.{Mark}
 use Rattle.readers.specs.declared.limits.Limit.{Limit}
 use Rattle.readers.specs.declared.refusal.Refusal.{Refusal}
 use Rattle.readers.specs.declared.refusal.Refusal.TheVariants.{Syntax, TooMany, OutOfMemory}
-use Rattle.readers.specs.Implements.{Refuses}
-use Rattle.readers.specs.Parsed.{Parsed, parsed, failed, over_limit, ◌>>=◌, next_fits, turns_at, repeated}
+use Rattle.readers.specs.Implements.{Refuses, Consumes}
+use Rattle.readers.specs.Parsed.{Parsed, parsed, failed, over_limit, ◌>>=◌, next_fits, turns_at, repeated, is_of, behind_at, separated_at}
 
 module _ {S : Type 0} (test : Mark → Bool) (turn : S → List Mark → Parsed S) where
   -- With this state and these marks left, so many turns more, which are as many as marks are left at least, give what the
@@ -77,3 +79,15 @@ module _ {S : Type 0} (test : Mark → Bool) (turn : S → List Mark → Parsed 
   going_refused start marks state rest left Syntax g h e = going_stops start marks state rest left g h e
   going_refused start marks state rest left (TooMany limit) g h e = going_passes start marks state rest limit left g h e
   going_refused start marks state rest left OutOfMemory g h e = tt
+
+  -- what is returned where a turn was refused
+  pub returned_refused : {A : Type 0} (marks behind : List Mark) (result : Result A Refusal) (refusal : Refusal) (read : Parsed A) → IsErrAnd result (λ e. e ≡ refusal)
+      → Refuses behind refusal read → Consumes (λ here. read) marks behind result
+  returned_refused marks behind (Ok part) refusal read is h = absurd is
+  returned_refused marks behind (Err e) refusal read is h = (subst (λ (r : Refusal). Refuses behind r read) (sym is) h, tt)
+
+-- turns behind the first one are refused, and so are all
+pub separated_refused : {S : Type 0} (sort : Sort) (turn : S → List Mark → Parsed S) (state : S) (marks rest behind : List Mark) (first : S) (refusal : Refusal) → turn state marks ≡ parsed first rest
+    → Refuses behind refusal (repeated (is_of sort) (behind_at sort turn) first rest) → Refuses behind refusal (separated_at sort turn state marks)
+separated_refused {S = S} sort turn state marks rest behind first refusal e h =
+    subst (λ (read : Parsed S). Refuses behind refusal (read >>= λ after. repeated (is_of sort) (behind_at sort turn) after.0 after.1)) (sym e) h

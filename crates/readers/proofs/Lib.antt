@@ -4,5 +4,6 @@ pub mod Entries
 pub mod Going
 pub mod Grammars
 pub mod Judged
+pub mod Listing
 pub mod Standing
 pub mod Within

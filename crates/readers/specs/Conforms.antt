@@ -17,7 +17,7 @@ module _ {Rule Kind : Type 0} (look : Lookahead Rule Kind Mark) where
     pub whole : (xs : List (Form Rule Kind)) → LazyReading look.grammar (form ∷ xs) front xs
 
   -- Some reading of the form reads the marks in front, and the first of the rest too.
-  pub record Reaches (form : Form Rule Kind) (marks rest : List Mark) : Type 0 where
+  pub record ReadsPast (form : Form Rule Kind) (marks rest : List Mark) : Type 0 where
     pub front : List Mark
     pub next : Mark
     pub behind : List Mark
@@ -30,7 +30,7 @@ module _ {Rule Kind : Type 0} (look : Lookahead Rule Kind Mark) where
   abbrev pub GoesAlong : {A : Type 0} → Form Rule Kind → List Mark → Parsed A → Type 0
   GoesAlong form marks (parsed part rest) = Covers form marks rest
   GoesAlong form marks (failed rest) = Stops look form marks rest
-  GoesAlong form marks (over_limit limit rest) = Reaches form marks rest
+  GoesAlong form marks (over_limit limit rest) = ReadsPast form marks rest
 
   -- What is read of these marks conforms to the form: a part is read where the form is, reading fails where the form stops,
   -- and a limit is passed at a mark that some reading of the form reads.

@@ -2,6 +2,7 @@ pub mod Conforms
 pub mod Entries
 pub mod EntriesCases
 pub mod Implements
+pub mod Lists
 pub mod Marks
 pub mod Parsed
 pub mod States

@@ -4,11 +4,13 @@
 
 pub mod example;
 mod limits;
+mod lists;
 mod reader;
 mod refusal;
 mod words;
 
 pub use limits::Limit;
+pub use lists::{Item, Most, listed, optional_list, parenthesized, row};
 pub use reader::Reader;
 pub use refusal::Refusal;
 pub use words::one_of;

@@ -3,5 +3,4 @@ pub mod Terminals
 pub mod Embedding
 pub mod Written
 pub mod Factored
-pub mod Verdicts
 pub mod Cases

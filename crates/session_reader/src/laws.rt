@@ -2,9 +2,9 @@
 
 ghost use Rattle.readers.specs.grammar.Alike.{AreAlike};
 ghost use Rattle.readers.specs.grammar.Predictive.{IsPredictive};
+ghost use Rattle.readers.specs.grammar.Tells.{AnswersAreRight};
 ghost use Rattle.session_reader.specs.grammar.Factored.{look, factored};
 ghost use Rattle.session_reader.specs.grammar.Rules.{session_rule};
-ghost use Rattle.session_reader.specs.grammar.Verdicts.{AnswersAreRight};
 ghost use Rattle.session_reader.specs.grammar.Written.{written};
 
 /// In the factored grammar of sessions one token of lookahead decides, and it reads what the grammar as it is written reads.
@@ -15,5 +15,5 @@ pub fn one_token_decides()
 
 /// Where a reader that looks one mark ahead stops, every reading of the grammar as it is written stops.
 pub fn answers_are_right()
-    ensures { AnswersAreRight }
+    ensures { AnswersAreRight look session_rule written session_rule }
 {}

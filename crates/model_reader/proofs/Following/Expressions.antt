@@ -14,10 +14,10 @@ use Rattle.readers.specs.grammar.Lookahead.{nullable, next_in_first}
 use Rattle.readers.specs.Parsed.{Parsed, is_of, next_fits}
 use Rattle.readers.proofs.Conforming.{Begins, begins_both, begins_rule, begins_here, in_table, and_then, then_value, value, either_conforms, option_conforms, chosen_conforms, repeated_conforms, rule_conforms, limited_conforms, failed_conforms}
 use Rattle.model_reader.specs.declared.raw.names.RawName.{RawName}
-use Rattle.model_reader.specs.declared.reading.expressions.part.Part.{Part}
-use Rattle.model_reader.specs.declared.reading.expressions.part.Part.TheVariants.{Expr, Conjunction, Comparison, Sum, Product, Unary}
+use Rattle.model_reader.specs.declared.reading.expressions.precedence.Precedence.{Precedence}
+use Rattle.model_reader.specs.declared.reading.expressions.precedence.Precedence.TheVariants.{Expr, Conjunction, Comparison, Sum, Product, Unary}
 use Rattle.model_reader.specs.declared.reading.with_height.WithHeight.{WithHeight}
-use Rattle.model_reader.specs.declared.reading.expressions.part.Sign.TheVariants as sign
+use Rattle.model_reader.specs.declared.reading.expressions.precedence.Sign.TheVariants as sign
 use Rattle.model_reader.specs.grammar.Factored.{look, expr_first, amount_form, part_form, dotted_member_form, member_form, named_form, parenthesis_form, unary_sign_form, signed_form, product_sign_form, sum_sign_form, compare_sign_form}
 use Rattle.model_reader.specs.grammar.Rules.{Rule, expr_rule, and_rule, compare_rule, sum_rule, product_rule, unary_rule, primary_rule}
 use Rattle.model_reader.specs.reading.Expressions.{Readers, amount_leaf_at, truth_leaf_at, variant_at, part_read_at, dotted_member_at, member_at, named_at, parentheses_at, opening, is_amount, parenthesis_at, primary_at, unary_sign_at, signed_at, is_unary_sign, unary_at, operated_at, operation_at, chain_at, is_product_sign, product_sign_at, product_at, is_sum_sign, sum_sign_at, sum_at, is_compare_sign, compare_sign_at, comparison_at, conjunction_at, disjunction_at, readers_by, inner_readers, whole_at, expr_at, begins_expr}
@@ -141,7 +141,7 @@ module _ (room : ℕ) (is_sign : Mark → Bool) (sign : List Mark → Parsed Ope
       and_then _ (first_conforms marks) (λ left rest. repeated_conforms _ operation_begins (and_left (nullable look sign_form) (nullable look a) some) (λ now here next. operation_conforms now here next))
 
 -- the rule of a part
-abbrev pub rule_of : Part → Rule
+abbrev pub rule_of : Precedence → Rule
 rule_of Expr = expr_rule
 rule_of Conjunction = and_rule
 rule_of Comparison = compare_rule
@@ -151,7 +151,7 @@ rule_of Unary = unary_rule
 
 -- each of the readers follows its rule
 abbrev pub FollowTheirRules : Readers → Type 0
-FollowTheirRules inner = (part : Part) (marks : List Mark) → Along (rule (rule_of part)) marks (inner part marks)
+FollowTheirRules inner = (part : Precedence) (marks : List Mark) → Along (rule (rule_of part)) marks (inner part marks)
 
 -- The readers where so many levels may be opened follow their rules if those with one level less do. Where no level may be
 -- opened those are not asked.

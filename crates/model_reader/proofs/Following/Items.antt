@@ -1,24 +1,20 @@
 -- What is read of the items of a model conforms to the grammar of models, the limits of how many of each it has included: they
 -- are passed at the mark that begins one.
 use Rattle.std.proofs.Common.{◌≡◌, true, List, [], ◌∷◌, length, nat_le, refl}
-use Rattle.aerie_base.specs.models.Limits.{parameter_limit, variant_limit, require_limit}
-use Rattle.readers.specs.declared.limits.Limit.TheVariants.{Parameters, Variants, Requires}
 use Rattle.readers.specs.Marks.{Mark}
 use Rattle.aerie_text.specs.declared.sorts.Sort.{Sort}
 use Rattle.aerie_text.specs.declared.sorts.Sort.TheVariants as sort
 use Rattle.readers.specs.grammar.Forms.{Form, token, rule, many, option}
 use Rattle.readers.specs.grammar.Lookahead.{next_in_first}
 use Rattle.readers.specs.Parsed.{is_of, is_one_of, next_is}
-use Rattle.readers.proofs.Conforming.{Begins, begins_both, begins_either, begins_rule, begins_here, in_table, and_then, then_value, value, either_conforms, option_conforms, chosen_conforms, repeated_conforms, separated_conforms, rule_conforms, limited_conforms, failed_conforms}
-use Rattle.model_reader.specs.declared.raw.expressions.RawExpr.{RawExpr}
-use Rattle.model_reader.specs.declared.raw.items.RawParameter.{RawParameter}
-use Rattle.model_reader.specs.declared.raw.names.RawName.{RawName}
+use Rattle.readers.proofs.Conforming.{Begins, begins_both, begins_either, begins_rule, begins_here, in_table, and_then, then_value, value, either_conforms, option_conforms, chosen_conforms, repeated_conforms, rule_conforms, limited_conforms, failed_conforms}
+use Rattle.readers.proofs.Listing.{listed_conforms, parenthesized_conforms, row_conforms}
 use Rattle.model_reader.specs.declared.reading.declarations.Declarations.{Declarations}
 use Rattle.model_reader.specs.declared.reading.declarations.ItemKind.{ItemKind}
 use Rattle.model_reader.specs.declared.reading.declarations.ItemKind.TheVariants as kind
-use Rattle.model_reader.specs.grammar.Factored.{look, item_first, variant_list_form, variants_form, enum_form, counter_form, register_form, accumulator_form, cell_form, discrete_form, linear_form, resource_form, given_default_form, default_form, parameter_list_form, parameters_form, given_result_form, result_form, require_form, activity_body_form, activity_form, daemon_form}
+use Rattle.model_reader.specs.grammar.Factored.{look, item_first, variants_form, enum_form, counter_form, register_form, accumulator_form, cell_form, discrete_form, linear_form, resource_form, given_default_form, default_form, parameters_form, given_result_form, result_form, require_form, activity_body_form, activity_form, daemon_form}
 use Rattle.model_reader.specs.grammar.Rules.{Rule, item_rule, param_rule, int_rule}
-use Rattle.model_reader.specs.reading.Items.{named_variant_at, variant_turn_at, some_variants_at, variants_at, enum_at, counter_at, register_at, int_literal_at, accumulator_at, discrete_at, linear_at, given_default_at, default_at, param_at, added_param_at, param_turn_at, some_params_at, optional_params_at, params_at, given_result_at, result_at, require_at, require_turn_at, requires_at, activity_body_at, activity_at, daemon_at, kind_at, declared_at, turn_at, cell_at, resource_at, item_at, begins_item, items_at}
+use Rattle.model_reader.specs.reading.Items.{most_variants, most_parameters, most_requires, variants_at, enum_at, counter_at, register_at, int_literal_at, accumulator_at, discrete_at, linear_at, given_default_at, default_at, param_at, params_at, given_result_at, result_at, require_at, requires_at, activity_body_at, activity_at, daemon_at, kind_at, declared_at, turn_at, cell_at, resource_at, item_at, begins_item, items_at}
 use Rattle.model_reader.proofs.Following.Expressions.{expr_conforms}
 use Rattle.model_reader.proofs.Following.Literals.{int_conforms, literal_conforms}
 use Rattle.model_reader.proofs.Following.Names.{Along, begins_with, take_conforms, raw_name_conforms}
@@ -28,24 +24,10 @@ use Rattle.model_reader.proofs.Grammar.Predictive.{predictive}
 
 -- ---- enumerations
 
-named_variant_conforms : (variants : List RawName) (marks : List Mark) → Along (token sort.Name) marks (named_variant_at variants marks)
-unfolding named_variant_at
-named_variant_conforms variants marks = then_value _ (raw_name_conforms marks) (λ name rest. value)
-
-variant_turn_conforms : (variants : List RawName) (marks : List Mark) → Along (token sort.Name) marks (variant_turn_at variants marks)
-unfolding variant_turn_at
-variant_turn_conforms variants marks =
-    chosen_conforms _ _ _ (λ next. limited_conforms (nat_le variant_limit (length variants)) Variants (named_variant_at variants) predictive (λ past. begins_here marks (begins_with sort.Name) next) (λ within. named_variant_conforms variants marks))
-    (λ next. failed_conforms (begins_here marks (begins_with sort.Name) next) refl)
-
-some_variants_conform : (marks : List Mark) → Along variant_list_form marks (some_variants_at marks)
-unfolding some_variants_at
-some_variants_conform marks = separated_conforms sort.Comma _ (λ k. refl) variant_turn_conforms
-
 variants_conform : (marks : List Mark) → Along variants_form marks (variants_at marks)
 unfolding variants_at
 variants_conform marks =
-    and_then _ (take_conforms sort.OpenBrace marks) (λ brace rest. and_then _ (some_variants_conform rest) (λ variants behind. then_value _ (take_conforms sort.CloseBrace behind) (λ close left. value)))
+    and_then _ (take_conforms sort.OpenBrace marks) (λ brace rest. and_then _ (listed_conforms predictive sort.Name (λ k. refl) (begins_with sort.Name) refl raw_name_conforms most_variants rest) (λ variants behind. then_value _ (take_conforms sort.CloseBrace behind) (λ close left. value)))
 
 enum_conforms : (marks : List Mark) → Along enum_form marks (enum_at marks)
 unfolding enum_at
@@ -118,32 +100,9 @@ param_conforms marks =
     rule_conforms predictive (and_then _ (raw_name_conforms marks) (λ name rest. and_then _ (take_conforms sort.Colon rest) (λ colon behind. and_then _ (type_conforms behind)
     (λ kind left. then_value _ (default_conforms left) (λ default last. value)))))
 
-added_param_conforms : (parameters : List RawParameter) (marks : List Mark) → Along (rule param_rule) marks (added_param_at parameters marks)
-unfolding added_param_at
-added_param_conforms parameters marks = then_value _ (param_conforms marks) (λ last rest. value)
-
-param_rule_begins : Begins look (is_of sort.Name) (rule param_rule)
-param_rule_begins = begins_rule (in_table (sort.Name ∷ []))
-
-param_turn_conforms : (parameters : List RawParameter) (marks : List Mark) → Along (rule param_rule) marks (param_turn_at parameters marks)
-unfolding param_turn_at
-param_turn_conforms parameters marks =
-    chosen_conforms _ _ _ (λ next. limited_conforms (nat_le parameter_limit (length parameters)) Parameters (added_param_at parameters) predictive (λ past. begins_here marks param_rule_begins next) (λ within. added_param_conforms parameters marks))
-    (λ next. failed_conforms (begins_here marks param_rule_begins next) refl)
-
-some_params_conform : (marks : List Mark) → Along parameter_list_form marks (some_params_at marks)
-unfolding some_params_at
-some_params_conform marks = separated_conforms sort.Comma _ (λ k. refl) param_turn_conforms
-
-optional_params_conform : (marks : List Mark) → Along (option parameter_list_form) marks (optional_params_at marks)
-unfolding optional_params_at
-optional_params_conform marks = option_conforms _ _ (begins_both param_rule_begins refl) (λ next. some_params_conform marks) value
-
 params_conform : (marks : List Mark) → Along parameters_form marks (params_at marks)
 unfolding params_at
-params_conform marks =
-    and_then _ (take_conforms sort.OpenParenthesis marks) (λ parenthesis rest. and_then _ (optional_params_conform rest)
-    (λ parameters behind. then_value _ (take_conforms sort.CloseParenthesis behind) (λ close left. value)))
+params_conform marks = parenthesized_conforms predictive sort.Name (λ k. refl) (λ k. refl) (λ k. refl) (begins_rule (in_table (sort.Name ∷ []))) refl param_conforms most_parameters marks
 
 given_result_conforms : (marks : List Mark) → Along given_result_form marks (given_result_at marks)
 unfolding given_result_at
@@ -153,22 +112,14 @@ result_conforms : (marks : List Mark) → Along result_form marks (result_at mar
 unfolding result_at
 result_conforms marks = option_conforms _ _ (begins_both (begins_with sort.Arrow) refl) (λ next. given_result_conforms marks) value
 
-require_conforms : (conditions : List RawExpr) (marks : List Mark) → Along require_form marks (require_at conditions marks)
+require_conforms : (marks : List Mark) → Along require_form marks (require_at marks)
 unfolding require_at
-require_conforms conditions marks =
+require_conforms marks =
     and_then _ (take_conforms sort.Require marks) (λ word rest. and_then _ (expr_conforms rest) (λ condition behind. then_value _ (take_conforms sort.Semicolon behind) (λ end left. value)))
-
-require_begins : Begins look (is_of sort.Require) require_form
-require_begins = begins_both (begins_with sort.Require) refl
-
-require_turn_conforms : (conditions : List RawExpr) (marks : List Mark) → next_is sort.Require marks ≡ true → Along require_form marks (require_turn_at conditions marks)
-unfolding require_turn_at
-require_turn_conforms conditions marks next =
-    limited_conforms (nat_le require_limit (length conditions)) Requires (require_at conditions) predictive (λ past. begins_here marks require_begins next) (λ within. require_conforms conditions marks)
 
 requires_conform : (marks : List Mark) → Along (many require_form) marks (requires_at marks)
 unfolding requires_at
-requires_conform marks = repeated_conforms _ require_begins refl (λ now here next. require_turn_conforms now here next)
+requires_conform marks = row_conforms predictive (sort.Require ∷ []) (begins_both (begins_with sort.Require) refl) refl require_conforms most_requires marks
 
 activity_body_conforms : (marks : List Mark) → Along activity_body_form marks (activity_body_at marks)
 unfolding activity_body_at

@@ -1,6 +1,6 @@
 -- What is read of statements and blocks conforms to the grammar of models, the limits of a body included: they are passed at
 -- the mark that begins a statement or a block.
-use Rattle.std.proofs.Common.{◌≡◌, ℕ, zero, suc, true, false, ◌==◌, List, [], ◌∷◌, refl}
+use Rattle.std.proofs.Common.{◌≡◌, ℕ, zero, suc, true, false, ◌==◌, List, [], ◌∷◌, None, refl}
 use Rattle.aerie_base.specs.declared.places.Place.{Place}
 use Rattle.aerie_base.specs.models.Limits.{depth_limit, statement_limit}
 use Rattle.readers.specs.declared.limits.Limit.TheVariants.{Statements}
@@ -8,46 +8,32 @@ use Rattle.readers.specs.Marks.{Mark}
 use Rattle.aerie_text.specs.declared.sorts.Sort.TheVariants as sort
 use Rattle.readers.specs.grammar.Forms.{rule, both, many, option}
 use Rattle.readers.specs.Parsed.{is_of, next_fits}
-use Rattle.readers.proofs.Conforming.{Begins, begins_both, begins_rule, begins_here, in_table, and_then, then_value, value, either_conforms, option_conforms, chosen_conforms, repeated_conforms, separated_conforms, rule_conforms, limited_conforms, failed_conforms}
+use Rattle.readers.proofs.Conforming.{Begins, begins_both, begins_rule, begins_here, in_table, and_then, then_value, value, either_conforms, option_conforms, chosen_conforms, repeated_conforms, rule_conforms, limited_conforms, failed_conforms}
+use Rattle.readers.proofs.Listing.{parenthesized_conforms}
 use Rattle.model_reader.specs.declared.raw.expressions.RawExpr.{RawExpr}
 use Rattle.model_reader.specs.declared.raw.names.RawName.{RawName}
 use Rattle.model_reader.specs.declared.reading.body.Body.{Body}
-use Rattle.model_reader.specs.declared.reading.change.Change.TheVariants as change
+use Rattle.model_reader.specs.declared.reading.assignment_operator.AssignmentOperator.TheVariants as change
 use Rattle.model_reader.specs.declared.reading.child_start.ChildStart.TheVariants as start
-use Rattle.model_reader.specs.grammar.Factored.{look, stmt_first, simple_form, argument_form, argument_list_form, arguments_form, let_call_form, let_value_form, let_form, changed_part_form, part_change_form, change_sign_form, change_form, delay_form, wait_form, start_word_form, start_form, given_else_form, else_form, if_form, while_form, return_form, block_form}
+use Rattle.model_reader.specs.grammar.Factored.{look, stmt_first, simple_form, argument_form, let_call_form, let_value_form, let_form, changed_part_form, part_change_form, change_sign_form, change_form, delay_form, wait_form, start_word_form, start_form, given_else_form, else_form, if_form, while_form, return_form, block_form}
 use Rattle.model_reader.specs.grammar.Rules.{stmt_rule, block_rule, invoke_rule, expr_rule}
-use Rattle.model_reader.specs.reading.Statements.{argument_at, some_arguments_at, optional_arguments_at, arguments_at, invoke_at, let_call_at, let_expr_at, let_value_at, let_at, part_change_word_at, part_change_at, change_sign_at, change_at, delay_at, wait_at, start_word_at, start_at, some_expr_at, optional_expr_at, return_at, Blocks, opened_block_at, block_at, else_block_at, else_at, choice_at, if_at, while_at, simple_at, simple_turn_at, stmt_at, stmt_turn_at, begins_stmt, stmts_by, inner_blocks, body_at}
+use Rattle.model_reader.specs.reading.Statements.{argument_at, invoke_at, let_call_at, let_expr_at, let_value_at, let_at, part_change_word_at, part_change_at, change_sign_at, change_at, delay_at, wait_at, start_word_at, start_at, some_expr_at, optional_expr_at, return_at, Blocks, opened_block_at, block_at, else_block_at, else_at, choice_at, if_at, while_at, simple_at, simple_turn_at, stmt_at, stmt_turn_at, begins_stmt, stmts_by, inner_blocks, body_at}
 use Rattle.model_reader.proofs.Following.Expressions.{expr_rule_begins, expr_conforms}
 use Rattle.model_reader.proofs.Following.Names.{Along, begins_with, take_conforms, raw_name_conforms, begins_with_one_of, word_conforms, one_standing_for_conforms}
 use Rattle.model_reader.proofs.Grammar.Predictive.{predictive}
 
 -- ---- activities with arguments
 
-argument_conforms : (arguments : List (RawName × RawExpr)) (marks : List Mark) → Along argument_form marks (argument_at arguments marks)
+argument_conforms : (marks : List Mark) → Along argument_form marks (argument_at marks)
 unfolding argument_at
-argument_conforms arguments marks =
+argument_conforms marks =
     and_then _ (raw_name_conforms marks) (λ name rest. and_then _ (take_conforms sort.Assign rest) (λ equals behind. then_value _ (expr_conforms behind) (λ given left. value)))
-
-argument_list_begins : Begins look (is_of sort.Name) argument_list_form
-argument_list_begins = begins_both (begins_both (begins_with sort.Name) refl) refl
-
-some_arguments_conform : (marks : List Mark) → Along argument_list_form marks (some_arguments_at marks)
-unfolding some_arguments_at
-some_arguments_conform marks = separated_conforms sort.Comma _ (λ k. refl) argument_conforms
-
-optional_arguments_conform : (marks : List Mark) → Along (option argument_list_form) marks (optional_arguments_at marks)
-unfolding optional_arguments_at
-optional_arguments_conform marks = option_conforms _ _ argument_list_begins (λ next. some_arguments_conform marks) value
-
-arguments_conform : (marks : List Mark) → Along arguments_form marks (arguments_at marks)
-unfolding arguments_at
-arguments_conform marks =
-    and_then _ (take_conforms sort.OpenParenthesis marks) (λ parenthesis rest. and_then _ (optional_arguments_conform rest)
-    (λ arguments behind. then_value _ (take_conforms sort.CloseParenthesis behind) (λ close left. value)))
 
 invoke_conforms : (marks : List Mark) → Along (rule invoke_rule) marks (invoke_at marks)
 unfolding invoke_at
-invoke_conforms marks = rule_conforms predictive (and_then _ (raw_name_conforms marks) (λ name rest. then_value _ (arguments_conform rest) (λ arguments behind. value)))
+invoke_conforms marks =
+    rule_conforms predictive (and_then _ (raw_name_conforms marks) (λ name rest. then_value _
+    (parenthesized_conforms predictive sort.Name (λ k. refl) (λ k. refl) (λ k. refl) (begins_both (begins_with sort.Name) refl) refl argument_conforms None rest) (λ arguments behind. value)))
 
 -- ---- statements without blocks
 

@@ -18,10 +18,10 @@ use Rattle.model_reader.specs.declared.raw.expressions.RawExprKind.{RawExprKind,
 use Rattle.model_reader.specs.declared.raw.literals.RawLiteralKind.TheVariants as literal
 use Rattle.model_reader.specs.declared.raw.names.RawName.{RawName}
 use Rattle.model_reader.specs.declared.raw.reads.RawPart.TheVariants as part
-use Rattle.model_reader.specs.declared.reading.expressions.part.Part.{Part}
-use Rattle.model_reader.specs.declared.reading.expressions.part.Part.TheVariants.{Expr, Conjunction, Comparison, Sum, Product, Unary}
-use Rattle.model_reader.specs.declared.reading.expressions.part.Sign.{Sign}
-use Rattle.model_reader.specs.declared.reading.expressions.part.Sign.TheVariants.{Minus, Exclamation}
+use Rattle.model_reader.specs.declared.reading.expressions.precedence.Precedence.{Precedence}
+use Rattle.model_reader.specs.declared.reading.expressions.precedence.Precedence.TheVariants.{Expr, Conjunction, Comparison, Sum, Product, Unary}
+use Rattle.model_reader.specs.declared.reading.expressions.precedence.Sign.{Sign}
+use Rattle.model_reader.specs.declared.reading.expressions.precedence.Sign.TheVariants.{Minus, Exclamation}
 use Rattle.model_reader.specs.declared.reading.with_height.WithHeight.{WithHeight}
 use Rattle.model_reader.specs.reading.Literals.{amount_at}
 use Rattle.model_reader.specs.reading.Names.{raw_name_at, standing_for, one_standing_for}
@@ -29,7 +29,7 @@ use Rattle.model_reader.specs.reading.Types.{part_at}
 
 -- The readers of the parts of an expression, where so many levels may still be opened.
 abbrev pub Readers : Type 0
-Readers = Part → List Mark → Parsed WithHeight
+Readers = Precedence → List Mark → Parsed WithHeight
 
 -- ---- primaries
 
@@ -147,8 +147,8 @@ abbrev pub higher : ℕ → ℕ → ℕ
 higher a b = if nat_le a b then b else a
 
 -- an operator between two expressions
-abbrev pub joined : Operator → WithHeight → WithHeight → WithHeight
-joined operator left right =
+abbrev pub binary : Operator → WithHeight → WithHeight → WithHeight
+binary operator left right =
     record {
       expr = record { at = left.expr.at; what = Binary operator left.expr right.expr };
       height = higher left.height right.height + 1;
@@ -159,7 +159,7 @@ unfoldable pub operated_at : (List Mark → Parsed Operator) → (List Mark → 
 operated_at sign operand left marks = do
   operator ← sign marks
   right ← operand operator.1
-  parsed (joined operator.0 left right.0) right.1
+  parsed (binary operator.0 left right.0) right.1
 
 -- the same; the operator opens one level more than there are in its left operand
 unfoldable pub operation_at : ℕ → (List Mark → Parsed Operator) → (List Mark → Parsed WithHeight) → WithHeight → List Mark → Parsed WithHeight
@@ -209,7 +209,7 @@ compare_sign_at marks =
     marks
 
 -- the operator before an operand that is this part: before a whole expression there is none
-abbrev pub sign_before : Part → List Mark → Parsed Operator
+abbrev pub sign_before : Precedence → List Mark → Parsed Operator
 sign_before Expr = failed
 sign_before Conjunction = standing_for sort.DoubleBar operator.Or
 sign_before Comparison = standing_for sort.DoubleAmpersand operator.And

@@ -2,9 +2,10 @@
 use Rattle.std.specs.Prelude.{ℕ, ◌+◌, Bool, List, [], ◌∷◌, ◌++◌, length, nat_le, Option, Some, None}
 use Rattle.aerie_base.specs.models.Limits.{cell_limit, type_limit, parameter_limit, enum_limit, variant_limit, resource_limit, daemon_limit, require_limit}
 use Rattle.readers.specs.declared.limits.Limit.TheVariants.{Cells, Types, Parameters, Enums, Variants, Resources, Daemons, Requires}
+use Rattle.readers.specs.Lists.{listed_at, parenthesized_at, row_at}
 use Rattle.readers.specs.Marks.{Mark}
 use Rattle.aerie_text.specs.declared.sorts.Sort.TheVariants as sort
-use Rattle.readers.specs.Parsed.{Parsed, parsed, failed, ◌>>=◌, next_is, next_is_one_of, is_of, is_one_of, chosen, limited, repeated, separated_at, take_at}
+use Rattle.readers.specs.Parsed.{Parsed, parsed, failed, ◌>>=◌, next_is, next_is_one_of, is_one_of, chosen, limited, repeated, take_at}
 use Rattle.model_reader.specs.declared.raw.expressions.RawExpr.{RawExpr}
 use Rattle.model_reader.specs.declared.raw.items.RawItem.{RawItem}
 use Rattle.model_reader.specs.declared.raw.items.RawItem.TheVariants as item
@@ -17,7 +18,7 @@ use Rattle.model_reader.specs.declared.raw.types.RawType.{RawType}
 use Rattle.model_reader.specs.declared.reading.declarations.Declarations.{Declarations}
 use Rattle.model_reader.specs.declared.reading.declarations.ItemKind.{ItemKind}
 use Rattle.model_reader.specs.declared.reading.declarations.ItemKind.TheVariants as kind
-use Rattle.readers.specs.declared.limits.Limit.{Limit}
+use Rattle.readers.specs.declared.lists.Most.{Most}
 use Rattle.model_reader.specs.reading.Expressions.{expr_at}
 use Rattle.model_reader.specs.reading.Literals.{int_at, literal_at}
 use Rattle.model_reader.specs.reading.Names.{raw_name_at}
@@ -26,26 +27,15 @@ use Rattle.model_reader.specs.reading.Types.{read_at, type_at}
 
 -- ---- enumerations
 
--- NAME, behind other variants
-unfoldable pub named_variant_at : List RawName → List Mark → Parsed (List RawName)
-named_variant_at variants marks = do
-  name ← raw_name_at marks
-  parsed (variants ++ name.0 ∷ []) name.1
-
--- the same, where the enumeration may have one more
-unfoldable pub variant_turn_at : List RawName → List Mark → Parsed (List RawName)
-variant_turn_at variants marks =
-    chosen (next_is sort.Name marks) (limited (nat_le variant_limit (length variants)) Variants (named_variant_at variants)) failed marks
-
--- NAME { "," NAME }
-unfoldable pub some_variants_at : List Mark → Parsed (List RawName)
-some_variants_at marks = separated_at sort.Comma variant_turn_at [] marks
+-- how many variants an enumeration may have
+abbrev pub most_variants : Option Most
+most_variants = Some (record { count = variant_limit; limit = Variants })
 
 -- "{" NAME { "," NAME } "}"
 unfoldable pub variants_at : List Mark → Parsed (List RawName)
 variants_at marks = do
   brace ← take_at sort.OpenBrace marks
-  variants ← some_variants_at brace.1
+  variants ← listed_at sort.Name most_variants raw_name_at brace.1
   close ← take_at sort.CloseBrace variants.1
   parsed variants.0 close.1
 
@@ -143,32 +133,13 @@ param_at marks = do
   default ← default_at kind.1
   parsed (record { name = name.0; kind = kind.0; default = default.0 }) default.1
 
--- param, behind other parameters
-unfoldable pub added_param_at : List RawParameter → List Mark → Parsed (List RawParameter)
-added_param_at parameters marks = do
-  last ← param_at marks
-  parsed (parameters ++ last.0 ∷ []) last.1
-
--- the same, where the activity may have one more
-unfoldable pub param_turn_at : List RawParameter → List Mark → Parsed (List RawParameter)
-param_turn_at parameters marks =
-    chosen (next_is sort.Name marks) (limited (nat_le parameter_limit (length parameters)) Parameters (added_param_at parameters)) failed marks
-
--- param { "," param }
-unfoldable pub some_params_at : List Mark → Parsed (List RawParameter)
-some_params_at marks = separated_at sort.Comma param_turn_at [] marks
-
--- [ param { "," param } ]
-unfoldable pub optional_params_at : List Mark → Parsed (List RawParameter)
-optional_params_at marks = chosen (next_is sort.Name marks) some_params_at (parsed []) marks
+-- how many parameters an activity type may have
+abbrev pub most_parameters : Option Most
+most_parameters = Some (record { count = parameter_limit; limit = Parameters })
 
 -- "(" [ param { "," param } ] ")"
 unfoldable pub params_at : List Mark → Parsed (List RawParameter)
-params_at marks = do
-  parenthesis ← take_at sort.OpenParenthesis marks
-  parameters ← optional_params_at parenthesis.1
-  close ← take_at sort.CloseParenthesis parameters.1
-  parsed parameters.0 close.1
+params_at marks = parenthesized_at sort.Name most_parameters param_at marks
 
 -- "->" type
 unfoldable pub given_result_at : List Mark → Parsed (Option RawType)
@@ -181,21 +152,21 @@ given_result_at marks = do
 unfoldable pub result_at : List Mark → Parsed (Option RawType)
 result_at marks = chosen (next_is sort.Arrow marks) given_result_at (parsed None) marks
 
--- "require" expr ";", behind others
-unfoldable pub require_at : List RawExpr → List Mark → Parsed (List RawExpr)
-require_at conditions marks = do
+-- "require" expr ";"
+unfoldable pub require_at : List Mark → Parsed RawExpr
+require_at marks = do
   word ← take_at sort.Require marks
   condition ← expr_at word.1
   end ← take_at sort.Semicolon condition.1
-  parsed (conditions ++ condition.0 ∷ []) end.1
+  parsed condition.0 end.1
 
--- the same, where the activity may have one more
-unfoldable pub require_turn_at : List RawExpr → List Mark → Parsed (List RawExpr)
-require_turn_at conditions marks = limited (nat_le require_limit (length conditions)) Requires (require_at conditions) marks
+-- how many requirements an activity type may have
+abbrev pub most_requires : Option Most
+most_requires = Some (record { count = require_limit; limit = Requires })
 
 -- { "require" expr ";" }
 unfoldable pub requires_at : List Mark → Parsed (List RawExpr)
-requires_at marks = repeated (is_of sort.Require) require_turn_at [] marks
+requires_at marks = row_at (sort.Require ∷ []) most_requires require_at marks
 
 -- "{" { "require" expr ";" } { stmt } "}"
 unfoldable pub activity_body_at : List Mark → Parsed (List RawExpr × List RawStmt)
@@ -232,28 +203,20 @@ abbrev pub none_declared : Declarations
 none_declared = record { items = []; enums = 0; cells = 0; resources = 0; types = 0; daemons = 0 }
 
 -- how many there are of a kind
-abbrev pub count_of : ItemKind → Declarations → ℕ
-count_of kind.Enum d = d.enums
-count_of kind.Cell d = d.cells
-count_of kind.Resource d = d.resources
-count_of kind.Activity d = d.types
-count_of kind.Daemon d = d.daemons
+abbrev pub declared_count : ItemKind → Declarations → ℕ
+declared_count kind.Enum d = d.enums
+declared_count kind.Cell d = d.cells
+declared_count kind.Resource d = d.resources
+declared_count kind.Activity d = d.types
+declared_count kind.Daemon d = d.daemons
 
--- how many there may be
-abbrev pub most_of : ItemKind → ℕ
-most_of kind.Enum = enum_limit
-most_of kind.Cell = cell_limit
-most_of kind.Resource = resource_limit
-most_of kind.Activity = type_limit
-most_of kind.Daemon = daemon_limit
-
--- the limit of their number
-abbrev pub limit_of : ItemKind → Limit
-limit_of kind.Enum = Enums
-limit_of kind.Cell = Cells
-limit_of kind.Resource = Resources
-limit_of kind.Activity = Types
-limit_of kind.Daemon = Daemons
+-- how many there may be, and the limit that more of them pass
+abbrev pub most_of : ItemKind → Most
+most_of kind.Enum = record { count = enum_limit; limit = Enums }
+most_of kind.Cell = record { count = cell_limit; limit = Cells }
+most_of kind.Resource = record { count = resource_limit; limit = Resources }
+most_of kind.Activity = record { count = type_limit; limit = Types }
+most_of kind.Daemon = record { count = daemon_limit; limit = Daemons }
 
 -- declarations and one more of a kind behind them
 abbrev pub with_item : ItemKind → Declarations → RawItem → Declarations
@@ -289,7 +252,8 @@ declared_at kind d marks = do
 
 -- the same, where the model may have one more of the kind
 unfoldable pub turn_at : ItemKind → Declarations → List Mark → Parsed Declarations
-turn_at kind d marks = limited (nat_le (most_of kind) (count_of kind d)) (limit_of kind) (declared_at kind d) marks
+turn_at kind d marks =
+    let most = most_of kind in limited (nat_le most.count (declared_count kind d)) most.limit (declared_at kind d) marks
 
 -- item, behind the others
 unfoldable pub item_at : Declarations → List Mark → Parsed Declarations

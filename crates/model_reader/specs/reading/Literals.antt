@@ -20,16 +20,16 @@ unfoldable pub sign_at : List Mark → Parsed (Option Place)
 sign_at marks = chosen (next_is sort.Minus marks) minus_at (parsed None) marks
 
 -- a number and the place where it begins, its sign included
-abbrev pub signed : Option Place → Place × ℤ → Place × ℤ
-signed (Some minus) number = (minus, neg_ℤ number.1)
-signed None number = number
+abbrev pub with_minus : Option Place → Place × ℤ → Place × ℤ
+with_minus (Some minus) number = (minus, neg_ℤ number.1)
+with_minus None number = number
 
 -- int = [ "-" ] NUMBER
 unfoldable pub int_at : List Mark → Parsed (Place × ℤ)
 int_at marks = do
   sign ← sign_at marks
   number ← number_at sort.Number sign.1
-  parsed (signed sign.0 number.0) number.1
+  parsed (with_minus sign.0 number.0) number.1
 
 -- NUMBER | DURATION, which is the number of its microseconds
 unfoldable pub amount_at : List Mark → Parsed (Place × ℤ)
@@ -40,7 +40,7 @@ unfoldable pub amount_literal_at : List Mark → Parsed RawLiteral
 amount_literal_at marks = do
   sign ← sign_at marks
   amount ← amount_at sign.1
-  let number = signed sign.0 amount.0 in parsed (record { at = number.0; what = kind.Number number.1 }) amount.1
+  let number = with_minus sign.0 amount.0 in parsed (record { at = number.0; what = kind.Number number.1 }) amount.1
 
 -- "true", or "false"
 unfoldable pub truth_literal_at : Sort → Bool → List Mark → Parsed RawLiteral

@@ -4,17 +4,18 @@ use Rattle.std.specs.Prelude.{ℕ, zero, suc, ◌-◌, ◌==◌, Bool, List, [],
 use Rattle.aerie_base.specs.declared.places.Place.{Place}
 use Rattle.aerie_base.specs.models.Limits.{depth_limit, statement_limit}
 use Rattle.readers.specs.declared.limits.Limit.TheVariants.{Depth, Statements}
+use Rattle.readers.specs.Lists.{parenthesized_at}
 use Rattle.readers.specs.Marks.{Mark}
 use Rattle.aerie_text.specs.declared.sorts.Sort.TheVariants as sort
-use Rattle.readers.specs.Parsed.{Parsed, parsed, failed, ◌>>=◌, next_is, next_fits, next_is_one_of, is_one_of, chosen, limited, repeated, separated_at, take_at, one_of_at}
+use Rattle.readers.specs.Parsed.{Parsed, parsed, failed, ◌>>=◌, next_is, next_fits, next_is_one_of, is_one_of, chosen, limited, repeated, take_at, one_of_at}
 use Rattle.model_reader.specs.declared.raw.expressions.RawExpr.{RawExpr}
 use Rattle.model_reader.specs.declared.raw.invokes.RawInvoke.{RawInvoke}
 use Rattle.model_reader.specs.declared.raw.names.RawName.{RawName}
 use Rattle.model_reader.specs.declared.raw.statements.RawStmt.{RawStmt}
 use Rattle.model_reader.specs.declared.raw.statements.RawStmtKind.{RawStmtKind, Let, LetCall, Assign, Add, Put, AddVolume, AddRate, Delay, WaitUntil, Spawn, Call, If, While, Return}
 use Rattle.model_reader.specs.declared.reading.body.Body.{Body}
-use Rattle.model_reader.specs.declared.reading.change.Change.{Change}
-use Rattle.model_reader.specs.declared.reading.change.Change.TheVariants as change
+use Rattle.model_reader.specs.declared.reading.assignment_operator.AssignmentOperator.{AssignmentOperator}
+use Rattle.model_reader.specs.declared.reading.assignment_operator.AssignmentOperator.TheVariants as change
 use Rattle.model_reader.specs.declared.reading.child_start.ChildStart.{ChildStart}
 use Rattle.model_reader.specs.declared.reading.child_start.ChildStart.TheVariants as start
 use Rattle.model_reader.specs.reading.Expressions.{expr_at, begins_expr}
@@ -22,35 +23,19 @@ use Rattle.model_reader.specs.reading.Names.{raw_name_at, one_standing_for}
 
 -- ---- activities with arguments
 
--- NAME "=" expr, behind other arguments
-unfoldable pub argument_at : List (RawName × RawExpr) → List Mark → Parsed (List (RawName × RawExpr))
-argument_at arguments marks = do
+-- NAME "=" expr
+unfoldable pub argument_at : List Mark → Parsed (RawName × RawExpr)
+argument_at marks = do
   name ← raw_name_at marks
   equals ← take_at sort.Assign name.1
   value ← expr_at equals.1
-  parsed (arguments ++ (name.0, value.0) ∷ []) value.1
-
--- NAME "=" expr { "," NAME "=" expr }
-unfoldable pub some_arguments_at : List Mark → Parsed (List (RawName × RawExpr))
-some_arguments_at marks = separated_at sort.Comma argument_at [] marks
-
--- [ NAME "=" expr { "," NAME "=" expr } ]
-unfoldable pub optional_arguments_at : List Mark → Parsed (List (RawName × RawExpr))
-optional_arguments_at marks = chosen (next_is sort.Name marks) some_arguments_at (parsed []) marks
-
--- "(" [ NAME "=" expr { "," NAME "=" expr } ] ")"
-unfoldable pub arguments_at : List Mark → Parsed (List (RawName × RawExpr))
-arguments_at marks = do
-  parenthesis ← take_at sort.OpenParenthesis marks
-  arguments ← optional_arguments_at parenthesis.1
-  close ← take_at sort.CloseParenthesis arguments.1
-  parsed arguments.0 close.1
+  parsed (name.0, value.0) value.1
 
 -- invoke = NAME "(" [ NAME "=" expr { "," NAME "=" expr } ] ")"
 unfoldable pub invoke_at : List Mark → Parsed RawInvoke
 invoke_at marks = do
   name ← raw_name_at marks
-  arguments ← arguments_at name.1
+  arguments ← parenthesized_at sort.Name None argument_at name.1
   parsed (record { name = name.0; arguments = arguments.0 }) arguments.1
 
 -- ---- statements without blocks
@@ -86,11 +71,11 @@ let_at marks = do
   parsed (stmt word.0 value.0) end.1
 
 -- "volume" | "rate"
-unfoldable pub part_change_word_at : List Mark → Parsed Change
+unfoldable pub part_change_word_at : List Mark → Parsed AssignmentOperator
 part_change_word_at marks = one_standing_for ((sort.Volume, change.AddVolume) ∷ (sort.Rate, change.AddRate) ∷ []) marks
 
 -- "." ( "volume" | "rate" ) "+="
-unfoldable pub part_change_at : List Mark → Parsed Change
+unfoldable pub part_change_at : List Mark → Parsed AssignmentOperator
 part_change_at marks = do
   dot ← take_at sort.Dot marks
   how ← part_change_word_at dot.1
@@ -98,19 +83,19 @@ part_change_at marks = do
   parsed how.0 sign.1
 
 -- "=" | "+=" | ":=" | "." ( "volume" | "rate" ) "+="
-unfoldable pub change_sign_at : List Mark → Parsed Change
+unfoldable pub change_sign_at : List Mark → Parsed AssignmentOperator
 change_sign_at marks =
     chosen (next_is_one_of (sort.Assign ∷ sort.PlusAssign ∷ sort.ColonAssign ∷ []) marks)
     (one_standing_for ((sort.Assign, change.Assign) ∷ (sort.PlusAssign, change.Add) ∷ (sort.ColonAssign, change.Put) ∷ []))
     part_change_at marks
 
 -- what the change of a local or a cell is as a statement
-abbrev pub changed : Change → RawName → RawExpr → RawStmtKind
-changed change.Assign name value = Assign name value
-changed change.Add name value = Add name value
-changed change.Put name value = Put name value
-changed change.AddVolume name value = AddVolume name value
-changed change.AddRate name value = AddRate name value
+abbrev pub statement_of : AssignmentOperator → RawName → RawExpr → RawStmtKind
+statement_of change.Assign name value = Assign name value
+statement_of change.Add name value = Add name value
+statement_of change.Put name value = Put name value
+statement_of change.AddVolume name value = AddVolume name value
+statement_of change.AddRate name value = AddRate name value
 
 -- NAME ( "=" | "+=" | ":=" | "." ( "volume" | "rate" ) "+=" ) expr ";"
 unfoldable pub change_at : List Mark → Parsed RawStmt
@@ -119,7 +104,7 @@ change_at marks = do
   how ← change_sign_at name.1
   value ← expr_at how.1
   end ← take_at sort.Semicolon value.1
-  parsed (stmt name.0.at (changed how.0 name.0 value.0)) end.1
+  parsed (stmt name.0.at (statement_of how.0 name.0 value.0)) end.1
 
 -- "delay" expr ";"
 unfoldable pub delay_at : List Mark → Parsed RawStmt

@@ -5,15 +5,15 @@ ghost use Rattle.std.specs.Prelude.{◌≡◌, IfOk};
 use aerie_base::{List, OutOfMemory};
 use std::alloc::Global;
 
-/// A part that can be copied into memory of its own.
-pub(crate) trait Part: Sized {
+/// What is written can be copied into memory of its own.
+pub(crate) trait RawData: Sized {
     /// An equal part.
     fn copied(&self, alloc: Global) -> Result<Self, OutOfMemory>
         ensures { IfOk result (λ copy. copy ≡ self.now) };
 }
 
 /// An equal list, at a cost linear in its size.
-pub(crate) fn copy_all<T: Part + Drop>(
+pub(crate) fn copy_all<T: RawData + Drop>(
     alloc: Global,
     parts: &List<T>,
 ) -> Result<List<T>, OutOfMemory>
@@ -26,20 +26,16 @@ pub(crate) fn copy_all<T: Part + Drop>(
     Ok(copies)
 }
 
-/// An equal part, where there is one.
-pub(crate) fn copy_option<T: Part + Drop>(
-    alloc: Global,
-    part: &Option<T>,
-) -> Result<Option<T>, OutOfMemory>
-    ensures { IfOk result (λ copy. copy ≡ part.now) }
-{
-    match part {
-        None => Ok(None),
-        Some(part) => Ok(Some(part.copied(alloc)?)),
+impl<T: RawData + Drop> RawData for Option<T> {
+    fn copied(&self, alloc: Global) -> Result<Option<T>, OutOfMemory> {
+        match self {
+            None => Ok(None),
+            Some(part) => Ok(Some(part.copied(alloc)?)),
+        }
     }
 }
 
-impl<A: Part + Drop, B: Part + Drop> Part for (A, B) {
+impl<A: RawData + Drop, B: RawData + Drop> RawData for (A, B) {
     fn copied(&self, alloc: Global) -> Result<(A, B), OutOfMemory> {
         let first = self.0.copied(alloc)?;
         Ok((first, self.1.copied(alloc)?))

@@ -1,18 +1,17 @@
 ghost use Rattle.std.specs.Prelude.{◌≡◌, IfOk};
 
-use crate::raw::copies::Part;
+use crate::raw::copies::RawData;
 use crate::raw::literals::RawLiteralKind;
 use crate::raw::reads::RawRead;
 use aerie_base::{Boxed, Operator, OutOfMemory, Place};
 use std::alloc::Global;
 
-/// An expression where it stands. Parentheses leave no other trace than its place.
+/// An expression, and the place of its first token, an opening parenthesis or a `-` included. Parentheses leave no other
+/// trace.
 #[cycle(expression)]
 #[derive(Debug, Drop)]
 pub struct RawExpr {
-    /// The place of its first token, an opening parenthesis or a `-` included.
     pub at: Place,
-    /// What it is.
     pub what: RawExprKind,
 }
 
@@ -30,11 +29,8 @@ pub enum RawExprKind {
     Negate(Boxed<RawExpr>),
     /// An operator between its left and its right side.
     Binary {
-        /// The operator.
         operator: Operator,
-        /// What stands left of it.
         left: Boxed<RawExpr>,
-        /// What stands right of it.
         right: Boxed<RawExpr>,
     },
 }
@@ -57,36 +53,33 @@ impl RawExprKind {
         ensures { IfOk result (λ copy. copy ≡ self.now) }
     {
         match self {
-            RawExprKind::Literal(literal) => Ok(RawExprKind::Literal(literal.copy(alloc)?)),
-            RawExprKind::Read(read) => Ok(RawExprKind::Read(read.copy(alloc)?)),
-            RawExprKind::Not(inner) => {
-                let inner = inner.get().copy(alloc)?;
-                Ok(RawExprKind::Not(Boxed::new(alloc, inner)?))
-            }
-            RawExprKind::Negate(inner) => {
-                let inner = inner.get().copy(alloc)?;
-                Ok(RawExprKind::Negate(Boxed::new(alloc, inner)?))
-            }
+            RawExprKind::Literal(literal) => Ok(RawExprKind::Literal(literal.copied(alloc)?)),
+            RawExprKind::Read(read) => Ok(RawExprKind::Read(read.copied(alloc)?)),
+            RawExprKind::Not(inner) => Ok(RawExprKind::Not(copy_boxed(alloc, inner)?)),
+            RawExprKind::Negate(inner) => Ok(RawExprKind::Negate(copy_boxed(alloc, inner)?)),
             RawExprKind::Binary {
                 operator,
                 left,
                 right,
-            } => {
-                let left = left.get().copy(alloc)?;
-                let left = Boxed::new(alloc, left)?;
-                let right = right.get().copy(alloc)?;
-                let right = Boxed::new(alloc, right)?;
-                Ok(RawExprKind::Binary {
-                    operator: *operator,
-                    left,
-                    right,
-                })
-            }
+            } => Ok(RawExprKind::Binary {
+                operator: *operator,
+                left: copy_boxed(alloc, left)?,
+                right: copy_boxed(alloc, right)?,
+            }),
         }
     }
 }
 
-impl Part for RawExpr {
+/// An equal operand.
+#[cycle(copy)]
+fn copy_boxed(alloc: Global, operand: &Boxed<RawExpr>) -> Result<Boxed<RawExpr>, OutOfMemory>
+    ensures { IfOk result (λ copy. copy ≡ operand.now) }
+{
+    let copy = operand.get().copy(alloc)?;
+    Boxed::new(alloc, copy)
+}
+
+impl RawData for RawExpr {
     fn copied(&self, alloc: Global) -> Result<RawExpr, OutOfMemory> {
         self.copy(alloc)
     }

@@ -1,6 +1,4 @@
-ghost use Rattle.std.specs.Prelude.{◌≡◌, IfOk};
-
-use crate::raw::copies::Part;
+use crate::raw::copies::RawData;
 use crate::raw::names::RawName;
 use aerie_base::{Number, OutOfMemory, Place};
 use std::alloc::Global;
@@ -12,29 +10,19 @@ pub enum RawLiteralKind {
     Number(Number),
     /// `true` or `false`
     Truth(bool),
-    /// A variant of an enumeration, `Kind.Variant`.
-    Variant {
-        /// The name of the enumeration.
-        kind: RawName,
-        /// The name of the variant.
-        variant: RawName,
-    },
+    /// `kind.variant`: a variant of an enumeration, by the names of both.
+    Variant { kind: RawName, variant: RawName },
 }
 
-/// A literal where it stands.
+/// A literal, and the place of its first token, a `-` included.
 #[derive(Debug, Drop)]
 pub struct RawLiteral {
-    /// The place of its first token, a `-` included.
     pub at: Place,
-    /// What it means.
     pub what: RawLiteralKind,
 }
 
-impl RawLiteralKind {
-    /// An equal literal.
-    pub fn copy(&self, alloc: Global) -> Result<RawLiteralKind, OutOfMemory>
-        ensures { IfOk result (λ copy. copy ≡ self.now) }
-    {
+impl RawData for RawLiteralKind {
+    fn copied(&self, alloc: Global) -> Result<RawLiteralKind, OutOfMemory> {
         match self {
             RawLiteralKind::Number(number) => Ok(RawLiteralKind::Number(*number)),
             RawLiteralKind::Truth(truth) => Ok(RawLiteralKind::Truth(*truth)),
@@ -47,18 +35,9 @@ impl RawLiteralKind {
     }
 }
 
-impl RawLiteral {
-    /// An equal literal at the same place.
-    pub fn copy(&self, alloc: Global) -> Result<RawLiteral, OutOfMemory>
-        ensures { IfOk result (λ copy. copy ≡ self.now) }
-    {
-        let what = self.what.copy(alloc)?;
-        Ok(RawLiteral { at: self.at, what })
-    }
-}
-
-impl Part for RawLiteral {
+impl RawData for RawLiteral {
     fn copied(&self, alloc: Global) -> Result<RawLiteral, OutOfMemory> {
-        self.copy(alloc)
+        let what = self.what.copied(alloc)?;
+        Ok(RawLiteral { at: self.at, what })
     }
 }

@@ -6,12 +6,10 @@ use crate::raw::names::RawName;
 use aerie_base::{List, OutOfMemory};
 use std::alloc::Global;
 
-/// A model as it is written.
+/// A model as it is written: its name, and its declarations in the text's order.
 #[derive(Debug, Drop)]
 pub struct RawModel {
-    /// Its name.
     pub name: RawName,
-    /// Its declarations in the text's order.
     pub items: List<RawItem>,
 }
 

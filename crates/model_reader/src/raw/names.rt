@@ -1,15 +1,13 @@
 ghost use Rattle.std.specs.Prelude.{◌≡◌, IfOk};
 
-use crate::raw::copies::Part;
+use crate::raw::copies::RawData;
 use aerie_base::{Name, OutOfMemory, Place};
 use std::alloc::Global;
 
-/// A name where it stands.
+/// A name, and the place of its first letter.
 #[derive(Debug, Drop)]
 pub struct RawName {
-    /// The place of its first letter.
     pub at: Place,
-    /// The name.
     pub name: Name,
 }
 
@@ -23,7 +21,7 @@ impl RawName {
     }
 }
 
-impl Part for RawName {
+impl RawData for RawName {
     fn copied(&self, alloc: Global) -> Result<RawName, OutOfMemory> {
         self.copy(alloc)
     }

@@ -1,5 +1,4 @@
-ghost use Rattle.std.specs.Prelude.{◌≡◌, IfOk};
-
+use crate::raw::copies::RawData;
 use crate::raw::names::RawName;
 use aerie_base::OutOfMemory;
 use std::alloc::Global;
@@ -17,24 +16,17 @@ pub enum RawPart {
     Conflicted,
 }
 
-/// A read of a local or of a cell.
+/// A read of a local or of a cell, with whose name it begins, or of a part of it.
 #[derive(Debug, Drop)]
 pub struct RawRead {
-    /// The name of the local or the cell, with which the read begins.
     pub name: RawName,
-    /// Which part of it is read.
     pub part: RawPart,
 }
 
-impl RawRead {
-    /// An equal read.
-    pub fn copy(&self, alloc: Global) -> Result<RawRead, OutOfMemory>
-        ensures { IfOk result (λ copy. copy ≡ self.now) }
-    {
+impl RawData for RawRead {
+    fn copied(&self, alloc: Global) -> Result<RawRead, OutOfMemory> {
         let name = self.name.copy(alloc)?;
-        Ok(RawRead {
-            name,
-            part: self.part,
-        })
+        let part = self.part;
+        Ok(RawRead { name, part })
     }
 }

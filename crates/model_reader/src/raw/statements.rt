@@ -1,73 +1,57 @@
 ghost use Rattle.std.specs.Prelude.{◌≡◌, IfOk};
 
-use crate::raw::copies::copy_option;
+use crate::raw::copies::RawData;
 use crate::raw::expressions::RawExpr;
 use crate::raw::invokes::RawInvoke;
 use crate::raw::names::RawName;
 use aerie_base::{List, OutOfMemory, Place};
 use std::alloc::Global;
 
-/// A statement where it stands.
+/// A statement, and the place of its first token.
 #[cycle(statement)]
 #[derive(Debug, Drop)]
 pub struct RawStmt {
-    /// The place of its first token.
     pub at: Place,
-    /// What it is.
     pub what: RawStmtKind,
 }
 
-/// What a statement is.
+/// What a statement is. Each name is that of a local or a cell.
 #[cycle(statement)]
 #[derive(Debug, Drop)]
 pub enum RawStmtKind {
     /// `let`: the first value of a local.
     Let {
-        /// The name of the local.
         name: RawName,
-        /// Its value.
         value: RawExpr,
     },
-    /// `let` with `call`: a local that takes the result of a child.
+    /// `let` with `call`: a local that takes the result of a child, for whose end the task waits.
     LetCall {
-        /// The name of the local.
         name: RawName,
-        /// The child for whose end the task waits.
         call: RawInvoke,
     },
     /// `=`: another value of a local.
     Assign {
-        /// The name of the local.
         name: RawName,
-        /// Its new value.
         value: RawExpr,
     },
     /// `+=`: adds to a counter.
     Add {
-        /// The name of the counter.
         name: RawName,
-        /// What is added.
         value: RawExpr,
     },
     /// `:=`: sets a register.
     Put {
-        /// The name of the register.
         name: RawName,
-        /// What it is set to.
         value: RawExpr,
     },
-    /// `.volume +=`: adds to the volume of an accumulator.
+    /// `.volume +=`: adds to the volume of an accumulator, in millionths of a unit.
     AddVolume {
-        /// The name of the accumulator.
         name: RawName,
-        /// What is added, in millionths of a unit.
         value: RawExpr,
     },
-    /// `.rate +=`: adds to the rate of an accumulator.
+    /// `.rate +=`: adds to the rate of an accumulator, in units a second.
     AddRate {
-        /// The name of the accumulator.
         name: RawName,
-        /// What is added, in units a second.
         value: RawExpr,
     },
     /// `delay`, by so many microseconds.
@@ -78,20 +62,15 @@ pub enum RawStmtKind {
     Spawn(RawInvoke),
     /// `call`: a child for whose end the task waits.
     Call(RawInvoke),
-    /// `if`, with an empty second block where there is no `else`.
+    /// `if`, with the blocks where the test is true and where it is false; the second is empty where there is no `else`.
     If {
-        /// A truth.
         test: RawExpr,
-        /// The block where it is true.
         yes: List<RawStmt>,
-        /// The block where it is false.
         no: List<RawStmt>,
     },
-    /// `while`
+    /// `while`, with the test before each turn and the block of each turn.
     While {
-        /// A truth, tested before each turn.
         test: RawExpr,
-        /// The block of each turn.
         body: List<RawStmt>,
     },
     /// `return`, with or without a value.
@@ -122,7 +101,7 @@ impl RawStmtKind {
             }),
             RawStmtKind::LetCall { name, call } => Ok(RawStmtKind::LetCall {
                 name: name.copy(alloc)?,
-                call: call.copy(alloc)?,
+                call: call.copied(alloc)?,
             }),
             RawStmtKind::Assign { name, value } => Ok(RawStmtKind::Assign {
                 name: name.copy(alloc)?,
@@ -146,8 +125,8 @@ impl RawStmtKind {
             }),
             RawStmtKind::Delay(length) => Ok(RawStmtKind::Delay(length.copy(alloc)?)),
             RawStmtKind::WaitUntil(cond) => Ok(RawStmtKind::WaitUntil(cond.copy(alloc)?)),
-            RawStmtKind::Spawn(child) => Ok(RawStmtKind::Spawn(child.copy(alloc)?)),
-            RawStmtKind::Call(child) => Ok(RawStmtKind::Call(child.copy(alloc)?)),
+            RawStmtKind::Spawn(child) => Ok(RawStmtKind::Spawn(child.copied(alloc)?)),
+            RawStmtKind::Call(child) => Ok(RawStmtKind::Call(child.copied(alloc)?)),
             RawStmtKind::If { test, yes, no } => Ok(RawStmtKind::If {
                 test: test.copy(alloc)?,
                 yes: copy_block(alloc, yes)?,
@@ -157,7 +136,7 @@ impl RawStmtKind {
                 test: test.copy(alloc)?,
                 body: copy_block(alloc, body)?,
             }),
-            RawStmtKind::Return(value) => Ok(RawStmtKind::Return(copy_option(alloc, value)?)),
+            RawStmtKind::Return(value) => Ok(RawStmtKind::Return(RawData::copied(value, alloc)?)),
         }
     }
 }

@@ -1,6 +1,4 @@
-ghost use Rattle.std.specs.Prelude.{◌≡◌, IfOk};
-
-use crate::raw::copies::Part;
+use crate::raw::copies::RawData;
 use crate::raw::names::RawName;
 use aerie_base::OutOfMemory;
 use std::alloc::Global;
@@ -16,21 +14,12 @@ pub enum RawType {
     Named(RawName),
 }
 
-impl RawType {
-    /// An equal type.
-    pub fn copy(&self, alloc: Global) -> Result<RawType, OutOfMemory>
-        ensures { IfOk result (λ copy. copy ≡ self.now) }
-    {
+impl RawData for RawType {
+    fn copied(&self, alloc: Global) -> Result<RawType, OutOfMemory> {
         match self {
             RawType::Int => Ok(RawType::Int),
             RawType::Truth => Ok(RawType::Truth),
             RawType::Named(name) => Ok(RawType::Named(name.copy(alloc)?)),
         }
-    }
-}
-
-impl Part for RawType {
-    fn copied(&self, alloc: Global) -> Result<RawType, OutOfMemory> {
-        self.copy(alloc)
     }
 }

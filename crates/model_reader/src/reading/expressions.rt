@@ -2,18 +2,18 @@
 
 mod leaves;
 mod nodes;
-mod part;
+mod precedence;
 mod signs;
 
 ghost use Rattle.std.specs.Prelude.{◌≡◌, ◌<◌, ◌≤◌, IfOk};
 ghost use Rattle.readers.specs.Implements.{Consumes};
 ghost use Rattle.readers.specs.Parsed.{next_fits};
-ghost use Rattle.model_reader.specs.reading.Expressions.{parentheses_at, parenthesis_at, primary_at, signed_at, unary_at, sign_before, operation_at, product_at, sum_at, comparison_at, conjunction_at, disjunction_at, inner_readers, expr_at, begins_expr, is_compare_sign};
+ghost use Rattle.model_reader.specs.reading.Expressions.{parenthesis_at, primary_at, unary_at, sign_before, operation_at, product_at, sum_at, comparison_at, conjunction_at, disjunction_at, inner_readers, expr_at, begins_expr, is_compare_sign};
 
 use crate::raw::RawExpr;
 use crate::reading::expressions::leaves::{amount_leaf, named, truth_leaf};
-use crate::reading::expressions::nodes::{behind_sign, in_parentheses, joined};
-use crate::reading::expressions::part::Part;
+use crate::reading::expressions::nodes::{behind_sign, binary, in_parentheses};
+use crate::reading::expressions::precedence::Precedence;
 use crate::reading::expressions::signs::{sign_before, unary_sign};
 use crate::reading::with_height::WithHeight;
 use aerie_base::{Comparison, Name, Number};
@@ -28,7 +28,12 @@ const MOST_LEVELS: usize = 64;
 
 /// Reads a part of an expression within a level.
 #[cycle(expression)]
-fn inner(alloc: Global, reader: &mut Reader, room: usize, part: Part) -> Result<WithHeight, Refusal>
+fn inner(
+    alloc: Global,
+    reader: &mut Reader,
+    room: usize,
+    part: Precedence,
+) -> Result<WithHeight, Refusal>
     requires levels { room ≤ 64 }
     ensures read { Consumes (inner_readers room part) reader.old reader.new result }
     ensures low { IfOk result (λ whole. whole.height < room) }
@@ -37,33 +42,20 @@ fn inner(alloc: Global, reader: &mut Reader, room: usize, part: Part) -> Result<
         return Err(Refusal::Syntax);
     }
     match part {
-        Part::Expr => disjunction(alloc, reader, room - 1),
-        Part::Conjunction => conjunction(alloc, reader, room - 1),
-        Part::Comparison => comparison(alloc, reader, room - 1),
-        Part::Sum => sum(alloc, reader, room - 1),
-        Part::Product => product(alloc, reader, room - 1),
-        Part::Unary => unary(alloc, reader, room - 1),
+        Precedence::Expr => disjunction(alloc, reader, room - 1),
+        Precedence::Conjunction => conjunction(alloc, reader, room - 1),
+        Precedence::Comparison => comparison(alloc, reader, room - 1),
+        Precedence::Sum => sum(alloc, reader, room - 1),
+        Precedence::Product => product(alloc, reader, room - 1),
+        Precedence::Unary => unary(alloc, reader, room - 1),
     }
 }
 
 // ---- where `room` levels may be opened
 
-#[cycle(expression)]
-#[tactic(auto, unfolding(crate::specs::reading::Expressions::parentheses_at))]
-fn parentheses(alloc: Global, reader: &mut Reader, room: usize) -> Result<WithHeight, Refusal>
-    requires levels { room ≤ 64 }
-    ensures read { Consumes (parentheses_at (inner_readers room)) reader.old reader.new result }
-    ensures low { IfOk result (λ whole. whole.height ≤ room) }
-{
-    let at = reader.take(Sort::OpenParenthesis)?;
-    let inner = inner(alloc, reader, room, Part::Expr)?;
-    reader.take(Sort::CloseParenthesis)?;
-    Ok(in_parentheses(at, inner))
-}
-
 /// Reads an expression in parentheses, where a level may be opened.
 #[cycle(expression)]
-#[tactic(auto, unfolding(crate::specs::reading::Expressions::parenthesis_at))]
+#[tactic(auto, unfolding(crate::specs::reading::Expressions::parenthesis_at, crate::specs::reading::Expressions::parentheses_at))]
 fn parenthesis(alloc: Global, reader: &mut Reader, room: usize) -> Result<WithHeight, Refusal>
     requires levels { room ≤ 64 }
     ensures read { Consumes (parenthesis_at room (inner_readers room)) reader.old reader.new result }
@@ -75,7 +67,10 @@ fn parenthesis(alloc: Global, reader: &mut Reader, room: usize) -> Result<WithHe
     if room == 0 {
         return Err(Refusal::TooMany(Limit::Depth));
     }
-    parentheses(alloc, reader, room)
+    let at = reader.take(Sort::OpenParenthesis)?;
+    let inner = inner(alloc, reader, room, Precedence::Expr)?;
+    reader.take(Sort::CloseParenthesis)?;
+    Ok(in_parentheses(at, inner))
 }
 
 #[cycle(expression)]
@@ -98,21 +93,8 @@ fn primary(alloc: Global, reader: &mut Reader, room: usize) -> Result<WithHeight
     }
 }
 
-/// Reads a sign and what stands behind it, where a level may be opened.
 #[cycle(expression)]
-#[tactic(auto, unfolding(crate::specs::reading::Expressions::signed_at))]
-fn signed(alloc: Global, reader: &mut Reader, room: usize) -> Result<WithHeight, Refusal>
-    requires levels { room ≤ 64 }
-    ensures read { Consumes (signed_at (inner_readers room)) reader.old reader.new result }
-    ensures low { IfOk result (λ whole. whole.height ≤ room) }
-{
-    let (at, sign) = unary_sign(reader)?;
-    let operand = inner(alloc, reader, room, Part::Unary)?;
-    Ok(behind_sign(alloc, at, sign, operand)?)
-}
-
-#[cycle(expression)]
-#[tactic(auto, unfolding(crate::specs::reading::Expressions::unary_at))]
+#[tactic(auto, unfolding(crate::specs::reading::Expressions::unary_at, crate::specs::reading::Expressions::signed_at))]
 fn unary(alloc: Global, reader: &mut Reader, room: usize) -> Result<WithHeight, Refusal>
     requires levels { room ≤ 64 }
     ensures read { Consumes (unary_at room (inner_readers room)) reader.old reader.new result }
@@ -124,7 +106,9 @@ fn unary(alloc: Global, reader: &mut Reader, room: usize) -> Result<WithHeight, 
     if room == 0 {
         return Err(Refusal::TooMany(Limit::Depth));
     }
-    signed(alloc, reader, room)
+    let (at, sign) = unary_sign(reader)?;
+    let operand = inner(alloc, reader, room, Precedence::Unary)?;
+    Ok(behind_sign(alloc, at, sign, operand)?)
 }
 
 /// Reads an operator and the operand behind it, which is this part.
@@ -134,7 +118,7 @@ fn operation(
     alloc: Global,
     reader: &mut Reader,
     room: usize,
-    part: Part,
+    part: Precedence,
     left: WithHeight,
 ) -> Result<WithHeight, Refusal>
     requires levels { room ≤ 64 }
@@ -147,7 +131,7 @@ fn operation(
     }
     let operator = sign_before(reader, part)?;
     let right = inner(alloc, reader, room, part)?;
-    Ok(joined(alloc, operator, left, right)?)
+    Ok(binary(alloc, operator, left, right)?)
 }
 
 #[cycle(expression)]
@@ -159,7 +143,7 @@ fn product(alloc: Global, reader: &mut Reader, room: usize) -> Result<WithHeight
 {
     let mut left = unary(alloc, reader, room)?;
     while reader.next_is_one_of(&[Sort::Star, Sort::Slash, Sort::Percent]) {
-        left = operation(alloc, reader, room, Part::Unary, left)?;
+        left = operation(alloc, reader, room, Precedence::Unary, left)?;
     }
     Ok(left)
 }
@@ -173,7 +157,7 @@ fn sum(alloc: Global, reader: &mut Reader, room: usize) -> Result<WithHeight, Re
 {
     let mut left = product(alloc, reader, room)?;
     while reader.next_is_one_of(&[Sort::Plus, Sort::Minus]) {
-        left = operation(alloc, reader, room, Part::Product, left)?;
+        left = operation(alloc, reader, room, Precedence::Product, left)?;
     }
     Ok(left)
 }
@@ -187,7 +171,7 @@ fn comparison(alloc: Global, reader: &mut Reader, room: usize) -> Result<WithHei
 {
     let left = sum(alloc, reader, room)?;
     if is_at_compare_sign(reader) {
-        operation(alloc, reader, room, Part::Sum, left)
+        operation(alloc, reader, room, Precedence::Sum, left)
     } else {
         Ok(left)
     }
@@ -202,7 +186,7 @@ fn conjunction(alloc: Global, reader: &mut Reader, room: usize) -> Result<WithHe
 {
     let mut left = comparison(alloc, reader, room)?;
     while reader.next_is(Sort::DoubleAmpersand) {
-        left = operation(alloc, reader, room, Part::Comparison, left)?;
+        left = operation(alloc, reader, room, Precedence::Comparison, left)?;
     }
     Ok(left)
 }
@@ -216,7 +200,7 @@ fn disjunction(alloc: Global, reader: &mut Reader, room: usize) -> Result<WithHe
 {
     let mut left = conjunction(alloc, reader, room)?;
     while reader.next_is(Sort::DoubleBar) {
-        left = operation(alloc, reader, room, Part::Conjunction, left)?;
+        left = operation(alloc, reader, room, Precedence::Conjunction, left)?;
     }
     Ok(left)
 }

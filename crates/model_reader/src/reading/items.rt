@@ -16,7 +16,7 @@ use crate::raw::RawItem;
 use crate::reading::declarations::{Declarations, ItemKind};
 use crate::reading::items::activities::{activity, daemon};
 use crate::reading::items::cells::cell;
-use crate::reading::items::counting::{count_of, limit_of, most_of, none_declared, with_item};
+use crate::reading::items::counting::{declared_count, most_of, none_declared, with_item};
 use crate::reading::items::enumerations::enum_;
 use crate::reading::items::resources::resource;
 use aerie_base::List;
@@ -47,8 +47,9 @@ fn turn(
 ) -> Result<Declarations, Refusal>
     ensures { Consumes (turn_at kind so_far) reader.old reader.new result }
 {
-    if count_of(kind, &so_far) >= most_of(kind) {
-        return Err(Refusal::TooMany(limit_of(kind)));
+    let most = most_of(kind);
+    if declared_count(kind, &so_far) >= most.count {
+        return Err(Refusal::TooMany(most.limit));
     }
     let last = item_of(alloc, reader, kind)?;
     Ok(with_item(kind, so_far, last)?)

@@ -2,7 +2,7 @@
 
 ghost use Rattle.std.specs.Prelude.{◌≡◌, neg_ℤ};
 ghost use Rattle.readers.specs.Implements.{Consumes, MayConsume};
-ghost use Rattle.model_reader.specs.reading.Literals.{sign_at, signed, int_at, amount_at, amount_literal_at, truth_literal_at, variant_literal_at, literal_at};
+ghost use Rattle.model_reader.specs.reading.Literals.{sign_at, with_minus, int_at, amount_at, truth_literal_at, literal_at};
 
 use crate::raw::{RawLiteral, RawLiteralKind};
 use crate::reading::names::raw_name;
@@ -31,8 +31,8 @@ fn negated(number: Number) -> Number
 }
 
 /// The number behind the minus that has this place, and the place where it begins.
-fn signed(minus: Option<Place>, number: (Place, Number)) -> (Place, Number)
-    ensures { result ≡ signed minus number }
+fn with_minus(minus: Option<Place>, number: (Place, Number)) -> (Place, Number)
+    ensures { result ≡ with_minus minus number }
 {
     match minus {
         Some(at) => (at, negated(number.1)),
@@ -47,7 +47,7 @@ pub fn int(reader: &mut Reader) -> Result<(Place, Number), Refusal>
 {
     let minus = sign(reader)?;
     let number = reader.number(Sort::Number)?;
-    Ok(signed(minus, number))
+    Ok(with_minus(minus, number))
 }
 
 /// Reads a number or a duration without a sign.
@@ -62,54 +62,35 @@ pub fn amount(reader: &mut Reader) -> Result<(Place, Number), Refusal>
     }
 }
 
-#[tactic(auto, unfolding(crate::specs::reading::Literals::amount_literal_at))]
-fn amount_literal(reader: &mut Reader) -> Result<RawLiteral, Refusal>
-    ensures { Consumes amount_literal_at reader.old reader.new result }
-{
-    let minus = sign(reader)?;
-    let amount = amount(reader)?;
-    let (at, number) = signed(minus, amount);
-    Ok(RawLiteral {
-        at,
-        what: RawLiteralKind::Number(number),
-    })
-}
-
 #[tactic(auto, unfolding(crate::specs::reading::Literals::truth_literal_at))]
 fn truth_literal(reader: &mut Reader, sort: Sort, truth: bool) -> Result<RawLiteral, Refusal>
     ensures { Consumes (truth_literal_at sort truth) reader.old reader.new result }
 {
     let at = reader.take(sort)?;
-    Ok(RawLiteral {
-        at,
-        what: RawLiteralKind::Truth(truth),
-    })
+    let what = RawLiteralKind::Truth(truth);
+    Ok(RawLiteral { at, what })
 }
 
-#[tactic(auto, unfolding(crate::specs::reading::Literals::variant_literal_at))]
-fn variant_literal(alloc: Global, reader: &mut Reader) -> Result<RawLiteral, Refusal>
-    ensures { Consumes variant_literal_at reader.old reader.new result }
-{
-    let kind = raw_name(alloc, reader)?;
-    reader.take(Sort::Dot)?;
-    let variant = raw_name(alloc, reader)?;
-    Ok(RawLiteral {
-        at: kind.at,
-        what: RawLiteralKind::Variant { kind, variant },
-    })
-}
-
-#[tactic(auto, unfolding(crate::specs::reading::Literals::literal_at))]
+#[tactic(auto, unfolding(crate::specs::reading::Literals::literal_at, crate::specs::reading::Literals::amount_literal_at, crate::specs::reading::Literals::variant_literal_at))]
 pub fn literal(alloc: Global, reader: &mut Reader) -> Result<RawLiteral, Refusal>
     ensures { Consumes literal_at reader.old reader.new result }
 {
     if reader.next_is_one_of(&[Sort::Minus, Sort::Number, Sort::Time]) {
-        amount_literal(reader)
+        let minus = sign(reader)?;
+        let amount = amount(reader)?;
+        let (at, number) = with_minus(minus, amount);
+        let what = RawLiteralKind::Number(number);
+        Ok(RawLiteral { at, what })
     } else if reader.next_is(Sort::True) {
         truth_literal(reader, Sort::True, true)
     } else if reader.next_is(Sort::False) {
         truth_literal(reader, Sort::False, false)
     } else {
-        variant_literal(alloc, reader)
+        let kind = raw_name(alloc, reader)?;
+        reader.take(Sort::Dot)?;
+        let variant = raw_name(alloc, reader)?;
+        let at = kind.at;
+        let what = RawLiteralKind::Variant { kind, variant };
+        Ok(RawLiteral { at, what })
     }
 }

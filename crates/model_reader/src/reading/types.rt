@@ -1,7 +1,7 @@
 //! Types and reads.
 
 ghost use Rattle.readers.specs.Implements.{Consumes, MayConsume};
-ghost use Rattle.model_reader.specs.reading.Types.{named_type_at, type_at, part_at, read_part_at, read_at};
+ghost use Rattle.model_reader.specs.reading.Types.{type_at, part_at, read_part_at, read_at};
 
 use crate::raw::{RawPart, RawRead, RawType};
 use crate::reading::names::{one_standing_for, raw_name, standing_for};
@@ -9,15 +9,7 @@ use aerie_text::Sort;
 use readers::{Reader, Refusal};
 use std::alloc::Global;
 
-#[tactic(auto, unfolding(crate::specs::reading::Types::named_type_at))]
-fn named_type(alloc: Global, reader: &mut Reader) -> Result<RawType, Refusal>
-    ensures { Consumes named_type_at reader.old reader.new result }
-{
-    let name = raw_name(alloc, reader)?;
-    Ok(RawType::Named(name))
-}
-
-#[tactic(auto, unfolding(crate::specs::reading::Types::type_at))]
+#[tactic(auto, unfolding(crate::specs::reading::Types::type_at, crate::specs::reading::Types::named_type_at))]
 pub fn type_(alloc: Global, reader: &mut Reader) -> Result<RawType, Refusal>
     ensures { Consumes type_at reader.old reader.new result }
 {
@@ -28,7 +20,8 @@ pub fn type_(alloc: Global, reader: &mut Reader) -> Result<RawType, Refusal>
     } else if reader.next_is(Sort::Truth) {
         standing_for(reader, Sort::Truth, RawType::Truth)
     } else {
-        named_type(alloc, reader)
+        let name = raw_name(alloc, reader)?;
+        Ok(RawType::Named(name))
     }
 }
 

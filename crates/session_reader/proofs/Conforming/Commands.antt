@@ -1,21 +1,21 @@
 -- What is read of clients and their commands conforms to the grammar of sessions, the limit of commands included: it is passed
 -- at the mark that begins the one that is too many.
-use Rattle.std.proofs.Common.{◌≡◌, ℕ, true, List, [], ◌∷◌, length, nat_le, refl}
+use Rattle.std.proofs.Common.{ℕ, List, [], ◌∷◌, refl}
 use Rattle.aerie_text.specs.declared.sorts.Sort.{Sort}
 use Rattle.aerie_text.specs.declared.sorts.Sort.TheVariants as sort
 use Rattle.readers.specs.Marks.{Mark}
-use Rattle.readers.specs.Parsed.{is_of, is_one_of, next_fits}
+use Rattle.readers.specs.Parsed.{is_of, is_one_of}
 use Rattle.readers.specs.grammar.Forms.{both, either, many, rule, token}
-use Rattle.readers.proofs.Conforming.{and_then, then_value, value, either_conforms, repeated_conforms, rule_conforms, limited_conforms, Begins, begins_both, begins_either, begins_rule, begins_here}
+use Rattle.readers.proofs.Conforming.{and_then, then_value, value, either_conforms, rule_conforms, Begins, begins_both, begins_either, begins_rule}
+use Rattle.readers.proofs.Listing.{row_conforms}
 use Rattle.readers.specs.Verdicts.{Judges}
 use Rattle.readers.proofs.Grammars.Alike.{alike_turned}
 use Rattle.readers.proofs.Judged.{alike_judged, conforms_judged}
-use Rattle.session_reader.specs.declared.raw.RawCommand.{RawCommand}
 use Rattle.session_reader.specs.grammar.Factored.{look, factored, named_form, fork_form, merge_form, add_form, remove_form, directive_move_form, move_form, set_form, load_form, branches_form, edit_form, view_form}
 use Rattle.session_reader.specs.grammar.Rules.{command_rule, client_rule}
 use Rattle.session_reader.specs.grammar.Terminals.{plain}
 use Rattle.session_reader.specs.grammar.Written.{written, ended_command_form}
-use Rattle.session_reader.specs.reading.Commands.{command_limit, named_at, new_at, drop_at, show_at, simulate_at, schedule_at, expand_at, fork_at, merge_at, add_at, remove_at, migrate_at, directive_move_at, moved_at, move_at, set_at, load_at, branch_words, branches_at, edit_words, edit_at, view_at, command_at, ended_command_at, one_command_at, command_words, commands_at, client_at}
+use Rattle.session_reader.specs.reading.Commands.{most_commands, named_at, new_at, drop_at, show_at, simulate_at, schedule_at, expand_at, fork_at, merge_at, add_at, remove_at, migrate_at, directive_move_at, moved_at, move_at, set_at, load_at, branch_words, branches_at, edit_words, edit_at, view_at, command_at, ended_command_at, command_words, commands_at, client_at}
 use Rattle.session_reader.proofs.Conforming.Directives.{Along, IsPlain, taken, begins_with, id_law, when_law, given_law, argument_law}
 use Rattle.session_reader.proofs.Conforming.Terminals.{in_terminals}
 use Rattle.session_reader.proofs.Grammar.Alike.{alike_from}
@@ -136,21 +136,13 @@ command_law marks =
     rule_conforms predictive (either_conforms _ _ words_begin refl (λ next. branches_law marks)
     (λ next. either_conforms _ _ edits_begin refl (λ next. edit_law marks) (λ next. view_law marks)))
 
-ended_command_law : (so_far : List RawCommand) (marks : List Mark) → Along ended_command_form marks (ended_command_at so_far marks)
+ended_command_law : (marks : List Mark) → Along ended_command_form marks (ended_command_at marks)
 unfolding ended_command_at
-ended_command_law so_far marks = and_then _ (command_law marks) (λ command rest. then_value _ (taken sort.Semicolon _ (refl, refl)) (λ end rest. value))
-
-commands_begin : Begins look (is_one_of command_words) ended_command_form
-commands_begin = begins_both (begins_rule (λ k. in_terminals command_words refl k)) refl
-
-one_command_law : (so_far : List RawCommand) (marks : List Mark) → next_fits (is_one_of command_words) marks ≡ true → Along ended_command_form marks (one_command_at so_far marks)
-unfolding one_command_at
-one_command_law so_far marks next =
-    limited_conforms (nat_le command_limit (length so_far)) _ _ predictive (λ past. begins_here marks commands_begin next) (λ within. ended_command_law so_far marks)
+ended_command_law marks = and_then _ (command_law marks) (λ command rest. then_value _ (taken sort.Semicolon _ (refl, refl)) (λ end rest. value))
 
 commands_law : (marks : List Mark) → Along (many ended_command_form) marks (commands_at marks)
 unfolding commands_at
-commands_law marks = repeated_conforms _ commands_begin refl one_command_law
+commands_law marks = row_conforms predictive command_words (begins_both (begins_rule (λ k. in_terminals command_words refl k)) refl) refl ended_command_law most_commands marks
 
 pub client_law : (marks : List Mark) → Along (rule client_rule) marks (client_at marks)
 unfolding client_at

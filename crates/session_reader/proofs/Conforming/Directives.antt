@@ -1,7 +1,6 @@
 -- What is read of the parts of directives conforms to the grammar of sessions: each law has the shape of its definition.
-use Rattle.std.proofs.Common.{◌≡◌, true, false, Bool, List, [], ◌∷◌, IsTrue, nat_eq, refl, ap, sym, ◌∙◌, ◌||◌}
+use Rattle.std.proofs.Common.{◌≡◌, true, false, Bool, List, [], ◌∷◌, IsTrue, nat_eq, refl, ap, sym, ◌∙◌, ◌||◌, None}
 use Rattle.aerie_base.specs.Ranges.{number_limit, time_limit}
-use Rattle.aerie_base.specs.declared.arguments.RawArgument.{RawArgument}
 use Rattle.aerie_base.specs.declared.plans.Edge.{Edge}
 use Rattle.aerie_text.specs.Sorts.{number_of}
 use Rattle.aerie_text.specs.declared.sorts.Sort.{Sort}
@@ -11,8 +10,9 @@ use Rattle.readers.specs.Conforms.{Conforms}
 use Rattle.readers.specs.Marks.{Mark}
 use Rattle.readers.specs.Parsed.{Parsed, is_of, is_one_of, mark_at}
 use Rattle.readers.specs.Within.{counts_within, number_within_at}
-use Rattle.readers.specs.grammar.Forms.{Form, token, rule, both, either, option, separated}
-use Rattle.readers.proofs.Conforming.{token_conforms, has_conforms, and_then, then_value, value, either_conforms, option_conforms, separated_conforms, rule_conforms, Begins, begins_token, begins_both, begins_either}
+use Rattle.readers.specs.grammar.Forms.{Form, token, rule, both, either, option}
+use Rattle.readers.proofs.Conforming.{token_conforms, has_conforms, and_then, then_value, value, either_conforms, rule_conforms, Begins, begins_token, begins_both, begins_either}
+use Rattle.readers.proofs.Listing.{parenthesized_conforms}
 use Rattle.readers.proofs.Within.{within_conforms, halves_conform}
 use Rattle.session_reader.proofs.Conforming.Terminals.{id_fits, id_among, great_fits, none_among, some_fits, plain_fits, number_begins, time_begins}
 use Rattle.session_reader.proofs.Grammar.Predictive.{predictive}
@@ -21,7 +21,7 @@ use Rattle.session_reader.specs.grammar.Factored.{look, edge_form, anchored_form
 use Rattle.session_reader.specs.grammar.Rules.{Rule, when_rule, given_rule, of_model}
 use Rattle.session_reader.specs.grammar.Terminals.{Terminal, fits, id_limit, plain, id_number, great_number, no_time, some_time}
 use Rattle.session_reader.specs.grammar.Written.{id_form, duration_form, argument_form}
-use Rattle.session_reader.specs.reading.Directives.{id_at, duration_at, edge_word_at, edge_at, anchored_at, unanchored_at, when_at, amount_at, signed_amount_at, truth_at, variant_at, begins_amount, value_at, argument_at, one_argument_at, some_arguments_at, arguments_at, given_at}
+use Rattle.session_reader.specs.reading.Directives.{id_at, duration_at, edge_word_at, edge_at, anchored_at, unanchored_at, when_at, amount_at, signed_amount_at, truth_at, variant_at, begins_amount, value_at, argument_at, given_at}
 
 abbrev pub Along : {A : Type 0} → Form Rule Terminal → List Mark → Parsed A → Type 0
 Along form marks reading = Conforms look form marks reading
@@ -117,20 +117,9 @@ pub argument_law : (marks : List Mark) → Along argument_form marks (argument_a
 unfolding argument_at
 argument_law marks = and_then _ (taken sort.Name _ (refl, refl)) (λ name rest. and_then _ (taken sort.Assign _ (refl, refl)) (λ sign rest. then_value _ (value_law rest) (λ given rest. value)))
 
-one_argument_law : (so_far : List RawArgument) (marks : List Mark) → Along argument_form marks (one_argument_at so_far marks)
-unfolding one_argument_at
-one_argument_law so_far marks = then_value _ (argument_law marks) (λ argument rest. value)
-
-some_arguments_law : (marks : List Mark) → Along (separated (token (plain sort.Comma)) argument_form) marks (some_arguments_at marks)
-unfolding some_arguments_at
-some_arguments_law marks = separated_conforms sort.Comma _ (λ k. plain_fits k sort.Comma refl refl) one_argument_law
-
-arguments_law : (marks : List Mark) → Along (option (separated (token (plain sort.Comma)) argument_form)) marks (arguments_at marks)
-unfolding arguments_at
-arguments_law marks = option_conforms _ _ (begins_both (begins_both (begins_with sort.Name (refl, refl)) refl) refl) (λ next. some_arguments_law marks) value
-
 pub given_law : (marks : List Mark) → Along (rule given_rule) marks (given_at marks)
 unfolding given_at
 given_law marks =
-    rule_conforms predictive (and_then _ (taken sort.Name _ (refl, refl)) (λ kind rest. and_then _ (taken sort.OpenParenthesis _ (refl, refl)) (λ front rest.
-    and_then _ (arguments_law rest) (λ arguments rest. then_value _ (taken sort.CloseParenthesis _ (refl, refl)) (λ end rest. value)))))
+    rule_conforms predictive (and_then _ (taken sort.Name _ (refl, refl)) (λ kind rest. then_value _
+    (parenthesized_conforms predictive sort.Name (λ k. plain_fits k sort.OpenParenthesis refl refl) (λ k. plain_fits k sort.Comma refl refl) (λ k. plain_fits k sort.CloseParenthesis refl refl)
+    (begins_both (begins_with sort.Name (refl, refl)) refl) refl argument_law None rest) (λ arguments rest. value)))

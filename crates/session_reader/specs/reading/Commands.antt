@@ -1,10 +1,12 @@
 -- Reading clients and their commands.
-use Rattle.std.specs.Prelude.{ℕ, List, [], ◌∷◌, ◌++◌, length, nat_le}
+use Rattle.std.specs.Prelude.{ℕ, List, [], ◌∷◌, Option, Some}
 use Rattle.aerie_text.specs.declared.sorts.Sort.{Sort}
 use Rattle.aerie_text.specs.declared.sorts.Sort.TheVariants as sort
+use Rattle.readers.specs.Lists.{row_at}
 use Rattle.readers.specs.Marks.{Mark}
-use Rattle.readers.specs.Parsed.{Parsed, parsed, ◌>>=◌, is_one_of, next_is, next_is_one_of, chosen, take_at, name_at, word_at, limited, repeated}
+use Rattle.readers.specs.Parsed.{Parsed, parsed, ◌>>=◌, next_is, next_is_one_of, chosen, take_at, name_at, word_at}
 use Rattle.readers.specs.declared.limits.Limit.TheVariants.{Commands}
+use Rattle.readers.specs.declared.lists.Most.{Most}
 use Rattle.session_reader.specs.declared.raw.RawClient.{RawClient}
 use Rattle.session_reader.specs.declared.raw.RawCommand.{RawCommand}
 use Rattle.session_reader.specs.declared.raw.RawCommand.TheVariants as command
@@ -165,16 +167,12 @@ view_at marks =
 unfoldable pub command_at : List Mark → Parsed RawCommand
 command_at marks = chosen (next_is_one_of branch_words marks) branches_at (chosen (next_is_one_of edit_words marks) edit_at view_at) marks
 
--- command ";", behind those so far
-unfoldable pub ended_command_at : List RawCommand → List Mark → Parsed (List RawCommand)
-ended_command_at so_far marks = do
+-- command ";"
+unfoldable pub ended_command_at : List Mark → Parsed RawCommand
+ended_command_at marks = do
   command ← command_at marks
   end ← take_at sort.Semicolon command.1
-  parsed (so_far ++ command.0 ∷ []) end.1
-
--- the same, where there may be one command more
-unfoldable pub one_command_at : List RawCommand → List Mark → Parsed (List RawCommand)
-one_command_at so_far marks = limited (nat_le command_limit (length so_far)) Commands (ended_command_at so_far) marks
+  parsed command.0 end.1
 
 -- the words with which commands begin
 abbrev pub command_words : List Sort
@@ -182,9 +180,13 @@ command_words =
     sort.New ∷ sort.Fork ∷ sort.Drop ∷ sort.Merge ∷ sort.Add ∷ sort.Remove ∷ sort.Move ∷ sort.Set ∷ sort.Load
     ∷ sort.Show ∷ sort.Simulate ∷ sort.Schedule ∷ sort.Expand ∷ []
 
+-- how many commands a client may have
+abbrev pub most_commands : Option Most
+most_commands = Some (record { count = command_limit; limit = Commands })
+
 -- { command ";" }
 unfoldable pub commands_at : List Mark → Parsed (List RawCommand)
-commands_at marks = repeated (is_one_of command_words) one_command_at [] marks
+commands_at marks = row_at command_words most_commands ended_command_at marks
 
 -- client = "client" NAME "{" { command ";" } "}"
 unfoldable pub client_at : List Mark → Parsed RawClient

@@ -10,8 +10,9 @@ use Rattle.aerie_base.specs.declared.plans.Edge.TheVariants as edge
 use Rattle.aerie_base.specs.declared.plans.When.{When}
 use Rattle.aerie_text.specs.declared.sorts.Sort.{Sort}
 use Rattle.aerie_text.specs.declared.sorts.Sort.TheVariants as sort
+use Rattle.readers.specs.Lists.{parenthesized_at}
 use Rattle.readers.specs.Marks.{Mark}
-use Rattle.readers.specs.Parsed.{Parsed, parsed, ◌>>=◌, is_of, next_fits, next_is, next_is_one_of, chosen, take_at, has_at, name_at, separated_at}
+use Rattle.readers.specs.Parsed.{Parsed, parsed, ◌>>=◌, is_of, next_fits, next_is, next_is_one_of, chosen, take_at, has_at, name_at}
 use Rattle.readers.specs.Within.{counts_within, number_within_at}
 use Rattle.session_reader.specs.declared.raw.RawGiven.{RawGiven}
 use Rattle.session_reader.specs.grammar.Terminals.{id_limit}
@@ -67,16 +68,16 @@ unfoldable pub amount_at : List Mark → Parsed (Place × ℕ)
 amount_at marks = chosen (next_fits (counts_within sort.Number 0 number_limit) marks) (number_within_at sort.Number 0 number_limit) (number_within_at sort.Time 0 time_limit) marks
 
 -- a number with its sign
-abbrev pub signed : Bool → ℕ → ℤ
-signed true number = neg_ℤ (pos number)
-signed false number = pos number
+abbrev pub with_sign : Bool → ℕ → ℤ
+with_sign true number = neg_ℤ (pos number)
+with_sign false number = pos number
 
 -- [ "-" ] ( NUMBER | DURATION )
 unfoldable pub signed_amount_at : List Mark → Parsed RawValue
 signed_amount_at marks = do
   minus ← has_at sort.Minus marks
   amount ← amount_at minus.1
-  parsed (value.Int (signed minus.0 amount.0.1)) amount.1
+  parsed (value.Int (with_sign minus.0 amount.0.1)) amount.1
 
 -- "true", or "false"
 unfoldable pub truth_at : Sort → Bool → List Mark → Parsed RawValue
@@ -115,25 +116,9 @@ argument_at marks = do
   value ← value_at sign.1
   parsed (record { name = name.0.1; value = value.0 }) value.1
 
--- an argument, behind those so far
-unfoldable pub one_argument_at : List RawArgument → List Mark → Parsed (List RawArgument)
-one_argument_at so_far marks = do
-  argument ← argument_at marks
-  parsed (so_far ++ argument.0 ∷ []) argument.1
-
--- NAME "=" literal { "," NAME "=" literal }
-unfoldable pub some_arguments_at : List Mark → Parsed (List RawArgument)
-some_arguments_at marks = separated_at sort.Comma one_argument_at [] marks
-
--- [ NAME "=" literal { "," NAME "=" literal } ]
-unfoldable pub arguments_at : List Mark → Parsed (List RawArgument)
-arguments_at marks = chosen (next_is sort.Name marks) some_arguments_at (parsed []) marks
-
 -- given = NAME "(" [ NAME "=" literal { "," NAME "=" literal } ] ")"
 unfoldable pub given_at : List Mark → Parsed RawGiven
 given_at marks = do
   kind ← name_at marks
-  front ← take_at sort.OpenParenthesis kind.1
-  arguments ← arguments_at front.1
-  end ← take_at sort.CloseParenthesis arguments.1
-  parsed (record { kind = kind.0.1; arguments = arguments.0 }) end.1
+  arguments ← parenthesized_at sort.Name None argument_at kind.1
+  parsed (record { kind = kind.0.1; arguments = arguments.0 }) arguments.1

@@ -1,22 +1,23 @@
 //! Clients and their commands.
 
-ghost use Rattle.std.specs.Prelude.{◌≡◌};
 ghost use Rattle.readers.specs.Implements.{Consumes, MayConsume};
-ghost use Rattle.readers.specs.Parsed.{is_one_of, next_fits};
 ghost use Rattle.readers.specs.Verdicts.{IsVerdict};
 ghost use Rattle.session_reader.specs.grammar.Rules.{client_rule};
 ghost use Rattle.session_reader.specs.grammar.Written.{written};
-ghost use Rattle.session_reader.specs.reading.Commands.{named_at, fork_at, merge_at, add_at, remove_at, migrate_at, directive_move_at, moved_at, move_at, set_at, load_at, new_at, drop_at, branches_at, edit_at, show_at, simulate_at, schedule_at, expand_at, view_at, command_at, ended_command_at, one_command_at, command_words, commands_at, client_at};
+ghost use Rattle.session_reader.specs.reading.Commands.{named_at, fork_at, merge_at, add_at, remove_at, migrate_at, directive_move_at, moved_at, move_at, set_at, load_at, new_at, drop_at, branches_at, edit_at, show_at, simulate_at, schedule_at, expand_at, view_at, command_at, ended_command_at, commands_at, client_at};
 
 use crate::raw::{RawClient, RawCommand};
 use crate::reading::directives::{argument, given, id, when};
 use aerie_base::{List, Name, Text};
 use aerie_text::Sort;
-use readers::{Limit, Reader, Refusal};
+use readers::{Item, Limit, Most, Reader, Refusal, row};
 use std::alloc::Global;
 
-/// The most commands of a client.
-const MOST_COMMANDS: usize = 4096;
+/// How many commands a client may have.
+const MOST_COMMANDS: Most = Most {
+    count: 4_096,
+    limit: Limit::Commands,
+};
 
 /// Reads this word and a name.
 #[tactic(auto, unfolding(crate::specs::reading::Commands::named_at))]
@@ -245,42 +246,28 @@ fn command(alloc: Global, reader: &mut Reader) -> Result<RawCommand, Refusal>
     }
 }
 
-/// Reads a command and its semicolon, and puts it behind those so far.
-#[tactic(auto, unfolding(crate::specs::reading::Commands::ended_command_at))]
-fn ended_command(
-    alloc: Global,
-    reader: &mut Reader,
-    so_far: List<RawCommand>,
-) -> Result<List<RawCommand>, Refusal>
-    ensures { Consumes (ended_command_at so_far) reader.old reader.new result }
-{
-    let mut commands = so_far;
-    let command = command(alloc, reader)?;
-    reader.take(Sort::Semicolon)?;
-    commands.push(command)?;
-    Ok(commands)
-}
+/// A command and its semicolon.
+struct EndedCommand;
 
-/// Reads one command more, if there may be one.
-#[tactic(auto, unfolding(crate::specs::reading::Commands::one_command_at))]
-fn one_command(
-    alloc: Global,
-    reader: &mut Reader,
-    so_far: List<RawCommand>,
-) -> Result<List<RawCommand>, Refusal>
-    ensures { Consumes (one_command_at so_far) reader.old reader.new result }
-{
-    if so_far.len() >= MOST_COMMANDS {
-        return Err(Refusal::TooMany(Limit::Commands));
+impl Item for EndedCommand {
+    type Part = RawCommand;
+
+    ghost part_at = { ended_command_at };
+
+    #[tactic(auto, unfolding(crate::specs::reading::Commands::ended_command_at))]
+    fn part(alloc: Global, reader: &mut Reader) -> Result<RawCommand, Refusal> {
+        let command = command(alloc, reader)?;
+        reader.take(Sort::Semicolon)?;
+        Ok(command)
     }
-    ended_command(alloc, reader, so_far)
 }
 
-/// Whether a command begins with the next token.
-fn begins_command(reader: &Reader) -> bool
-    ensures { result ≡ next_fits (is_one_of command_words) reader.now }
+/// Reads the commands of a client.
+#[tactic(auto, unfolding(crate::specs::reading::Commands::commands_at))]
+fn commands(alloc: Global, reader: &mut Reader) -> Result<List<RawCommand>, Refusal>
+    ensures { MayConsume commands_at reader.old reader.new result }
 {
-    reader.next_is_one_of(&[
+    let words = [
         Sort::New,
         Sort::Fork,
         Sort::Drop,
@@ -294,19 +281,8 @@ fn begins_command(reader: &Reader) -> bool
         Sort::Simulate,
         Sort::Schedule,
         Sort::Expand,
-    ])
-}
-
-/// Reads the commands of a client.
-#[tactic(auto, unfolding(crate::specs::reading::Commands::commands_at))]
-fn commands(alloc: Global, reader: &mut Reader) -> Result<List<RawCommand>, Refusal>
-    ensures { MayConsume commands_at reader.old reader.new result }
-{
-    let mut commands = List::new(alloc);
-    while begins_command(reader) {
-        commands = one_command(alloc, reader, commands)?;
-    }
-    Ok(commands)
+    ];
+    row::<EndedCommand>(alloc, reader, &words, Some(MOST_COMMANDS))
 }
 
 #[tactic(auto, unfolding(crate::specs::reading::Commands::client_at))]

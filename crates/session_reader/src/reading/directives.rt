@@ -1,17 +1,16 @@
 //! When directives start, and what they give.
 
-ghost use Rattle.std.specs.Prelude.{◌≡◌, pos, neg_ℤ, IfOk, [], ◌≤◌, ◌++◌};
-ghost use Rattle.aerie_text.specs.declared.sorts.Sort.TheVariants.{Comma};
-ghost use Rattle.readers.specs.Implements.{Consumes, MayConsume};
-ghost use Rattle.readers.specs.Parsed.{behind_at, next_fits};
-ghost use Rattle.session_reader.specs.reading.Directives.{id_at, duration_at, edge_word_at, edge_at, anchored_at, unanchored_at, when_at, amount_at, signed, signed_amount_at, truth_at, variant_word, variant_at, begins_amount, value_at, argument_at, one_argument_at, some_arguments_at, arguments_at, given_at};
+ghost use Rattle.std.specs.Prelude.{◌≡◌, pos, neg_ℤ, IfOk, ◌≤◌, ◌++◌};
+ghost use Rattle.readers.specs.Implements.{Consumes};
+ghost use Rattle.readers.specs.Parsed.{next_fits};
+ghost use Rattle.session_reader.specs.reading.Directives.{id_at, duration_at, edge_word_at, edge_at, anchored_at, unanchored_at, when_at, amount_at, with_sign, signed_amount_at, truth_at, variant_word, variant_at, begins_amount, value_at, argument_at, given_at};
 
 use crate::raw::RawGiven;
 use aerie_base::{
-    Anchor, Edge, List, Name, Number, OutOfMemory, Place, RawArgument, RawValue, Text, Time, When,
+    Anchor, Edge, Name, Number, OutOfMemory, Place, RawArgument, RawValue, Text, Time, When,
 };
 use aerie_text::Sort;
-use readers::{Reader, Refusal};
+use readers::{Item, Reader, Refusal, parenthesized};
 use std::alloc::Global;
 
 /// The greatest id.
@@ -116,9 +115,9 @@ fn amount(reader: &mut Reader) -> Result<(Place, u64), Refusal>
 }
 
 /// A number with its sign.
-fn signed(minus: bool, number: u64) -> Number
+fn with_sign(minus: bool, number: u64) -> Number
     requires { number ≤ 1_000_000_000_000_000_000 }
-    ensures { result ≡ signed minus number }
+    ensures { result ≡ with_sign minus number }
 {
     if minus {
         Number::new(-(number as i64)).unwrap()
@@ -133,7 +132,7 @@ fn signed_amount(reader: &mut Reader) -> Result<RawValue, Refusal>
 {
     let minus = reader.has(Sort::Minus);
     let (_at, number) = amount(reader)?;
-    Ok(RawValue::Int(signed(minus, number)))
+    Ok(RawValue::Int(with_sign(minus, number)))
 }
 
 #[tactic(auto, unfolding(crate::specs::reading::Directives::truth_at))]
@@ -201,51 +200,16 @@ pub fn argument(alloc: Global, reader: &mut Reader) -> Result<RawArgument, Refus
     Ok(RawArgument { name, value })
 }
 
-#[tactic(auto, unfolding(crate::specs::reading::Directives::one_argument_at))]
-fn one_argument(
-    alloc: Global,
-    reader: &mut Reader,
-    so_far: List<RawArgument>,
-) -> Result<List<RawArgument>, Refusal>
-    ensures { Consumes (one_argument_at so_far) reader.old reader.new result }
-{
-    let mut arguments = so_far;
-    let argument = argument(alloc, reader)?;
-    arguments.push(argument)?;
-    Ok(arguments)
-}
+/// An argument: the name of a parameter and a literal.
+struct GivenArgument;
 
-/// Reads an argument behind a comma.
-fn next_argument(
-    alloc: Global,
-    reader: &mut Reader,
-    so_far: List<RawArgument>,
-) -> Result<List<RawArgument>, Refusal>
-    ensures { Consumes (behind_at Comma one_argument_at so_far) reader.old reader.new result }
-{
-    reader.take(Sort::Comma)?;
-    one_argument(alloc, reader, so_far)
-}
+impl Item for GivenArgument {
+    type Part = RawArgument;
 
-#[tactic(auto, unfolding(crate::specs::reading::Directives::some_arguments_at))]
-fn some_arguments(alloc: Global, reader: &mut Reader) -> Result<List<RawArgument>, Refusal>
-    ensures { Consumes some_arguments_at reader.old reader.new result }
-{
-    let mut arguments = one_argument(alloc, reader, List::new(alloc))?;
-    while reader.next_is(Sort::Comma) {
-        arguments = next_argument(alloc, reader, arguments)?;
-    }
-    Ok(arguments)
-}
+    ghost part_at = { argument_at };
 
-#[tactic(auto, unfolding(crate::specs::reading::Directives::arguments_at))]
-fn arguments(alloc: Global, reader: &mut Reader) -> Result<List<RawArgument>, Refusal>
-    ensures { MayConsume arguments_at reader.old reader.new result }
-{
-    if reader.next_is(Sort::Name) {
-        some_arguments(alloc, reader)
-    } else {
-        Ok(List::new(alloc))
+    fn part(alloc: Global, reader: &mut Reader) -> Result<RawArgument, Refusal> {
+        argument(alloc, reader)
     }
 }
 
@@ -255,8 +219,6 @@ pub fn given(alloc: Global, reader: &mut Reader) -> Result<RawGiven, Refusal>
     ensures { Consumes given_at reader.old reader.new result }
 {
     let (_at, kind) = reader.name(alloc)?;
-    reader.take(Sort::OpenParenthesis)?;
-    let arguments = arguments(alloc, reader)?;
-    reader.take(Sort::CloseParenthesis)?;
+    let arguments = parenthesized::<GivenArgument>(alloc, reader, Sort::Name, None)?;
     Ok(RawGiven { kind, arguments })
 }

@@ -2,7 +2,7 @@
 
 ghost use Rattle.std.specs.Prelude.{◌≡◌, IfOk};
 ghost use Rattle.readers.specs.Implements.{Consumes, MayConsume};
-ghost use Rattle.model_reader.specs.reading.Expressions.{leaf, amount_leaf_at, truth_leaf_at, variant_at, part_read_at, dotted_member_at, member_at, named_at};
+ghost use Rattle.model_reader.specs.reading.Expressions.{leaf, amount_leaf_at, truth_leaf_at, member_at, named_at};
 
 use crate::raw::{RawExpr, RawExprKind, RawLiteralKind, RawName, RawPart, RawRead};
 use crate::reading::literals::amount;
@@ -18,10 +18,8 @@ use std::alloc::Global;
 fn leaf(at: Place, what: RawExprKind) -> WithHeight
     ensures { result ≡ leaf at what }
 {
-    WithHeight {
-        expr: RawExpr { at, what },
-        height: 0,
-    }
+    let expr = RawExpr { at, what };
+    WithHeight { expr, height: 0 }
 }
 
 #[tactic(auto, unfolding(crate::specs::reading::Expressions::amount_leaf_at))]
@@ -45,45 +43,22 @@ pub fn truth_leaf(reader: &mut Reader, truth: bool) -> Result<WithHeight, Refusa
     Ok(leaf(at, RawExprKind::Literal(truth)))
 }
 
-/// Reads the variant of the enumeration of this name, behind the dot.
-#[tactic(auto, unfolding(crate::specs::reading::Expressions::variant_at))]
-fn variant(alloc: Global, reader: &mut Reader, kind: RawName) -> Result<RawExprKind, Refusal>
-    ensures { Consumes (variant_at kind) reader.old reader.new result }
-{
-    let variant = raw_name(alloc, reader)?;
-    Ok(RawExprKind::Literal(RawLiteralKind::Variant { kind, variant }))
-}
-
-/// Reads which part is read of the cell of this name, behind the dot.
-#[tactic(auto, unfolding(crate::specs::reading::Expressions::part_read_at))]
-fn part_read(reader: &mut Reader, name: RawName) -> Result<RawExprKind, Refusal>
-    ensures { Consumes (part_read_at name) reader.old reader.new result }
-{
-    let part = part(reader)?;
-    Ok(RawExprKind::Read(RawRead { name, part }))
-}
-
-#[tactic(auto, unfolding(crate::specs::reading::Expressions::dotted_member_at))]
-fn dotted_member(alloc: Global, reader: &mut Reader, name: RawName) -> Result<RawExprKind, Refusal>
-    ensures { Consumes (dotted_member_at name) reader.old reader.new result }
-{
-    reader.take(Sort::Dot)?;
-    if reader.next_is(Sort::Name) {
-        variant(alloc, reader, name)
-    } else {
-        part_read(reader, name)
-    }
-}
-
 /// Reads what stands behind a name: a dot and the name of a variant, or a dot and a part, or nothing.
-#[tactic(auto, unfolding(crate::specs::reading::Expressions::member_at))]
+#[tactic(auto, unfolding(crate::specs::reading::Expressions::member_at, crate::specs::reading::Expressions::dotted_member_at, crate::specs::reading::Expressions::variant_at, crate::specs::reading::Expressions::part_read_at))]
 fn member(alloc: Global, reader: &mut Reader, name: RawName) -> Result<RawExprKind, Refusal>
     ensures { MayConsume (member_at name) reader.old reader.new result }
 {
-    if reader.next_is(Sort::Dot) {
-        dotted_member(alloc, reader, name)
-    } else {
+    if !reader.next_is(Sort::Dot) {
         let part = RawPart::Whole;
+        return Ok(RawExprKind::Read(RawRead { name, part }));
+    }
+    reader.take(Sort::Dot)?;
+    if reader.next_is(Sort::Name) {
+        let kind = name;
+        let variant = raw_name(alloc, reader)?;
+        Ok(RawExprKind::Literal(RawLiteralKind::Variant { kind, variant }))
+    } else {
+        let part = part(reader)?;
         Ok(RawExprKind::Read(RawRead { name, part }))
     }
 }

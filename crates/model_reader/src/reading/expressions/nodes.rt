@@ -1,10 +1,10 @@
 //! Expressions of others, with their heights.
 
 ghost use Rattle.std.specs.Prelude.{◌≡◌, ◌<◌, IfOk};
-ghost use Rattle.model_reader.specs.reading.Expressions.{in_parentheses, behind_sign, higher, joined};
+ghost use Rattle.model_reader.specs.reading.Expressions.{in_parentheses, behind_sign, higher, binary};
 
 use crate::raw::{RawExpr, RawExprKind};
-use crate::reading::expressions::part::Sign;
+use crate::reading::expressions::precedence::Sign;
 use crate::reading::with_height::WithHeight;
 use aerie_base::{Boxed, Operator, OutOfMemory, Place};
 use std::alloc::Global;
@@ -39,10 +39,8 @@ pub fn behind_sign(
         Sign::Minus => RawExprKind::Negate(operand),
         Sign::Exclamation => RawExprKind::Not(operand),
     };
-    Ok(WithHeight {
-        expr: RawExpr { at, what },
-        height,
-    })
+    let expr = RawExpr { at, what };
+    Ok(WithHeight { expr, height })
 }
 
 fn higher(a: usize, b: usize) -> usize
@@ -52,7 +50,7 @@ fn higher(a: usize, b: usize) -> usize
 }
 
 /// The operator between two expressions.
-pub fn joined(
+pub fn binary(
     alloc: Global,
     operator: Operator,
     left: WithHeight,
@@ -60,21 +58,17 @@ pub fn joined(
 ) -> Result<WithHeight, OutOfMemory>
     requires left { left.height < 64 }
     requires right { right.height < 64 }
-    ensures { IfOk result (λ whole. whole ≡ joined operator left right) }
+    ensures { IfOk result (λ whole. whole ≡ binary operator left right) }
 {
     let at = left.expr.at;
     let height = higher(left.height, right.height) + 1;
     let left = Boxed::new(alloc, left.expr)?;
     let right = Boxed::new(alloc, right.expr)?;
-    Ok(WithHeight {
-        expr: RawExpr {
-            at,
-            what: RawExprKind::Binary {
-                operator,
-                left,
-                right,
-            },
-        },
-        height,
-    })
+    let what = RawExprKind::Binary {
+        operator,
+        left,
+        right,
+    };
+    let expr = RawExpr { at, what };
+    Ok(WithHeight { expr, height })
 }

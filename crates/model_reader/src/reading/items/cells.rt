@@ -1,13 +1,12 @@
 //! Counters, registers and accumulators.
 
 ghost use Rattle.readers.specs.Implements.{Consumes};
-ghost use Rattle.model_reader.specs.reading.Items.{counter_at, register_at, int_literal_at, accumulator_at, cell_at};
+ghost use Rattle.model_reader.specs.reading.Items.{counter_at, register_at, accumulator_at, cell_at};
 
 use crate::raw::{RawItem, RawLiteral, RawLiteralKind};
 use crate::reading::literals::{int, literal};
 use crate::reading::names::raw_name;
 use crate::reading::types::type_;
-use aerie_base::Number;
 use aerie_text::Sort;
 use readers::{Reader, Refusal};
 use std::alloc::Global;
@@ -38,19 +37,7 @@ fn register(alloc: Global, reader: &mut Reader) -> Result<RawItem, Refusal>
     Ok(RawItem::Register { name, kind, start })
 }
 
-/// Reads a whole number as a literal.
-#[tactic(auto, unfolding(crate::specs::reading::Items::int_literal_at))]
-fn int_literal(reader: &mut Reader) -> Result<RawLiteral, Refusal>
-    ensures { Consumes int_literal_at reader.old reader.new result }
-{
-    let (at, number) = int(reader)?;
-    Ok(RawLiteral {
-        at,
-        what: RawLiteralKind::Number(number),
-    })
-}
-
-#[tactic(auto, unfolding(crate::specs::reading::Items::accumulator_at))]
+#[tactic(auto, unfolding(crate::specs::reading::Items::accumulator_at, crate::specs::reading::Items::int_literal_at))]
 fn accumulator(alloc: Global, reader: &mut Reader) -> Result<RawItem, Refusal>
     ensures { Consumes accumulator_at reader.old reader.new result }
 {
@@ -59,8 +46,10 @@ fn accumulator(alloc: Global, reader: &mut Reader) -> Result<RawItem, Refusal>
     reader.take(Sort::Assign)?;
     let (_at, volume) = int(reader)?;
     reader.take(Sort::Rate)?;
-    let rate = int_literal(reader)?;
+    let (at, rate) = int(reader)?;
     reader.take(Sort::Semicolon)?;
+    let what = RawLiteralKind::Number(rate);
+    let rate = RawLiteral { at, what };
     Ok(RawItem::Accumulator { name, volume, rate })
 }
 

@@ -1,12 +1,12 @@
 //! The items so far: how many there are of each kind, how many there may be, and the items with one more.
 
 ghost use Rattle.std.specs.Prelude.{◌≡◌, ◌<◌, IfOk};
-ghost use Rattle.model_reader.specs.reading.Items.{none_declared, count_of, most_of, limit_of, with_item};
+ghost use Rattle.model_reader.specs.reading.Items.{none_declared, declared_count, most_of, with_item};
 
 use crate::raw::RawItem;
 use crate::reading::declarations::{Declarations, ItemKind};
 use aerie_base::{List, OutOfMemory};
-use readers::Limit;
+use readers::{Limit, Most};
 use std::alloc::Global;
 
 pub fn none_declared(alloc: Global) -> Declarations
@@ -23,8 +23,8 @@ pub fn none_declared(alloc: Global) -> Declarations
 }
 
 /// How many there are of a kind.
-pub fn count_of(kind: ItemKind, so_far: &Declarations) -> usize
-    ensures { result ≡ count_of kind so_far.now }
+pub fn declared_count(kind: ItemKind, so_far: &Declarations) -> usize
+    ensures { result ≡ declared_count kind so_far.now }
 {
     match kind {
         ItemKind::Enum => so_far.enums,
@@ -36,26 +36,17 @@ pub fn count_of(kind: ItemKind, so_far: &Declarations) -> usize
 }
 
 /// How many there may be of a kind.
-pub fn most_of(kind: ItemKind) -> usize
+pub fn most_of(kind: ItemKind) -> Most
     ensures { result ≡ most_of kind }
 {
-    match kind {
-        ItemKind::Cell | ItemKind::Resource | ItemKind::Activity => 256,
-        ItemKind::Enum | ItemKind::Daemon => 64,
-    }
-}
-
-/// The limit of their number.
-pub fn limit_of(kind: ItemKind) -> Limit
-    ensures { result ≡ limit_of kind }
-{
-    match kind {
-        ItemKind::Enum => Limit::Enums,
-        ItemKind::Cell => Limit::Cells,
-        ItemKind::Resource => Limit::Resources,
-        ItemKind::Activity => Limit::Types,
-        ItemKind::Daemon => Limit::Daemons,
-    }
+    let (count, limit) = match kind {
+        ItemKind::Enum => (64, Limit::Enums),
+        ItemKind::Cell => (256, Limit::Cells),
+        ItemKind::Resource => (256, Limit::Resources),
+        ItemKind::Activity => (256, Limit::Types),
+        ItemKind::Daemon => (64, Limit::Daemons),
+    };
+    Most { count, limit }
 }
 
 /// The items so far, and one more of a kind behind them.
@@ -64,7 +55,7 @@ pub fn with_item(
     so_far: Declarations,
     last: RawItem,
 ) -> Result<Declarations, OutOfMemory>
-    requires { count_of kind so_far < most_of kind }
+    requires { declared_count kind so_far < (most_of kind).count }
     ensures { IfOk result (λ declared. declared ≡ with_item kind so_far last) }
 {
     let mut declared = so_far;

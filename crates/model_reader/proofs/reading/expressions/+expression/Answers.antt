@@ -7,7 +7,7 @@ use Rattle.readers.specs.Parsed.{Parsed, parsed, ◌>>=◌, repeated}
 use Rattle.readers.specs.declared.refusal.Refusal.{Refusal}
 use Rattle.readers.proofs.Going.{going_refused}
 use Rattle.model_reader.specs.declared.reading.with_height.WithHeight.{WithHeight}
-use Rattle.model_reader.specs.declared.reading.expressions.part.Part.TheVariants.{Product}
+use Rattle.model_reader.specs.declared.reading.expressions.precedence.Precedence.TheVariants.{Product}
 use Rattle.model_reader.specs.reading.Expressions.{Readers, inner_readers, operation_at, is_sum_sign, sum_sign_at, product_at, sum_at, chain_at}
 use Rattle.model_reader.proofs.reading.expressions.+expression.Goals as goal
 

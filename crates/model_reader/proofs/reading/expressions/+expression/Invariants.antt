@@ -3,22 +3,16 @@ use Rattle.aerie_base.specs.declared.expressions.Operator.TheVariants.{And, Or}
 use Rattle.aerie_text.specs.declared.sorts.Sort.TheVariants.{DoubleAmpersand, DoubleBar}
 use Rattle.readers.specs.Parsed.{is_of}
 use Rattle.readers.proofs.Going.{Going}
-use Rattle.model_reader.specs.declared.reading.expressions.part.Part.TheVariants.{Conjunction, Comparison, Product, Unary}
+use Rattle.model_reader.specs.declared.reading.expressions.precedence.Precedence.TheVariants.{Conjunction, Comparison, Product, Unary}
 use Rattle.model_reader.specs.reading.Names.{standing_for}
 use Rattle.model_reader.specs.reading.Expressions.{inner_readers, operation_at, is_product_sign, product_sign_at, is_sum_sign, sum_sign_at}
 use Rattle.model_reader.proofs.reading.expressions.+expression.Given as goal
-
-abbrev pub decreases-parentheses : goal.decreases-parentheses
-decreases-parentheses l = 10 * l.room + 1
 
 abbrev pub decreases-parenthesis : goal.decreases-parenthesis
 decreases-parenthesis l = 10 * l.room + 2
 
 abbrev pub decreases-primary : goal.decreases-primary
 decreases-primary l = 10 * l.room + 3
-
-abbrev pub decreases-signed : goal.decreases-signed
-decreases-signed l = 10 * l.room + 1
 
 abbrev pub decreases-unary : goal.decreases-unary
 decreases-unary l = 10 * l.room + 4

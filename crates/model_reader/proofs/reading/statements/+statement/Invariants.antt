@@ -3,32 +3,20 @@ use Rattle.readers.proofs.Going.{Going}
 use Rattle.model_reader.specs.reading.Statements.{begins_stmt, inner_blocks, stmt_turn_at}
 use Rattle.model_reader.proofs.reading.statements.+statement.Given as goal
 
-abbrev pub decreases-inner_stmts : goal.decreases-inner_stmts
-decreases-inner_stmts l = 10 * l.room + 0
-
-abbrev pub decreases-opened_block : goal.decreases-opened_block
-decreases-opened_block l = 10 * l.room + 1
+abbrev pub decreases-nested : goal.decreases-nested
+decreases-nested l = 10 * l.room + 0
 
 abbrev pub decreases-block : goal.decreases-block
 decreases-block l = 10 * l.room + 2
 
-abbrev pub decreases-else_block : goal.decreases-else_block
-decreases-else_block l = 10 * l.room + 3
-
 abbrev pub decreases-else_ : goal.decreases-else_
 decreases-else_ l = 10 * l.room + 4
-
-abbrev pub decreases-choice : goal.decreases-choice
-decreases-choice l = 10 * l.room + 5
 
 abbrev pub decreases-if_ : goal.decreases-if_
 decreases-if_ l = 10 * l.room + 6
 
 abbrev pub decreases-while_ : goal.decreases-while_
 decreases-while_ l = 10 * l.room + 6
-
-abbrev pub decreases-stmt : goal.decreases-stmt
-decreases-stmt l = 10 * l.room + 7
 
 abbrev pub decreases-stmt_turn : goal.decreases-stmt_turn
 decreases-stmt_turn l = 10 * l.room + 8

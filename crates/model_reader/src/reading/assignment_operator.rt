@@ -1,6 +1,6 @@
 /// What a statement that begins with a name does to what the name stands for.
 #[derive(Clone, Copy, Debug)]
-pub enum Change {
+pub enum AssignmentOperator {
     /// `=`: a local takes another value.
     Assign,
     /// `+=`: a counter is added to.

@@ -2,7 +2,7 @@ use aerie_base::Comparison;
 
 /// A part of an expression, from the loosest to the tightest.
 #[derive(Clone, Copy, Debug)]
-pub enum Part {
+pub enum Precedence {
     /// A whole expression.
     Expr,
     /// An operand of `||`.
