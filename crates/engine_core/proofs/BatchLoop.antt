@@ -21,7 +21,7 @@ use Rattle.run_data.specs.laws.Orders.{EachOf, EachTwo, AreApart}
 use Rattle.run_data.specs.laws.SmallSteps.{IsJobWithin, StepsAreSmall, PendingStepsAreJobs, WithinIsJob}
 use Rattle.run_data.specs.laws.WaveFuel.{WaveTellsFrames, SpentIsLimit}
 use Rattle.run_data.specs.laws.WaveGenerations.{generation_of, generation_by, GenerationByFrames}
-use Rattle.engine_core.specs.BatchGenerations.{jobs_of, so_far, AddsGeneration, IsTurn, CanRun, PaysForTurn, LooksForTurn, in_generations, reach_after, AreDueJobs, StandsBetween, AreAllFrames}
+use Rattle.engine_core.specs.BatchGenerations.{jobs_of, so_far, AddsGeneration, IsTurn, MayRun, PaysForTurn, LooksForTurn, in_generations, reach_after, AreDueJobs, StandsBetween, AreAllFrames}
 use Rattle.engine_core.proofs.ChildEffects.{seen_steps}
 use Rattle.engine_core.proofs.BatchTurns.{as_many, turn_counts}
 
@@ -78,7 +78,7 @@ begins model bound spent jobs made none less due = record {
 
 module _ (model : Parts) (bound spent : ℕ) (jobs : List (ℕ × Job)) (count : ℕ) (made : List Frame) (left : ℕ) (dues : List (ℕ × Job)) (stands : StandsBetween model bound spent jobs (suc count) made left dues) where
   -- its jobs may be run
-  pub can_run : WithinIsJob → StepsAreSmall → CostIsWithin → IsTrue (valid_model model) → bound ≤ step_limit → count ≤ child_limit → CanRun model bound dues
+  pub can_run : WithinIsJob → StepsAreSmall → CostIsWithin → IsTrue (valid_model model) → bound ≤ step_limit → count ≤ child_limit → MayRun model bound dues
   can_run law small cost valid few least = record {
     may = all_are_jobs law model (reach_after (child_limit + 1 - suc count)) dues (omega arith) stands.within;
     seen = seen_steps small cost model bound (reach_after (child_limit + 1 - suc count)) dues valid few (omega arith) stands.within stands.few;

@@ -1,5 +1,6 @@
 mod BatchFilling
 mod BatchLoop
+mod BatchOrder
 mod BatchRuns
 mod BatchTurns
 mod ChildEffects

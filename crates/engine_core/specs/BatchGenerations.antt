@@ -39,7 +39,7 @@ AddsGeneration model jobs frames made after dues =
     beside_generation (so_far made []) (generation_of model (map pending_of jobs) frames) ≡ so_far after dues
 
 -- jobs may be stepped, and what the steps do can be seen by the children that they make
-pub record CanRun (model : Parts) (bound : ℕ) (jobs : List (ℕ × Job)) : Type 0 where
+pub record MayRun (model : Parts) (bound : ℕ) (jobs : List (ℕ × Job)) : Type 0 where
   pub may : All (IsJobOf model) (jobs_of jobs)
   pub seen : (frames : List Frame) → frames_of model bound (jobs_of jobs) ≡ Some frames → AreSeenSteps jobs frames
 

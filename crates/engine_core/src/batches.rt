@@ -2,3 +2,4 @@
 
 mod children;
 mod generations;
+mod ordering;

@@ -7,7 +7,7 @@ ghost use Rattle.run_data.specs.Batches.{cost_of};
 ghost use Rattle.run_data.specs.Waves.{last_count, wave_of, RoseAlike};
 ghost use Rattle.run_data.specs.laws.Generations.{beside_generation};
 ghost use Rattle.engine_core.specs.BatchDues.{AreSeenSteps, IsSeenStep};
-ghost use Rattle.engine_core.specs.BatchGenerations.{so_far, added_by, AddsGeneration, CanRun, IsTurn, PaysForTurn, LooksForTurn, PaysForAll, LooksForAll, Ran, AreDueJobs, AreAllFrames};
+ghost use Rattle.engine_core.specs.BatchGenerations.{so_far, added_by, AddsGeneration, MayRun, IsTurn, PaysForTurn, LooksForTurn, PaysForAll, LooksForAll, Ran, AreDueJobs, AreAllFrames};
 
 use super::children::{deep_frames, with_children};
 use crate::ready_jobs::ReadyJobs;
@@ -98,7 +98,7 @@ fn run_generation<S: Stepper, L: Ledger, K: Ledger>(
     requires model { S.is_of stepper.old model.now }
     requires bound { bound ≤ step_limit }
     requires fuel { fuel ≤ bound }
-    requires jobs { CanRun model.now bound jobs.now }
+    requires jobs { MayRun model.now bound jobs.now }
     ensures turn { IfOk result (λ next. IsTurn model.now jobs.now fuel made.old.items made.new.items next) }
     ensures pays { IfOk result (λ next. PaysForTurn next (S.records stepper.old) made.old.items made.new.items steps.old steps.new) }
     ensures few_looks { IfOk result (λ next. LooksForTurn next made.old.items made.new.items looks.old looks.new) }
