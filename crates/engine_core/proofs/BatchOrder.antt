@@ -21,10 +21,13 @@ use Rattle.engine_core.specs.BatchOrders.{is_before, AreByPath}
 pub order : IsStrictWeakOrder is_before
 order = ranks_by nat_list_cmp_total (λ (frame : Frame). frame.path)
 
-reversed : (p q : List ℕ) (o : Ordering) → path_cmp p q ≡ o → path_cmp q p ≡ ordering_reverse o
+pub path_order : IsStrictWeakOrder (λ p q. is_lt (path_cmp p q))
+path_order = ranks_by nat_list_cmp_total (λ (path : List ℕ). path)
+
+pub reversed : (p q : List ℕ) (o : Ordering) → path_cmp p q ≡ o → path_cmp q p ≡ ordering_reverse o
 reversed p q o e = nat_list_cmp_total.antisymm q p ∙ ap ordering_reverse e
 
-itself : (path : List ℕ) → path_cmp path path ≡ Equal
+pub itself : (path : List ℕ) → path_cmp path path ≡ Equal
 itself path = by (path_cmp path path) (nat_list_cmp_total.antisymm path path)
   where
     by : (o : Ordering) → o ≡ ordering_reverse o → o ≡ Equal

@@ -83,7 +83,7 @@ pair_here [] at one other e f = absurd (cc)
 pair_here (pair ∷ rest) zero one other e f = (let first : pair.0 ≡ one = cc in λ i. Some (first i, sym f i))
 pair_here (pair ∷ rest) (suc at) one other e f = pair_here rest at one other e f
 
-drop_here : {A : Type 0} (items : List A) (at : ℕ) (one : A) → slice_get items at ≡ Some one → drop at items ≡ one ∷ drop (at + 1) items
+pub drop_here : {A : Type 0} (items : List A) (at : ℕ) (one : A) → slice_get items at ≡ Some one → drop at items ≡ one ∷ drop (at + 1) items
 drop_here [] at one e = absurd (cc)
 drop_here {A} (first ∷ rest) zero one e = (let same : first ≡ one = cc in ap (λ (x : A). x ∷ rest) same)
 drop_here {A} (first ∷ rest) (suc at) one e = drop_here rest at one e ∙ ap (λ n. one ∷ drop n (first ∷ rest)) (let k : suc (at + 1) ≡ suc at + 1 = omega arith in k)

@@ -1,7 +1,10 @@
+mod BatchFaults
 mod BatchFilling
+mod BatchJudging
 mod BatchLoop
 mod BatchOrder
 mod BatchRuns
+mod BatchTouched
 mod BatchTurns
 mod ChildEffects
 mod ChildViews
@@ -11,3 +14,6 @@ mod Pairs
 mod PathTables
 mod PutIndexes
 mod PutTasks
+mod TreeLookup
+mod TreeParts
+mod TreeSizes

@@ -1,7 +1,10 @@
 pub mod BatchDues
+pub mod BatchEnding
 pub mod BatchEnds
 pub mod BatchGenerations
+pub mod BatchNumbers
 pub mod BatchOrders
+pub mod BatchTrees
 pub mod BatchViews
 pub mod Phases
 pub mod TasksByNumber

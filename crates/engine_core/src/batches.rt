@@ -1,5 +1,176 @@
 //! One batch: the steps of its ready tasks and of the children that they make, a generation at a time.
 
+ghost use Rattle.std.specs.Prelude.{◌≡◌, ◌≤◌, ◌<◌, ℕ, Some, IfOk, IsTrue, length};
+ghost use Rattle.aerie_base.specs.Ranges.{step_limit};
+ghost use Rattle.aerie_base.specs.declared.models.model.Parts.{Parts};
+ghost use Rattle.effect_cells.specs.Cells.{AreInRange, fits_cells};
+ghost use Rattle.effect_cells.specs.Sums.{sum_limit};
+ghost use Rattle.effect_cells.specs.Worth.{magnitude_of};
+ghost use Rattle.run_data.specs.Batches.{batch, by_path};
+ghost use Rattle.run_data.specs.Waves.{RoseAlike};
+ghost use Rattle.run_data.specs.laws.Orders.{EachOf};
+ghost use Rattle.run_data.specs.laws.Trees.{tree_by_frames};
+ghost use Rattle.engine_core.specs.BatchEnding.{committed_by, IsCommittedWith, HasFrames};
+ghost use Rattle.engine_core.specs.BatchEnds.{batch_as, batch_frames, AreReadyJobs, SpendsWith, IsFrugalEnd, HasFewLooks};
+ghost use Rattle.engine_core.specs.BatchOrders.{AreByPath, AreMade};
+ghost use Rattle.engine_core.specs.BatchTrees.{HaveFewItems};
+
 mod children;
+mod faults;
 mod generations;
 mod ordering;
+mod touching;
+mod trees;
+
+use crate::batch_ends::BatchEnd;
+use crate::ready_jobs::ReadyJobs;
+use aerie_base::{Fault, List, Model, OutOfMemory, Steps};
+use effect_cells::Cells;
+use run_data::laws::{
+    order_does_not_matter, same_by_generations, steps_are_small, tree_is_rebuilt,
+};
+use run_data::{Frame, Stepper, Who};
+use std::alloc::Global;
+use std::sync::ledger::Ledger;
+
+/// Puts the tree of frames in order on the cells, unless one would leave its range.
+fn commit(
+    alloc: Global,
+    model: &Model,
+    cells: &mut Cells,
+    jobs: &ReadyJobs,
+    frames: Vec<Frame>,
+    spent: u64,
+) -> Result<BatchEnd, OutOfMemory>
+    requires order { AreByPath frames.items }
+    requires few { HaveFewItems frames.items }
+    requires made { EachOf (λ job. job.0 ≤ step_limit) jobs.now }
+    requires count { length cells.old ≡ length model.now.cells }
+    requires range { AreInRange cells.old }
+    requires fits { IsTrue (fits_cells cells.old (tree_by_frames frames.items jobs.now)) }
+    requires worth { magnitude_of (tree_by_frames frames.items jobs.now) < sum_limit }
+    ensures end { IfOk result (λ end. batch_as end cells.new ≡ committed_by (tree_by_frames frames.items jobs.now) cells.old frames.items) }
+    ensures with_ { IfOk result (λ end. IsCommittedWith frames.items spent end) }
+{
+    let tree = trees::tree(alloc, frames.as_slice(), jobs)?;
+    let touched = touching::touched_cells(alloc, model.cells().len(), &tree)?;
+    match cells.commit(&tree) {
+        Ok(()) => Ok(BatchEnd::Committed {
+            frames: List::from_vec(frames),
+            touched,
+            spent,
+        }),
+        Err(out) => Ok(BatchEnd::Failed {
+            who: Who::Cell(out.cell),
+            fault: Fault::Range,
+        }),
+    }
+}
+
+/// Judges a batch that makes these frames: its costs, then its faults, then its cells.
+fn judge(
+    alloc: Global,
+    model: &Model,
+    bound: u64,
+    spent: u64,
+    cells: &mut Cells,
+    jobs: &ReadyJobs,
+    frames: Vec<Frame>,
+) -> Result<BatchEnd, OutOfMemory>
+    requires bound { bound ≤ step_limit }
+    requires spent { spent ≤ bound }
+    requires ready { AreReadyJobs model.now spent cells.old jobs.now }
+    requires made { AreMade model.now bound jobs.now frames.items }
+    ensures end { IfOk result (λ end. batch_as end cells.new ≡ batch model.now bound spent cells.old jobs.now) }
+    ensures spends { IfOk result (λ end. SpendsWith spent end) }
+    ensures frames { IfOk result (λ end. HasFrames (by_path frames.items) end) }
+{
+    steps_are_small();
+    order_does_not_matter();
+    tree_is_rebuilt();
+    let _ = model.cells();
+    let cost = generations::cost(frames.as_slice());
+    if cost > bound - spent {
+        return Ok(BatchEnd::Limit);
+    }
+    let sorted = ordering::in_order(frames)?;
+    if let Some((path, fault)) = faults::first_fault(alloc, sorted.as_slice())? {
+        return Ok(BatchEnd::Failed {
+            who: Who::Task(path),
+            fault,
+        });
+    }
+    let end = commit(alloc, model, cells, jobs, sorted, spent + cost)?;
+    Ok(end)
+}
+
+/// The batch of the ready jobs, whose frames the stepper gives by waves, one for each generation of children. Its effects are on
+/// the cells where it is committed, and else the cells stay. After want of memory the cells may be either.
+#[allow(clippy::too_many_arguments)]
+pub(crate) fn run_batch<S: Stepper, L: Ledger, K: Ledger>(
+    alloc: Global,
+    model: &Model,
+    bound: u64,
+    spent: u64,
+    cells: &mut Cells,
+    ready: &ReadyJobs,
+    stepper: &mut S,
+    steps: &mut Steps<L>,
+    looks: &mut Steps<K>,
+) -> Result<BatchEnd, OutOfMemory>
+    requires shares { S.shares }
+    requires stepper { S.is_of stepper.old model.now }
+    requires bound { bound ≤ step_limit }
+    requires spent { spent ≤ bound }
+    requires ready { AreReadyJobs model.now spent cells.old ready.now }
+    ensures end { IfOk result (λ end. batch_as end cells.new ≡ batch model.now bound spent cells.old ready.now) }
+    ensures spends { IfOk result (λ end. SpendsWith spent end) }
+    ensures frugal { IfOk result (λ end. IsFrugalEnd end (S.records stepper.old) steps.old steps.new) }
+    ensures looks { looks.old ≤ looks.new }
+    ensures few_looks { IfOk result (λ end. HasFewLooks end looks.old looks.new) }
+    ensures opened { RoseAlike (S.opened stepper.old) steps.old (S.opened stepper.new) steps.new }
+    ensures same_models { (of : Parts) → (S.is_of stepper.old of → S.is_of stepper.new of) × (S.is_of stepper.new of → S.is_of stepper.old of) }
+    ensures same_records { S.records stepper.new ≡ S.records stepper.old }
+    ensures anchor { S.anchor stepper.new ≡ S.anchor stepper.old }
+{
+    same_by_generations();
+    let made = generations::all_frames(alloc, model, bound, spent, ready, stepper, steps, looks)?;
+    let Some(frames) = made else {
+        return Ok(BatchEnd::Limit);
+    };
+    let end = judge(alloc, model, bound, spent, cells, ready, frames)?;
+    Ok(end)
+}
+
+/// Equal frames.
+fn copies(alloc: Global, frames: &[Frame]) -> Result<Vec<Frame>, OutOfMemory>
+    ensures { IfOk result (λ copies. copies.items ≡ frames.now) }
+{
+    let mut copies = Vec::with_capacity(alloc, frames.len())?;
+    for frame in frames {
+        copies.push(frame.copy(alloc)?)?;
+    }
+    Ok(copies)
+}
+
+/// The batch of the ready jobs, whose frames the caller has, in order of path. They are copied.
+pub(crate) fn take_batch(
+    alloc: Global,
+    model: &Model,
+    bound: u64,
+    spent: u64,
+    cells: &mut Cells,
+    ready: &ReadyJobs,
+    frames: &[Frame],
+) -> Result<BatchEnd, OutOfMemory>
+    requires bound { bound ≤ step_limit }
+    requires spent { spent ≤ bound }
+    requires ready { AreReadyJobs model.now spent cells.old ready.now }
+    requires frames { batch_frames model.now bound ready.now ≡ Some frames.now }
+    ensures end { IfOk result (λ end. batch_as end cells.new ≡ batch model.now bound spent cells.old ready.now) }
+    ensures spends { IfOk result (λ end. SpendsWith spent end) }
+{
+    let copies = copies(alloc, frames)?;
+    let end = judge(alloc, model, bound, spent, cells, ready, copies)?;
+    Ok(end)
+}

@@ -20,7 +20,7 @@ use std::alloc::Global;
 use std::sync::ledger::Ledger;
 
 /// How many children a path names at most.
-const CHILD_LIMIT: usize = 64;
+pub(super) const CHILD_LIMIT: usize = 64;
 
 /// The costs of frames together, up to 2^64 - 1.
 pub(super) fn cost(frames: &[Frame]) -> u64
