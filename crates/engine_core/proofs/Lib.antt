@@ -1,3 +1,4 @@
+mod AfterFrames
 mod BatchFaults
 mod BatchFilling
 mod BatchJudging
@@ -8,12 +9,15 @@ mod BatchTouched
 mod BatchTurns
 mod ChildEffects
 mod ChildViews
+mod GoingOnTasks
 mod ListedTimes
 mod MarkedPaths
 mod Pairs
 mod PathTables
 mod PutIndexes
 mod PutTasks
+mod ReadyIndex
+mod RestingTasks
 mod TreeLookup
 mod TreeParts
 mod TreeSizes

@@ -6,6 +6,7 @@ pub mod BatchNumbers
 pub mod BatchOrders
 pub mod BatchTrees
 pub mod BatchViews
+pub mod GoingOn
 pub mod Phases
 pub mod TasksByNumber
 pub mod Times

@@ -2,7 +2,7 @@
 use Rattle.std.specs.Prelude.{ℕ, Bool, true, false, Option, Some, None}
 use Rattle.aerie_base.specs.declared.values.Value.{Value}
 use Rattle.aerie_base.specs.declared.conditions.Cond.{Cond}
-use Rattle.aerie_base.specs.declared.plans.Edge.{Edge}
+use Rattle.aerie_base.specs.declared.plans.Anchor.{Anchor}
 use Rattle.run_data.specs.declared.tasks.TaskState.{TaskState}
 use Rattle.run_data.specs.declared.frames.Item.{Item}
 use Rattle.run_data.specs.declared.frames.Item.TheVariants as item
@@ -47,8 +47,8 @@ callee_in (waiting condition state) = None
 callee_in (over result) = None
 
 -- what a task's start is counted from
-abbrev pub anchor_in : TaskPhase → Option (ℕ × Edge)
-anchor_in (anchored to edge start state) = Some (to, edge)
+abbrev pub anchor_in : TaskPhase → Option Anchor
+anchor_in (anchored to edge start state) = Some (record { to = to; edge = edge })
 anchor_in (ready state) = None
 anchor_in (delayed until state) = None
 anchor_in (waiting condition state) = None

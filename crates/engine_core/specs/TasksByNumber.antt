@@ -1,5 +1,5 @@
 -- Tasks by number, in the order in which they came, with the indexes that the engine keeps of them.
-use Rattle.std.specs.Prelude.{◌≡◌, ◌⊎◌, ℕ, zero, suc, ◌<◌, Bool, true, List, [], ◌∷◌, map, Option, Some, None, cond, length, slice_get}
+use Rattle.std.specs.Prelude.{◌≡◌, ◌⊎◌, ℕ, zero, suc, ◌<◌, ◌^◌, Bool, true, List, [], ◌∷◌, map, Option, Some, None, cond, length, slice_get}
 use Rattle.std.specs.List.{Contains}
 use Rattle.std.specs.Cmp.Lexicographic.{pointwise}
 use Rattle.std.specs.Prelude.{nat_eq}
@@ -12,7 +12,9 @@ use Rattle.aerie_base.specs.Paths.{path_cmp}
 use Rattle.effect_cells.specs.declared.effects.CellState.{CellState}
 use Rattle.effect_cells.specs.ReadCells.{reads_cell}
 use Rattle.run_data.specs.Endings.{is_open}
-use Rattle.run_data.specs.Tasks.{TaskPhase, anchored, ready, delayed, waiting, calling, over, Task, Table, task_at}
+use Rattle.engine_core.specs.Phases.{gone_on_from}
+use Rattle.engine_core.specs.declared.tasks.Changed.{Changed}
+use Rattle.run_data.specs.Tasks.{TaskPhase, anchored, ready, delayed, waiting, calling, over, Task, Table, task_at, children_made}
 use Rattle.run_data.specs.laws.EndedTasks.{open_is}
 use Rattle.run_data.specs.laws.NextTimes.{delay_in, wake_in}
 use Rattle.run_data.specs.laws.NumberedTasks.{sorted_tasks, Distinct}
@@ -28,6 +30,21 @@ put_task tasks path task = insert_entry (pointwise nat_eq) tasks path task
 abbrev pub number_for : Table → List ℕ → ℕ
 number_for [] path = zero
 number_for (entry ∷ rest) path = cond (pointwise nat_eq path entry.0) zero (suc (number_for rest path))
+
+-- no task has made so many children that the next one has no number
+abbrev pub MadeIsSmall : Table → Type 0
+MadeIsSmall table = (path : List ℕ) → children_made (task_at table path) < 2 ^ 32
+
+-- a task that was delayed or waited goes on
+abbrev pub resumed_task : Task → Task
+resumed_task task = record task { phase = gone_on_from task.phase }
+
+-- what is found at a number, changed, with its path
+abbrev pub IsChange : (List ℕ → Task → Task) → Option (List ℕ × Task) → Option Changed → Type 0
+IsChange change None None = Unit {0}
+IsChange change None (Some changed) = ⊥
+IsChange change (Some entry) None = ⊥
+IsChange change (Some entry) (Some changed) = (changed.path ≡ entry.0) × (changed.task ≡ change entry.0 entry.1)
 
 -- ---- delays, open bodies, ready tasks
 

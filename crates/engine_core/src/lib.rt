@@ -4,6 +4,7 @@
 mod batch_ends;
 mod batches;
 mod beginnings;
+mod going_on;
 mod indexes;
 mod phases;
 mod ready_jobs;

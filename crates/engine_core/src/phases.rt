@@ -7,7 +7,7 @@ ghost use Rattle.run_data.specs.laws.ReadyTasks.{is_ready_phase};
 ghost use Rattle.engine_core.specs.Phases.{phase_of, is_waiting, condition_in, callee_in, anchor_in, may_resume, gone_on_from, returned_to, due_from, is_child};
 
 use crate::ready_jobs::ReadyJobs;
-use aerie_base::{Cond, Edge, List, Number, OutOfMemory, Path, Shared, Time, Value};
+use aerie_base::{Anchor, Cond, Edge, List, Number, OutOfMemory, Path, Shared, Time, Value};
 use effect_cells::Cells;
 use run_data::{Item, Job, Status, TaskState};
 use std::alloc::Global;
@@ -281,11 +281,14 @@ impl TrackedTask {
     }
 
     /// What its start is counted from, where it is anchored.
-    pub(crate) fn anchor(&self) -> Option<(u32, Edge)>
+    pub(crate) fn anchor(&self) -> Option<Anchor>
         ensures { result ≡ anchor_in self.now.phase }
     {
         match &self.phase {
-            Phase::Anchored { to, edge, .. } => Some((*to, *edge)),
+            Phase::Anchored { to, edge, .. } => Some(Anchor {
+                to: *to,
+                edge: *edge,
+            }),
             _ => None,
         }
     }

@@ -1,22 +1,26 @@
-ghost use Rattle.std.specs.Prelude.{◌≡◌, ◌<◌, ℕ, List, None, option_map, length, slice_get, IfOk, IfSome};
+ghost use Rattle.std.specs.Prelude.{◌≡◌, ◌<◌, ◌+◌, ◌^◌, ◌++◌, ℕ, List, [], Some, None, true, option_map, length, slice_get, slice_set, IfOk, IfSome};
 ghost use Rattle.std.specs.Map.Iter.{deref_pair};
+ghost use Rattle.std.specs.Option.{option_copied};
 ghost use Rattle.effect_cells.specs.declared.effects.CellState.{CellState};
 ghost use Rattle.run_data.specs.Endings.{has_ended};
-ghost use Rattle.run_data.specs.Tasks.{task_at};
+ghost use Rattle.run_data.specs.Tasks.{Task, task_at, ready_jobs, children_made, children_in, after_frame, after_frames, on_each, rested};
+ghost use Rattle.run_data.specs.laws.NextTimes.{least_delay};
+ghost use Rattle.run_data.specs.laws.ReadyTasks.{job_of};
+ghost use Rattle.engine_core.specs.Phases.{may_resume};
+ghost use Rattle.engine_core.specs.Times.{IsUpToTime};
 ghost use Rattle.run_data.specs.laws.EndedTasks.{open_is};
 ghost use Rattle.run_data.specs.laws.NumberedTasks.{sorted_tasks, Distinct};
-ghost use Rattle.engine_core.specs.TasksByNumber.{put_task, number_for, AreKept};
+ghost use Rattle.engine_core.specs.TasksByNumber.{put_task, number_for, delays_of, MadeIsSmall, IsChange, resumed_task, AreKept};
 
 use crate::indexes::{Indexes, Standing};
-use crate::phases::TrackedTask;
+use crate::phases::{TrackedTask, count_children, micros};
 use crate::ready_jobs::ReadyJobs;
 use crate::waits::Waits;
-use aerie_base::{OutOfMemory, Path, Shared};
+use aerie_base::{OutOfMemory, Path, Shared, Time};
 use effect_cells::Cells;
 use indexmap::IndexMap;
-use run_data::laws::{
-    endings_go_by_open_bodies, ready_by_index, tasks_are_put_by_path, tasks_stand_by_number,
-};
+use run_data::Frame;
+use run_data::laws::{endings_go_by_open_bodies, ready_by_index, tasks_stand_by_number};
 use std::alloc::Global;
 use std::marker::Model;
 
@@ -24,13 +28,13 @@ use std::marker::Model;
 /// looked for. Contracts see the tasks by number, the wake times that are kept, the numbers of the waiting tasks whose
 /// wake time is to be found anew, and by cell the numbers of those that may wait for it.
 #[derive(Drop)]
-pub(crate) struct Tasks {
+pub(crate) struct IndexedTasks {
     tasks: IndexMap<Path, TrackedTask>,
     indexes: Indexes,
     waits: Waits,
 }
 
-impl Model for Tasks {
+impl Model for IndexedTasks {
     ghost use Rattle.std.specs.Prelude.{◌≡◌, map, length};
     ghost use Rattle.std.specs.Coded.{codes};
     ghost use Rattle.aerie_base.specs.contracts.conditions.Cond as cond_;
@@ -43,6 +47,13 @@ impl Model for Tasks {
     ghost view = { λ all. record { tasks = all.tasks.entries; wakes = all.waits.wakes; stale = all.waits.stale.items; watchers = map (λ numbers. numbers.items) all.waits.watchers.items } };
 
     ghost invariant = { λ all. AreIndexed all.tasks.entries all.indexes.delays all.indexes.opens all.indexes.readies × (length all.waits.wakes ≡ length all.tasks.entries) };
+}
+
+/// A task with its path.
+#[derive(Drop)]
+pub(crate) struct Changed {
+    pub(crate) path: Path,
+    pub(crate) task: TrackedTask,
 }
 
 /// Whether the body of a task is open; where there is no task, none is.
@@ -84,7 +95,7 @@ fn insert(
     })
 }
 
-impl Tasks {
+impl IndexedTasks {
     /// How many tasks there are.
     pub(crate) fn len(&self) -> usize
         ensures { result ≡ length self.now.tasks }
@@ -130,11 +141,11 @@ impl Tasks {
         alloc: Global,
         path: Path,
         task: TrackedTask,
-    ) -> Result<Tasks, OutOfMemory>
+    ) -> Result<IndexedTasks, OutOfMemory>
         ensures tasks { IfOk result (λ all. all.tasks ≡ put_task self.tasks path task) }
         ensures kept { IfOk result (λ all. (now horizon : ℕ) (cells : List CellState) → AreKept now horizon cells self → AreKept now horizon cells all) }
     {
-        let Tasks {
+        let IndexedTasks {
             tasks,
             indexes,
             waits,
@@ -144,10 +155,162 @@ impl Tasks {
         let inserted = insert(alloc, tasks, &path, task)?;
         let waits = waits.put(inserted.number, waiting)?;
         let indexes = indexes.put(alloc, path, inserted.number, inserted.stood, standing)?;
-        Ok(Tasks {
+        Ok(IndexedTasks {
             tasks: inserted.tasks,
             indexes,
             waits,
         })
+    }
+
+    /// Some jobs, and behind them that of the task of a number, if it is ready.
+    fn with_job(
+        &self,
+        alloc: Global,
+        number: usize,
+        view: &Shared<Cells>,
+        jobs: ReadyJobs,
+    ) -> Result<ReadyJobs, OutOfMemory>
+        ensures { IfOk result (λ more_. more_ ≡ jobs ++ job_of view.now (slice_get self.now.tasks number) []) }
+    {
+        match self.entry(number) {
+            Some((path, task)) => task.with_job(alloc, path, view, jobs),
+            None => Ok(jobs),
+        }
+    }
+
+    /// The jobs of the ready tasks, in order of path, each with this view of the cells.
+    pub(crate) fn ready(
+        &self,
+        alloc: Global,
+        view: &Shared<Cells>,
+    ) -> Result<ReadyJobs, OutOfMemory>
+        ensures { IfOk result (λ jobs. jobs ≡ ready_jobs view.now (sorted_tasks self.now.tasks)) }
+    {
+        ready_by_index();
+        let mut jobs = ReadyJobs::new(alloc);
+        for (path, number) in &self.indexes.readies {
+            let _ = path;
+            jobs = self.with_job(alloc, *number, view, jobs)?;
+        }
+        Ok(jobs)
+    }
+
+    /// The task of a path.
+    pub(crate) fn at(&self, path: &Path) -> Option<&TrackedTask>
+        ensures { option_copied result ≡ task_at (sorted_tasks self.now.tasks) path.now }
+    {
+        self.tasks.get(path)
+    }
+
+    /// How many children the task of a path has made.
+    fn made(&self, path: &Path) -> u32
+        ensures { result ≡ children_made (task_at (sorted_tasks self.now.tasks) path.now) }
+    {
+        match self.at(path) {
+            Some(task) => task.made(),
+            None => 0,
+        }
+    }
+
+    /// The tasks after a frame.
+    fn after_frame(
+        self,
+        alloc: Global,
+        now: Time,
+        frame: &Frame,
+    ) -> Result<IndexedTasks, OutOfMemory>
+        requires { children_made (task_at (sorted_tasks self.tasks) frame.now.path) + children_in frame.now.items < 2 ^ 32 }
+        ensures table { IfOk result (λ all. sorted_tasks all.tasks ≡ after_frame now frame.now (sorted_tasks self.tasks)) }
+        ensures kept { IfOk result (λ all. (now horizon : ℕ) (cells : List CellState) → AreKept now horizon cells self → AreKept now horizon cells all) }
+    {
+        let made = self.made(&frame.path) + count_children(&frame.items);
+        let task = TrackedTask::after(alloc, now, &frame.status, made)?;
+        self.put(alloc, frame.path.copy(alloc)?, task)
+    }
+
+    /// The tasks after the frames of a batch, before any of them goes on.
+    pub(crate) fn after_frames(
+        self,
+        alloc: Global,
+        now: Time,
+        frames: &[Frame],
+    ) -> Result<IndexedTasks, OutOfMemory>
+        requires { MadeIsSmall (after_frames now frames.now (sorted_tasks self.tasks)) }
+        ensures table { IfOk result (λ all. sorted_tasks all.tasks ≡ after_frames now frames.now (sorted_tasks self.tasks)) }
+        ensures kept { IfOk result (λ all. (now horizon : ℕ) (cells : List CellState) → AreKept now horizon cells self → AreKept now horizon cells all) }
+    {
+        let mut all = self;
+        for frame in frames {
+            all = all.after_frame(alloc, now, frame)?;
+        }
+        Ok(all)
+    }
+
+    /// The least time at which a delay ends.
+    pub(crate) fn next_delay(&self) -> Option<u64>
+        ensures { result ≡ least_delay self.now.tasks }
+    {
+        match self.indexes.delays.first() {
+            Some((time, _)) => Some(time),
+            None => None,
+        }
+    }
+
+    /// A task whose delay ends now, where none ends earlier.
+    fn due(&self, now: Time) -> Option<usize>
+        ensures found { IfSome result (λ number. slice_get (delays_of self.now.tasks) number ≡ Some (Some now)) }
+        ensures none { result ≡ None → IsUpToTime now (least_delay self.now.tasks) → on_each (rested now) self.now.tasks ≡ self.now.tasks }
+    {
+        match self.indexes.delays.first() {
+            Some((time, number)) => {
+                if time == micros(now) {
+                    Some(number)
+                } else {
+                    None
+                }
+            }
+            None => None,
+        }
+    }
+
+    /// The task of a number, which was delayed or waited, as it goes on.
+    fn resumed(&self, alloc: Global, number: usize) -> Result<Option<Changed>, OutOfMemory>
+        requires { IfSome (slice_get self.now.tasks number) (λ entry. may_resume entry.1.phase ≡ true) }
+        ensures { IfOk result (λ changed. IsChange (λ path task. resumed_task task) (slice_get self.now.tasks number) changed) }
+    {
+        match self.entry(number) {
+            Some((path, task)) => Ok(Some(Changed {
+                path: path.copy(alloc)?,
+                task: task.resumed(alloc)?,
+            })),
+            None => Ok(None),
+        }
+    }
+
+    /// The task of a number, which was delayed or waited, goes on.
+    pub(crate) fn resume(self, alloc: Global, number: usize) -> Result<IndexedTasks, OutOfMemory>
+        requires { IfSome (slice_get self.tasks number) (λ entry. may_resume entry.1.phase ≡ true) }
+        ensures tasks { IfOk result (λ all. (path : List ℕ) (task : Task) → slice_get self.tasks number ≡ Some (path, task) →
+            all.tasks ≡ slice_set self.tasks number (path, resumed_task task)) }
+        ensures kept { IfOk result (λ all. (now horizon : ℕ) (cells : List CellState) → AreKept now horizon cells self → AreKept now horizon cells all) }
+    {
+        self.note_distinct();
+        match self.resumed(alloc, number)? {
+            Some(changed) => self.put(alloc, changed.path, changed.task),
+            None => Ok(self),
+        }
+    }
+
+    /// Lets the tasks go on whose delay ends now.
+    pub(crate) fn rest(self, alloc: Global, now: Time) -> Result<IndexedTasks, OutOfMemory>
+        requires { IsUpToTime now (least_delay self.tasks) }
+        ensures tasks { IfOk result (λ all. all.tasks ≡ on_each (rested now) self.tasks) }
+        ensures kept { IfOk result (λ all. (now horizon : ℕ) (cells : List CellState) → AreKept now horizon cells self → AreKept now horizon cells all) }
+    {
+        let mut all = self;
+        while let Some(number) = all.due(now) {
+            all = all.resume(alloc, number)?;
+        }
+        Ok(all)
     }
 }

@@ -4,7 +4,7 @@ use Rattle.run_data.specs.Tasks.{task_at}
 use Rattle.run_data.specs.laws.NumberedTasks.{sorted_tasks}
 use Rattle.engine_core.specs.TasksByNumber.{Tracked, number_for}
 use Rattle.engine_core.proofs.PutTasks.{found_number, none_there}
-use Rattle.engine_core.proofs.tasks.Tasks.number.Goals as goal
+use Rattle.engine_core.proofs.tasks.IndexedTasks.number.Goals as goal
 
 pub returns-clause-found : goal.returns-clause-found
 returns-clause-found c =

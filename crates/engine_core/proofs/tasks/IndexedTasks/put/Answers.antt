@@ -6,7 +6,7 @@ use Rattle.run_data.specs.Tasks.{Table}
 use Rattle.engine_core.specs.TasksByNumber.{AreIndexed, AreKept, Tracked, has_path}
 use Rattle.engine_core.proofs.PutTasks.{number_most, length_put}
 use Rattle.engine_core.proofs.PutIndexes.{delays_long, indexed_put, kept_put}
-use Rattle.engine_core.proofs.tasks.Tasks.put.Goals as goal
+use Rattle.engine_core.proofs.tasks.IndexedTasks.put.Goals as goal
 
 pub put-requires : goal.put-requires
 put-requires c =

@@ -1,0 +1,16 @@
+use Rattle.std.proofs.Common.{◌∙◌}
+use Rattle.std.proofs.lemmas.Result.{IfOk-weaker}
+use Rattle.run_data.specs.Endings.{gone_on}
+use Rattle.run_data.specs.laws.NumberedTasks.{sorted_tasks}
+use Rattle.engine_core.proofs.GoingOnTasks.{goes_put, goes_not}
+use Rattle.engine_core.proofs.tasks.IndexedTasks.go_on.Goals as goal
+
+pub returns-in-Some-clause-tasks : goal.returns-in-Some-clause-tasks
+returns-in-Some-clause-tasks c =
+    IfOk-weaker c.put.result _ _ (λ all h path task at.
+    h ∙ goes_put (gone_on (sorted_tasks c.args.self.tasks) c.args.now) c.args.self.tasks c.args.number c.in_ok-changed.field-0 c.in-Some.changed path task c.note_distinct.ensures c.in_ok-changed.ensures c.in-Some.is at)
+    c.put.ensures.tasks
+
+pub returns-in-None-clause-tasks : goal.returns-in-None-clause-tasks
+returns-in-None-clause-tasks c = λ path task at.
+    goes_not (gone_on (sorted_tasks c.args.self.tasks) c.args.now) c.args.self.tasks c.args.number c.in_ok-changed.field-0 path task c.in_ok-changed.ensures c.in-None.is at
