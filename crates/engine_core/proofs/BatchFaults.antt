@@ -1,5 +1,5 @@
 -- Frames in order of path have the least fault of those that they come from, and it is the first.
-use Rattle.std.proofs.Common.{◌≡◌, ℕ, ◌+◌, ◌<◌, Bool, true, false, if◌then◌else◌, List, [], ◌∷◌, length, get_or, drop, Option, Some, None, refl, sym, ap, ◌∙◌, subst, arith}
+use Rattle.std.proofs.Common.{◌≡◌, ℕ, ◌+◌, ◌<◌, Bool, true, false, if◌then◌else◌, List, [], ◌∷◌, length, get_or, drop, Option, Some, None, refl, sym, ap, ◌∙◌, arith}
 use Rattle.std.proofs.lemmas.Bool.{false≢true}
 use Rattle.std.specs.Ordering.{is_lt}
 use Rattle.std.specs.declared.cmp.Ordering.{Ordering}
@@ -11,8 +11,8 @@ use Rattle.run_data.specs.Batches.{Blame, first_unless_greater, lesser, blamed, 
 use Rattle.run_data.specs.Records.{unmatched, has_fit}
 use Rattle.run_data.specs.declared.frames.Record.{Record}
 use Rattle.run_data.specs.laws.Orders.{EachOf}
-use Rattle.engine_core.specs.BatchOrders.{is_before, AreByPath, unless_faulted, first_fault}
-use Rattle.engine_core.proofs.BatchOrder.{path_order, reversed, itself, sorted_in_order}
+use Rattle.engine_core.specs.BatchOrders.{AreByPath, unless_faulted, first_fault}
+use Rattle.engine_core.proofs.BatchOrder.{path_order, reversed, sorted_in_order}
 use Rattle.engine_core.proofs.ChildViews.{here}
 
 -- ---- a fault more in order

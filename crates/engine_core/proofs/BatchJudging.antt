@@ -1,8 +1,8 @@
 -- What a batch is judged by: its costs, the first fault in order, and its tree.
-use Rattle.std.proofs.Common.{◌≡◌, ℕ, ◌+◌, ◌*◌, ◌<◌, ◌≤◌, Bool, true, false, IsTrue, if◌then◌else◌, nat_lt, List, [], ◌∷◌, map, length, Option, Some, None, Result, Ok, Err, refl, sym, ap, ◌∙◌, subst, arith}
+use Rattle.std.proofs.Common.{◌≡◌, ℕ, ◌+◌, ◌*◌, ◌<◌, ◌≤◌, Bool, true, false, IsTrue, if◌then◌else◌, nat_lt, List, [], ◌∷◌, length, Option, Some, None, Ok, Err, refl, sym, ap, ◌∙◌, subst, arith}
 use Rattle.std.proofs.lemmas.Bool.{ltb-true, ltb-false}
 use Rattle.std.specs.Option.{option_map}
-use Rattle.aerie_base.specs.Ranges.{number_limit, step_limit}
+use Rattle.aerie_base.specs.Ranges.{step_limit}
 use Rattle.aerie_base.specs.declared.faults.Fault.{Fault}
 use Rattle.aerie_base.specs.declared.faults.Fault.TheVariants.{Range}
 use Rattle.aerie_base.specs.declared.models.model.Parts.{Parts}
@@ -17,12 +17,12 @@ use Rattle.run_data.specs.declared.frames.Frame.{Frame}
 use Rattle.run_data.specs.declared.frames.Record.{Record}
 use Rattle.run_data.specs.declared.jobs.Job.{Job}
 use Rattle.run_data.specs.declared.runs.Who.TheVariants as who
-use Rattle.run_data.specs.Batches.{Batch, limit, failed, committed, Blame, cost_of, least_fault, by_path, touched_from, tree_of, unless_out, when_no_fault, when_within, judged, batch}
+use Rattle.run_data.specs.Batches.{limit, failed, committed, Blame, cost_of, least_fault, by_path, touched_from, tree_of, unless_out, when_no_fault, when_within, judged, batch}
 use Rattle.run_data.specs.Frames.{Made, Making, made_by_all}
 use Rattle.run_data.specs.Records.{unmatched}
-use Rattle.run_data.specs.laws.Generations.{AreEquivalentFrames, AlikeFrames, AlikeByGenerations, frames_in}
+use Rattle.run_data.specs.laws.Generations.{AlikeFrames, AlikeByGenerations, frames_in}
 use Rattle.run_data.specs.laws.Orders.{EachOf, EachTwo, AreApart, MadeFitsCells}
-use Rattle.run_data.specs.laws.SmallSteps.{IsJobWithin, StepsAreSmall, ChildrenAreJobs, WithinIsJob}
+use Rattle.run_data.specs.laws.SmallSteps.{StepsAreSmall, ChildrenAreJobs, WithinIsJob}
 use Rattle.run_data.specs.laws.Trees.{tree_by_frames, TreeOfFrames}
 use Rattle.engine_core.specs.declared.batch_ends.BatchEnd.{BatchEnd}
 use Rattle.engine_core.specs.declared.batch_ends.BatchEnd.TheVariants.{Limit, Failed, Committed}

@@ -1,10 +1,8 @@
 -- The numbers of the flags of a tree are those of the cells on which it has an effect.
-use Rattle.std.proofs.Common.{◌≡◌, ℕ, zero, suc, ◌+◌, ◌<◌, ◌≤◌, ◌&&◌, Bool, true, false, ◌||◌, IsTrue, is_some, if◌then◌else◌, nat_le, List, [], ◌∷◌, ◌++◌, length, drop, replicate, slice_get, Some, refl, sym, ap, ◌∙◌, append_assoc, arith}
+use Rattle.std.proofs.Common.{◌≡◌, ℕ, zero, suc, ◌+◌, ◌≤◌, Bool, true, false, IsTrue, is_some, if◌then◌else◌, List, [], ◌∷◌, ◌++◌, length, drop, replicate, slice_get, Some, refl, sym, ap, ◌∙◌, append_assoc, arith}
 use Rattle.std.proofs.lemmas.List.{at_drop_all, append-nil}
 use Rattle.std.proofs.lemmas.Bool.Decides.{nat_tests}
-use Rattle.std.specs.List.{list_all}
 use Rattle.aerie_base.specs.declared.models.model.Parts.{Parts}
-use Rattle.aerie_base.specs.models.Cells.{is_cell}
 use Rattle.aerie_base.specs.models.ValidModel.{valid_model, has_good_cells}
 use Rattle.aerie_base.specs.models.ValidParts.{are_good}
 use Rattle.effect_cells.specs.declared.effects.CellState.{CellState}

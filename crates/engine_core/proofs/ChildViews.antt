@@ -65,6 +65,12 @@ module _ (view : List CellState) (items : List Item) where
   between_seen first more =
       sym (seen_append view (take first items) (take more (drop first items))) ∙ ap (seen_after view) (sym (take_parts items first more))
 
+  -- a child is nothing to what those behind it see
+  pub child_unseen : (at : ℕ) (one : Item) → at < length items → one ≡ get_or items at one → (kind : ℕ) (arguments : List Value) → one ≡ item.Child kind arguments →
+      seen_after view (take at items) ≡ seen_after view (take (at + 1) items)
+  child_unseen at one within is kind arguments e =
+      sym (ap (seen_after view) (one_more items at one within is ∙ ap (λ (x : Item). take at items ++ x ∷ []) e) ∙ seen_append view (take at items) (item.Child kind arguments ∷ []))
+
   module _ (model : Parts) (maker : List ℕ) (number at : ℕ) (one : Item) (within : at < length items) (is : one ≡ get_or items at one) where
     abbrev left : ℕ → List Job
     left next = child_jobs model maker next (seen_after view (take (at + 1) items)) (drop (at + 1) items)

@@ -4,9 +4,6 @@ use Rattle.std.proofs.lemmas.List.{at_drop_all, append-nil}
 use Rattle.std.proofs.lemmas.Bool.{ltb-false}
 use Rattle.std.specs.BTreeMap.{is_at}
 use Rattle.aerie_base.specs.Paths.{child_path, child_limit, children_of, child_of, may_have_children, is_path, path_cmp}
-use Rattle.aerie_base.specs.Ranges.{step_limit}
-use Rattle.aerie_base.specs.declared.values.Value.{Value}
-use Rattle.effect_cells.specs.declared.effects.Effect.{Effect}
 use Rattle.effect_cells.specs.declared.trees.Part.{Part, Emit, Child}
 use Rattle.run_data.specs.declared.frames.Frame.{Frame}
 use Rattle.run_data.specs.declared.frames.Item.{Item}
@@ -15,12 +12,12 @@ use Rattle.run_data.specs.declared.jobs.Job.{Job}
 use Rattle.run_data.specs.Frames.{room_of}
 use Rattle.run_data.specs.laws.Orders.{EachOf}
 use Rattle.run_data.specs.laws.Trees.{frame_at, parts_by, parts_of, rebuilt, rebuilt_all}
-use Rattle.engine_core.specs.BatchTrees.{below, part_by, children_by, HaveFewItems}
+use Rattle.engine_core.specs.BatchTrees.{parts_below, part_by, children_by}
 use Rattle.engine_core.proofs.BatchTurns.{drop_here}
 use Rattle.engine_core.proofs.ChildViews.{here}
 
 -- a task's parts are those of its frame
-pub rebuilt_is : (frames : List Frame) (room number : ℕ) (path : List ℕ) (frame : Option Frame) → frame ≡ frame_at frames path → rebuilt frames room number path ≡ parts_of (below frames room) path number frame
+pub rebuilt_is : (frames : List Frame) (room number : ℕ) (path : List ℕ) (frame : Option Frame) → frame ≡ frame_at frames path → rebuilt frames room number path ≡ parts_of (parts_below frames room) path number frame
 rebuilt_is frames zero number path frame e = ap (parts_of (λ child. []) path number) (sym e)
 rebuilt_is frames (suc room) number path frame e = ap (parts_of (rebuilt frames room 0) path number) (sym e)
 
@@ -67,12 +64,12 @@ child_is_less (kind ∷ id ∷ children) child number good less is =
 
 -- the parts of a child are those that its maker has below it
 pub child_is_below : (frames : List Frame) (path child : List ℕ) (number : ℕ) → IsTrue (is_path path) → length (children_of path) < child_limit → child ≡ child_path path number →
-    rebuilt frames (room_of child) 0 child ≡ below frames (room_of path) (child_path path number)
+    rebuilt frames (room_of child) 0 child ≡ parts_below frames (room_of path) (child_path path number)
 child_is_below frames path child number good less is =
-    let room = child_is_less path child number good less is in λ i. below frames (sym room i) (is i)
+    let room = child_is_less path child number good less is in λ i. parts_below frames (sym room i) (is i)
 
-pub none_below : (frames : List Frame) (path child : List ℕ) → child_limit ≤ length (children_of path) → [] ≡ below frames (room_of path) child
-none_below frames path child most = ap (λ n. below frames n child) (let none : 0 ≡ room_of path = omega (arith, most) in none)
+pub none_below : (frames : List Frame) (path child : List ℕ) → child_limit ≤ length (children_of path) → [] ≡ parts_below frames (room_of path) child
+none_below frames path child most = ap (λ n. parts_below frames n child) (let none : 0 ≡ room_of path = omega (arith, most) in none)
 
 pub is_child : (path child : List ℕ) (number : ℕ) → Some child ≡ child_of path number → child ≡ child_path path number
 is_child path child number e = by (may_have_children path) e

@@ -1,9 +1,7 @@
 -- What a batch makes is small: its tree can be committed, and no frame has more items than it cost.
-use Rattle.std.proofs.Common.{◌≡◌, ℕ, zero, suc, ◌+◌, ◌*◌, ◌^◌, ◌<◌, ◌≤◌, ◌&&◌, Bool, true, false, IsTrue, List, [], ◌∷◌, ◌++◌, map, length, Option, Some, None, refl, sym, ap, ◌∙◌, subst, arith}
-use Rattle.std.proofs.lemmas.Int.{ints}
+use Rattle.std.proofs.Common.{◌≡◌, ℕ, zero, suc, ◌+◌, ◌*◌, ◌<◌, ◌≤◌, ◌&&◌, Bool, true, IsTrue, List, [], ◌∷◌, ◌++◌, map, length, Some, None, refl, ap, ◌∙◌, subst, arith}
 use Rattle.std.proofs.lemmas.List.Sums.{sum_by-cons}
 use Rattle.aerie_base.specs.Ranges.{number_limit, step_limit}
-use Rattle.aerie_base.specs.declared.values.Value.{Value}
 use Rattle.aerie_base.specs.declared.models.model.Parts.{Parts}
 use Rattle.aerie_base.specs.models.ValidModel.{valid_model}
 use Rattle.effect_cells.specs.declared.effects.CellState.{CellState}
@@ -19,13 +17,11 @@ use Rattle.effect_cells.specs.Worth.{magnitude, part_magnitude, tree_magnitude, 
 use Rattle.run_data.specs.declared.frames.Frame.{Frame}
 use Rattle.run_data.specs.declared.frames.Item.{Item}
 use Rattle.run_data.specs.declared.frames.Item.TheVariants as item
-use Rattle.run_data.specs.declared.frames.Status.{Status}
 use Rattle.run_data.specs.declared.jobs.Job.{Job}
 use Rattle.run_data.specs.Batches.{cost_of, tree_of}
 use Rattle.run_data.specs.Frames.{Made, Making, with_effect, with_child, with_frame, child_job, job_step, frame_of, of_items, of_step, too_deep, made_within, made_by, made_by_all, room_of}
 use Rattle.run_data.specs.Jobs.{AreCellsOf, view_limit}
 use Rattle.run_data.specs.Magnitudes.{effect_magnitude}
-use Rattle.run_data.specs.StepStates.{StepState}
 use Rattle.run_data.specs.Steps.{Stepped}
 use Rattle.run_data.specs.laws.Generations.{child_jobs}
 use Rattle.run_data.specs.laws.Orders.{EachOf, FitsCells, MadeFitsCells}

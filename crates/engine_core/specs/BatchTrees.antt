@@ -10,9 +10,9 @@ use Rattle.run_data.specs.laws.Orders.{EachOf}
 use Rattle.run_data.specs.laws.Trees.{rebuilt}
 
 -- the parts of a child of a path that has room for so many numbers
-abbrev pub below : List Frame → ℕ → List ℕ → List Part
-below frames zero child = []
-below frames (suc room) child = rebuilt frames room 0 child
+abbrev pub parts_below : List Frame → ℕ → List ℕ → List Part
+parts_below frames zero child = []
+parts_below frames (suc room) child = rebuilt frames room 0 child
 
 -- the part of an item: `of_child` gives the parts of a child by its path, and `number` is that of the next one
 abbrev pub part_by : (List ℕ → List Part) → List ℕ → ℕ → Item → Part

@@ -90,7 +90,7 @@ pub(super) fn with_children(
             continue;
         };
         view = seen_after(alloc, &view, &items[seen..at])?;
-        seen = at;
+        seen = at + 1;
         let job = child(
             alloc,
             model,

@@ -9,7 +9,7 @@ ghost use Rattle.run_data.specs.Frames.{room_of};
 ghost use Rattle.run_data.specs.laws.Orders.{EachOf};
 ghost use Rattle.run_data.specs.laws.Trees.{frame_at, rebuilt, tree_by_frames};
 ghost use Rattle.engine_core.specs.BatchOrders.{AreByPath};
-ghost use Rattle.engine_core.specs.BatchTrees.{below, part_by, children_by, HaveFewItems};
+ghost use Rattle.engine_core.specs.BatchTrees.{parts_below, part_by, children_by, HaveFewItems};
 
 use super::generations::CHILD_LIMIT;
 use crate::ready_jobs::ReadyJobs;
@@ -89,7 +89,7 @@ fn part(
 ) -> Result<Part, OutOfMemory>
     requires order { AreByPath frames.now }
     requires few { HaveFewItems frames.now }
-    ensures { IfOk result (λ part. part ≡ part_by (below frames.now (room_of path.now)) path.now number item.now) }
+    ensures { IfOk result (λ part. part ≡ part_by (parts_below frames.now (room_of path.now)) path.now number item.now) }
 {
     match item {
         Item::Emit { cell, effect } => Ok(Part::Emit {
@@ -113,7 +113,7 @@ fn child_parts(
 ) -> Result<List<Part>, OutOfMemory>
     requires order { AreByPath frames.now }
     requires few { HaveFewItems frames.now }
-    ensures { IfOk result (λ parts. parts ≡ below frames.now (room_of path.now) (child_path path.now number)) }
+    ensures { IfOk result (λ parts. parts ≡ parts_below frames.now (room_of path.now) (child_path path.now number)) }
 {
     if path.children().len() >= CHILD_LIMIT {
         return Ok(List::new(alloc));

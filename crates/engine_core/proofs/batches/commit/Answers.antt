@@ -1,5 +1,5 @@
 -- The cells' own commit answers as the definition says.
-use Rattle.std.proofs.Common.{◌≡◌, ◌<◌, ◌≤◌, ◌∙◌, IsTrue, length, sym, ap, subst, arith}
+use Rattle.std.proofs.Common.{◌≡◌, ◌<◌, ◌∙◌, length, sym, ap, subst, arith}
 use Rattle.effect_cells.specs.declared.trees.Tree.{Tree}
 use Rattle.effect_cells.specs.Cells.{fits_cells}
 use Rattle.effect_cells.specs.Sums.{sum_limit}

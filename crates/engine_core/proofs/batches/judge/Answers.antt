@@ -1,9 +1,9 @@
 -- Costs first, then faults, then cells.
-use Rattle.std.proofs.Common.{◌≡◌, ◌+◌, ◌<◌, ◌≤◌, ◌∙◌, Some, None, min, sym, arith}
+use Rattle.std.proofs.Common.{◌≡◌, ◌+◌, ◌∙◌, min, sym, arith}
 use Rattle.run_data.specs.Batches.{cost_of}
 use Rattle.run_data.specs.Waves.{last_count}
 use Rattle.engine_core.specs.BatchOrders.{first_fault}
-use Rattle.engine_core.proofs.BatchJudging.{CanCommit, past_the_bound, at_fault, can_commit, end_spends, end_has, few_made}
+use Rattle.engine_core.proofs.BatchJudging.{past_the_bound, at_fault, can_commit, end_spends, end_has, few_made}
 use Rattle.engine_core.proofs.batches.judge.Goals as goal
 
 pub returns-then-cost-bound-clause-end : goal.returns-then-cost-bound-clause-end

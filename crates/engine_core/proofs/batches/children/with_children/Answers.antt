@@ -2,7 +2,7 @@
 use Rattle.std.proofs.Common.{◌≡◌, ◌+◌, ◌-◌, ◌∙◌, ap, take, drop, arith, List}
 use Rattle.effect_cells.specs.declared.effects.CellState.{CellState}
 use Rattle.engine_core.specs.BatchViews.{seen_after}
-use Rattle.engine_core.proofs.ChildViews.{between_can, between_seen, effect_turn, child_turn, all_made}
+use Rattle.engine_core.proofs.ChildViews.{between_can, between_seen, child_unseen, effect_turn, child_turn, all_made}
 use Rattle.engine_core.proofs.batches.children.with_children.Goals as goal
 
 pub seen_after-requires : goal.seen_after-requires
@@ -32,7 +32,9 @@ loop-at-preserved c =
     record {
       seen = omega arith;
       number = omega (arith, c.loop-at.invariant.number);
-      view = view;
+      view =
+          view
+          ∙ child_unseen c.args.job.now.view c.args.items.now c.loop-at.at c.index-items-at.result c.loop-at-test.true c.index-items-at.is c.in-Child.kind c.in-Child.arguments c.in-Child.is;
       made =
           child_turn c.args.job.now.view c.args.items.now c.args.model.now c.args.job.now.path c.loop-at.next c.loop-at.at c.index-items-at.result c.loop-at-test.true c.index-items-at.is
           c.loop-at.all c.in_ok-all.all _ c.in_ok-view-2.view c.in_ok-job.job c.in-Child.kind c.in-Child.arguments c.in-Child.is view

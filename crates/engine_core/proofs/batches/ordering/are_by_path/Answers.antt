@@ -1,5 +1,5 @@
 -- Neighbours that are in order are all in order.
-use Rattle.std.proofs.Common.{◌≡◌, ◌+◌, ◌-◌, ◌<◌, ◌∙◌, false, get_or, length, sym, arith}
+use Rattle.std.proofs.Common.{◌≡◌, ◌-◌, ◌<◌, ◌∙◌, false, length, sym, arith}
 use Rattle.std.proofs.lemmas.List.{get_or_read}
 use Rattle.std.proofs.lemmas.List.Sorted.{all_adjacent_more}
 use Rattle.run_data.specs.declared.frames.Frame.{Frame}

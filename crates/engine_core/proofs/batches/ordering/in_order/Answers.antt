@@ -1,5 +1,5 @@
 -- Frames in order stay, and a stable sort by path gives the others.
-use Rattle.std.proofs.Common.{◌≡◌, ◌∙◌, sym, rules}
+use Rattle.std.proofs.Common.{◌≡◌, sym, rules}
 use Rattle.std.proofs.lemmas.List.Sorted.{answers_always}
 use Rattle.std.specs.Ordering.{is_lt}
 use Rattle.engine_core.specs.BatchOrders.{is_before}

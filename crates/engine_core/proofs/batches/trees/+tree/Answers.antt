@@ -1,11 +1,11 @@
 -- A task's parts are those of its frame, item by item, and a child's those of its own frame.
-use Rattle.std.proofs.Common.{◌≡◌, ◌<◌, ◌≤◌, ◌∙◌, Some, None, length, sym, ap, arith}
-use Rattle.aerie_base.specs.Paths.{child_path, child_limit, children_of}
+use Rattle.std.proofs.Common.{◌≡◌, ◌≤◌, ◌∙◌, Some, None, length, sym, ap, arith}
+use Rattle.aerie_base.specs.Paths.{child_path}
 use Rattle.aerie_base.specs.Ranges.{step_limit}
 use Rattle.run_data.specs.declared.frames.Frame.{Frame}
 use Rattle.run_data.specs.Frames.{room_of}
 use Rattle.run_data.specs.laws.Trees.{parts_by}
-use Rattle.engine_core.specs.BatchTrees.{below}
+use Rattle.engine_core.specs.BatchTrees.{parts_below}
 use Rattle.engine_core.proofs.TreeParts.{rebuilt_is, part_turn, all_parts, of_found, is_child, has_child, child_is_below, none_below}
 use Rattle.engine_core.proofs.batches.trees.+tree.Goals as goal
 
@@ -41,14 +41,14 @@ pub parts-loop-item-preserved : goal.parts-loop-item-preserved
 parts-loop-item-preserved t c = record {
   made =
       rw c.children_in-next.ensures.value
-      (part_turn (below c.args.frames.now (room_of c.args.path.now)) c.args.path.now c.as_slice-item-items.result.now c.loop-item.next c.loop-item.item-index c.item-item.result
+      (part_turn (parts_below c.args.frames.now (room_of c.args.path.now)) c.args.path.now c.as_slice-item-items.result.now c.loop-item.next c.loop-item.item-index c.item-item.result
       c.loop-item-test.true c.item-item.is c.loop-item.parts _ c.push.new.self c.in_ok-part.part c.in_ok-part.ensures c.in_ok-push.ensures.pushed c.loop-item.invariant.made);
   next = omega (arith, c.loop-item.invariant.next, c.children_in-next.ensures.few);
 }
 
 pub parts-returns : goal.parts-returns
 parts-returns t c =
-    all_parts (below c.args.frames.now (room_of c.args.path.now)) c.args.path.now c.as_slice-item-items.result.now c.loop-item.next c.loop-item.item-index c.loop-item.parts _
+    all_parts (parts_below c.args.frames.now (room_of c.args.path.now)) c.args.path.now c.as_slice-item-items.result.now c.loop-item.next c.loop-item.item-index c.loop-item.parts _
     c.loop-item-test.false c.loop-item.invariant.made
-    ∙ ap (parts_by (below c.args.frames.now (room_of c.args.path.now)) c.args.path.now c.args.number) c.as_slice-item-items.ensures
+    ∙ ap (parts_by (parts_below c.args.frames.now (room_of c.args.path.now)) c.args.path.now c.args.number) c.as_slice-item-items.ensures
     ∙ sym (rebuilt_is c.args.frames.now (room_of c.args.path.now) c.args.number c.args.path.now (Some c.in-Some.frame.now) c.in-Some.ensures)

@@ -1,5 +1,5 @@
 -- The place before which all frames are before the path is that of the path, if it has one.
-use Rattle.std.proofs.Common.{◌≡◌, ◌∙◌, false, true, sym, rules}
+use Rattle.std.proofs.Common.{◌∙◌, sym, rules}
 use Rattle.std.proofs.lemmas.Bool.{false≢true}
 use Rattle.std.proofs.lemmas.List.Sorted.{IsPartitionPoint-from_clause}
 use Rattle.engine_core.proofs.TreeLookup.{before, parted, found, found_other, found_none}
