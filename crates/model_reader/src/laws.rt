@@ -1,8 +1,10 @@
 //! Laws of the grammar of models, each the promise of a function without a body.
 
 ghost use Rattle.std.specs.Prelude.{◌≡◌, ℕ, List, take};
+ghost use Rattle.readers.specs.Conforms.{Conforms};
 ghost use Rattle.readers.specs.Marks.{Mark};
 ghost use Rattle.readers.specs.grammar.Alike.{AreAlike};
+ghost use Rattle.readers.specs.grammar.Forms.{rule};
 ghost use Rattle.readers.specs.grammar.Predictive.{IsPredictive};
 ghost use Rattle.readers.specs.grammar.Readings.{IsRead};
 ghost use Rattle.readers.specs.grammar.Tells.{AnswersAreRight};
@@ -24,10 +26,12 @@ pub fn answers_are_right()
     ensures { AnswersAreRight look model_rule written model_rule }
 {}
 
-/// What is read tells of the readings of the grammar as it is written: a model is read where the marks before those that
-/// are left are one; reading fails at the first mark that is refused, or at the end where that is refused, and then the
-/// marks do not begin with a model; and a limit is passed at a mark that some reading reads.
+/// What is read of any marks conforms to the rule of models, and so it tells of the readings of the grammar as it is
+/// written: a model is read where the marks before those that are left are one; reading fails at the first mark that is
+/// refused, or at the end where that is refused, and then the marks do not begin with a model; and a limit is passed at a
+/// mark that some reading reads.
 pub fn models_conform()
+    ensures conforms { (marks : List Mark) → Conforms look (rule model_rule) marks (model_at marks) }
     ensures judged { (marks : List Mark) → Judges written model_rule marks (model_at marks) }
     ensures failed { (marks rest : List Mark) → model_at marks ≡ failed rest → (count : ℕ) → IsRead written model_rule (take count marks) → ⊥ }
 {}

@@ -3,6 +3,7 @@ pub mod Conforming
 pub mod Entries
 pub mod Going
 pub mod Grammars
+pub mod Inside
 pub mod Judged
 pub mod Listing
 pub mod Standing

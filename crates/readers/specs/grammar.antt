@@ -10,6 +10,7 @@ pub mod Alternatives
 pub mod Alike
 pub mod Classes
 pub mod Tables
+pub mod Embedding
 pub mod Levels
 pub mod LevelsCases
 pub mod MarkTables

@@ -1,3 +1,4 @@
 pub mod Predictive
 pub mod Alike
 pub mod Verdicts
+pub mod Models

@@ -1,11 +1,19 @@
 //! Laws of the grammar of sessions, each the promise of a function without a body.
 
+ghost use Rattle.std.specs.Prelude.{List};
+ghost use Rattle.model_reader.specs.grammar.Rules.{model_rule};
+ghost use Rattle.model_reader.specs.reading.Models.{model_at};
+ghost use Rattle.readers.specs.Conforms.{Conforms};
+ghost use Rattle.readers.specs.Marks.{Mark};
 ghost use Rattle.readers.specs.grammar.Alike.{AreAlike};
+ghost use Rattle.readers.specs.grammar.Forms.{rule};
 ghost use Rattle.readers.specs.grammar.Predictive.{IsPredictive};
 ghost use Rattle.readers.specs.grammar.Tells.{AnswersAreRight};
 ghost use Rattle.session_reader.specs.grammar.Factored.{look, factored};
-ghost use Rattle.session_reader.specs.grammar.Rules.{session_rule};
+ghost use Rattle.session_reader.specs.grammar.Rules.{session_rule, of_model};
 ghost use Rattle.session_reader.specs.grammar.Written.{written};
+
+use model_reader::laws::models_conform;
 
 /// In the factored grammar of sessions one token of lookahead decides, and it reads what the grammar as it is written reads.
 pub fn one_token_decides()
@@ -17,3 +25,12 @@ pub fn one_token_decides()
 pub fn answers_are_right()
     ensures { AnswersAreRight look session_rule written session_rule }
 {}
+
+/// Inside a session too, what is read of a model conforms to the rule of models: the next token decides, the reader stops where
+/// every reading of the session's grammar stops, and a limit is passed at a token that some reading reads.
+pub fn models_conform_in_sessions()
+    ensures { (marks : List Mark) → Conforms look (rule (of_model model_rule)) marks (model_at marks) }
+{
+    models_conform();
+    model_reader::laws::one_token_decides();
+}

@@ -51,7 +51,7 @@ module _ {Rule Sort Token : Type 0} (look : Lookahead Rule Sort Token) where
       by_first false w q l r = let i = r q in record { front = i.front; is = i.is; others = λ vs. rw w (i.others vs) }
   inside_keeps f k h (many a) xs zs us e = let i = inside_keeps f k h a (many a ∷ xs) zs us e in record { front = i.front; is = i.is; others = i.others }
 
-  into_keeps : (d : ℕ) (k : Token) (a : Form Rule Sort) (xs zs us : Stack) → into look d a (xs ++ zs) k ≡ remains us → Keeps (λ vs. into look d a (xs ++ vs) k) zs us
+  pub into_keeps : (d : ℕ) (k : Token) (a : Form Rule Sort) (xs zs us : Stack) → into look d a (xs ++ zs) k ≡ remains us → Keeps (λ vs. into look d a (xs ++ vs) k) zs us
   into_keeps zero k a xs zs us e = let i = inside_keeps (λ r ys j. unfinished) k (λ r ys vs ws q. cc) a xs zs us e in record { front = i.front; is = i.is; others = i.others }
   into_keeps (suc d) k a xs zs us e =
       let i = inside_keeps (λ r ys j. into look d (look.grammar.form r) ys j) k (λ r ys vs ws q. into_keeps d k (look.grammar.form r) ys vs ws q) a xs zs us e in

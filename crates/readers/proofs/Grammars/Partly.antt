@@ -45,7 +45,7 @@ module _ {Rule Sort Token : Type 0} (look : Lookahead Rule Sort Token) where
   }
 
   -- what is not read yet stands behind what was read
-  behind : (xs : List (Form Rule Sort)) (ts s : List Token) → answer look xs ts ≡ stops s → (front : List Token) × (ts ≡ front ++ s)
+  pub behind : (xs : List (Form Rule Sort)) (ts s : List Token) → answer look xs ts ≡ stops s → (front : List Token) × (ts ≡ front ++ s)
   behind xs [] s e = at_the_end (all_nullable look xs) e
     where
       at_the_end : (v : Bool) → at_end v ≡ stops s → (front : List Token) × ([] ≡ front ++ s)

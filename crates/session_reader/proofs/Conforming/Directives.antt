@@ -1,6 +1,5 @@
 -- What is read of the parts of directives conforms to the grammar of sessions: each law has the shape of its definition.
 use Rattle.std.proofs.Common.{◌≡◌, true, false, Bool, List, [], ◌∷◌, IsTrue, nat_eq, refl, ap, sym, ◌∙◌, ◌||◌, None}
-use Rattle.aerie_base.specs.Ranges.{number_limit, time_limit}
 use Rattle.aerie_base.specs.declared.plans.Edge.{Edge}
 use Rattle.aerie_text.specs.Sorts.{number_of}
 use Rattle.aerie_text.specs.declared.sorts.Sort.{Sort}
@@ -9,12 +8,11 @@ use Rattle.model_reader.specs.grammar.Rules.{literal_rule}
 use Rattle.readers.specs.Conforms.{Conforms}
 use Rattle.readers.specs.Marks.{Mark}
 use Rattle.readers.specs.Parsed.{Parsed, is_of, is_one_of, mark_at}
-use Rattle.readers.specs.Within.{counts_within, number_within_at}
 use Rattle.readers.specs.grammar.Forms.{Form, token, rule, both, either, option}
 use Rattle.readers.proofs.Conforming.{token_conforms, has_conforms, and_then, then_value, value, either_conforms, rule_conforms, Begins, begins_token, begins_both, begins_either}
 use Rattle.readers.proofs.Listing.{parenthesized_conforms}
 use Rattle.readers.proofs.Within.{within_conforms, halves_conform}
-use Rattle.session_reader.proofs.Conforming.Terminals.{id_fits, id_among, great_fits, none_among, some_fits, plain_fits, number_begins, time_begins}
+use Rattle.session_reader.proofs.Conforming.Terminals.{id_fits, plain_fits, number_begins, time_begins}
 use Rattle.session_reader.proofs.Grammar.Predictive.{predictive}
 use Rattle.session_reader.specs.grammar.Embedding.{of_sort}
 use Rattle.session_reader.specs.grammar.Factored.{look, edge_form, anchored_form, signed_amount_form}
@@ -42,7 +40,7 @@ id_law marks = then_value _ (within_conforms sort.Number 0 id_limit (λ k. id_fi
 
 duration_law : (marks : List Mark) → Along duration_form marks (duration_at marks)
 unfolding duration_at
-duration_law marks = then_value _ (halves_conform sort.Time 0 time_limit (λ k. none_among k) (λ k. some_fits k)) (λ time rest. value)
+duration_law marks = then_value _ (halves_conform sort.Time _ time_begins) (λ time rest. value)
 
 edge_word_law : (s : Sort) (edge : Edge) → IsPlain s → (marks : List Mark) → Along (token (plain s)) marks (edge_word_at s edge marks)
 unfolding edge_word_at
@@ -73,9 +71,7 @@ when_law marks = rule_conforms predictive (either_conforms _ _ anchored_begins r
 
 amount_law : (marks : List Mark) → Along (either (of_sort sort.Number) (of_sort sort.Time)) marks (amount_at marks)
 unfolding amount_at
-amount_law marks = either_conforms _ _ (record { is = number_begins }) refl
-    (λ next. halves_conform sort.Number 0 number_limit (λ k. id_among k) (λ k. great_fits k))
-    (λ next. halves_conform sort.Time 0 time_limit (λ k. none_among k) (λ k. some_fits k))
+amount_law marks = either_conforms _ _ (record { is = number_begins }) refl (λ next. halves_conform sort.Number _ number_begins) (λ next. halves_conform sort.Time _ time_begins)
 
 signed_amount_law : (marks : List Mark) → Along signed_amount_form marks (signed_amount_at marks)
 unfolding signed_amount_at
@@ -90,7 +86,7 @@ unfolding variant_at
 variant_law marks = and_then _ (taken sort.Name _ (refl, refl)) (λ kind rest. and_then _ (taken sort.Dot _ (refl, refl)) (λ dot rest. then_value _ (taken sort.Name _ (refl, refl)) (λ variant rest. value)))
 
 amount_begins : Begins look begins_amount signed_amount_form
-amount_begins = record { is = λ k. by_parts k }
+amount_begins = record { is = by_parts }
   where
     swapped : (a b c : Bool) → (a || (b || c)) ≡ ((a || false) || (b || c))
     swapped true b c = refl
@@ -98,9 +94,9 @@ amount_begins = record { is = λ k. by_parts k }
 
     by_parts : (k : Mark) → begins_amount k ≡ ((fits (plain sort.Minus) k || false) || ((fits id_number k || fits great_number k) || (fits no_time k || fits some_time k)))
     by_parts k =
-        swapped (is_of sort.Minus k) (counts_within sort.Number 0 number_limit k) (counts_within sort.Time 0 time_limit k)
-        ∙ ap (λ (v : Bool). (v || false) || (counts_within sort.Number 0 number_limit k || counts_within sort.Time 0 time_limit k)) (sym (plain_fits k sort.Minus refl refl))
-        ∙ ap (λ (v : Bool). (fits (plain sort.Minus) k || false) || (v || counts_within sort.Time 0 time_limit k)) (number_begins k)
+        swapped (is_of sort.Minus k) (is_of sort.Number k) (is_of sort.Time k)
+        ∙ ap (λ (v : Bool). (v || false) || (is_of sort.Number k || is_of sort.Time k)) (sym (plain_fits k sort.Minus refl refl))
+        ∙ ap (λ (v : Bool). (fits (plain sort.Minus) k || false) || (v || is_of sort.Time k)) (number_begins k)
         ∙ ap (λ (v : Bool). (fits (plain sort.Minus) k || false) || ((fits id_number k || fits great_number k) || v)) (time_begins k)
 
 pub value_law : (marks : List Mark) → Along (rule (of_model literal_rule)) marks (value_at marks)

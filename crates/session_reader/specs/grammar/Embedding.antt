@@ -4,7 +4,8 @@ use Rattle.aerie_text.specs.Sorts.{same_sort}
 use Rattle.aerie_text.specs.declared.sorts.Sort.{Sort}
 use Rattle.aerie_text.specs.declared.sorts.Sort.TheVariants as sort
 use Rattle.model_reader.specs.grammar.Rules.{Rule as ModelRule}
-use Rattle.readers.specs.grammar.Forms.{Form, token, rule, nothing, both, either, many}
+use Rattle.readers.specs.grammar.Embedding.{there}
+use Rattle.readers.specs.grammar.Forms.{Form, nothing}
 use Rattle.readers.specs.grammar.Notation.{one_of}
 use Rattle.session_reader.specs.grammar.Rules.{Rule, of_model}
 use Rattle.session_reader.specs.grammar.Terminals.{Terminal, plain, id_number, great_number, no_time, some_time}
@@ -32,9 +33,4 @@ of_sort s = one_of_all (terminals_of s)
 
 -- a form of the grammar of models
 abbrev pub in_session : Form ModelRule Sort → Form Rule Terminal
-in_session (token s) = of_sort s
-in_session (rule r) = rule (of_model r)
-in_session nothing = nothing
-in_session (both a b) = both (in_session a) (in_session b)
-in_session (either a b) = either (in_session a) (in_session b)
-in_session (many a) = many (in_session a)
+in_session a = there of_model of_sort a

@@ -1,13 +1,12 @@
 -- The terminals of the grammar of sessions: the sorts of marks, two of them in halves.
 use Rattle.std.specs.Prelude.{ℕ, Bool, nat_eq, if◌then◌else◌}
-use Rattle.aerie_base.specs.Ranges.{number_limit, time_limit}
 use Rattle.aerie_text.specs.Sorts.{number_of, same_sort}
 use Rattle.aerie_text.specs.declared.sorts.Sort.{Sort}
 use Rattle.aerie_text.specs.declared.sorts.Sort.TheVariants as sort
 use Rattle.readers.specs.Marks.{Mark}
 use Rattle.readers.specs.Within.{is_within}
 
--- A number is an id, up to 4,294,967,295, or greater; a length of time is none, 0, or some. `plain` is any other sort.
+-- A number is an id, up to 4,294,967,295, or it is greater; a length of time is none, 0, or some. `plain` is any other sort.
 pub data Terminal : Type 0 where
   plain : Sort → Terminal
   id_number great_number no_time some_time : Terminal
@@ -24,11 +23,11 @@ number_of_terminal some_time = 105
 abbrev pub id_limit : ℕ
 id_limit = 4_294_967_295
 
--- the number of the terminal that a mark is read as: tokens count no more than 10^18, and 10^15 microseconds
+-- the number of the terminal that a mark is read as
 abbrev pub class_of : Mark → ℕ
 class_of mark =
-    if same_sort sort.Number mark.sort then (if is_within 0 id_limit mark.number then 102 else if is_within 0 number_limit mark.number then 103 else number_of sort.Number)
-    else if same_sort sort.Time mark.sort then (if is_within 0 0 mark.number then 104 else if is_within 0 time_limit mark.number then 105 else number_of sort.Time)
+    if same_sort sort.Number mark.sort then (if is_within 0 id_limit mark.number then 102 else 103)
+    else if same_sort sort.Time mark.sort then (if is_within 0 0 mark.number then 104 else 105)
     else number_of mark.sort
 
 -- whether a mark is read as the terminal

@@ -1,6 +1,6 @@
 -- Reading the parts of directives: when they start, and what they give.
-use Rattle.std.specs.Prelude.{ℕ, ℤ, pos, neg_ℤ, Bool, true, false, ◌||◌, List, [], ◌∷◌, ◌++◌, Option, Some, None, codes}
-use Rattle.aerie_base.specs.Ranges.{number_limit, time_limit}
+use Rattle.std.specs.Prelude.{ℕ, ℤ, neg_ℤ, nat_abs, nat_le, if◌then◌else◌, Bool, true, false, List, [], ◌∷◌, ◌++◌, Option, Some, None, codes}
+use Rattle.aerie_base.specs.Ranges.{time_limit}
 use Rattle.aerie_base.specs.declared.arguments.RawArgument.{RawArgument}
 use Rattle.aerie_base.specs.declared.arguments.RawValue.{RawValue}
 use Rattle.aerie_base.specs.declared.arguments.RawValue.TheVariants as value
@@ -12,8 +12,8 @@ use Rattle.aerie_text.specs.declared.sorts.Sort.{Sort}
 use Rattle.aerie_text.specs.declared.sorts.Sort.TheVariants as sort
 use Rattle.readers.specs.Lists.{parenthesized_at}
 use Rattle.readers.specs.Marks.{Mark}
-use Rattle.readers.specs.Parsed.{Parsed, parsed, ◌>>=◌, is_of, next_fits, next_is, next_is_one_of, chosen, take_at, has_at, name_at}
-use Rattle.readers.specs.Within.{counts_within, number_within_at}
+use Rattle.readers.specs.Parsed.{Parsed, parsed, ◌>>=◌, is_one_of, next_fits, next_is, next_is_one_of, chosen, take_at, has_at, number_at, name_at}
+use Rattle.readers.specs.Within.{number_within_at}
 use Rattle.session_reader.specs.declared.raw.RawGiven.{RawGiven}
 use Rattle.session_reader.specs.grammar.Terminals.{id_limit}
 
@@ -25,11 +25,15 @@ id_at marks = do
   id ← number_within_at sort.Number 0 id_limit marks
   parsed id.0.1 id.1
 
+-- a length of time in microseconds: what is counted, which is at most the longest time
+abbrev pub length_of_time : ℤ → ℕ
+length_of_time count = if nat_le (nat_abs count) time_limit then nat_abs count else time_limit
+
 -- DURATION
 unfoldable pub duration_at : List Mark → Parsed ℕ
 duration_at marks = do
-  time ← number_within_at sort.Time 0 time_limit marks
-  parsed time.0.1 time.1
+  time ← number_at sort.Time marks
+  parsed (length_of_time time.0.1) time.1
 
 -- a word that stands for an edge
 unfoldable pub edge_word_at : Sort → Edge → List Mark → Parsed Edge
@@ -64,13 +68,13 @@ when_at marks = chosen (next_is_one_of (sort.Start ∷ sort.End ∷ []) marks) a
 -- ---- what a directive gives
 
 -- NUMBER | DURATION, which is the number of its microseconds
-unfoldable pub amount_at : List Mark → Parsed (Place × ℕ)
-amount_at marks = chosen (next_fits (counts_within sort.Number 0 number_limit) marks) (number_within_at sort.Number 0 number_limit) (number_within_at sort.Time 0 time_limit) marks
+unfoldable pub amount_at : List Mark → Parsed (Place × ℤ)
+amount_at marks = chosen (next_is sort.Number marks) (number_at sort.Number) (number_at sort.Time) marks
 
 -- a number with its sign
-abbrev pub with_sign : Bool → ℕ → ℤ
-with_sign true number = neg_ℤ (pos number)
-with_sign false number = pos number
+abbrev pub with_sign : Bool → ℤ → ℤ
+with_sign true number = neg_ℤ number
+with_sign false number = number
 
 -- [ "-" ] ( NUMBER | DURATION )
 unfoldable pub signed_amount_at : List Mark → Parsed RawValue
@@ -99,7 +103,7 @@ variant_at marks = do
 
 -- the mark begins a number or a length of time, or is the sign of one
 abbrev pub begins_amount : Mark → Bool
-begins_amount mark = is_of sort.Minus mark || (counts_within sort.Number 0 number_limit mark || counts_within sort.Time 0 time_limit mark)
+begins_amount = is_one_of (sort.Minus ∷ sort.Number ∷ sort.Time ∷ [])
 
 -- literal = [ "-" ] ( NUMBER | DURATION ) | "true" | "false" | NAME "." NAME
 unfoldable pub value_at : List Mark → Parsed RawValue

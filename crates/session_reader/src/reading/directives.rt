@@ -1,9 +1,9 @@
 //! When directives start, and what they give.
 
-ghost use Rattle.std.specs.Prelude.{◌≡◌, pos, neg_ℤ, IfOk, ◌≤◌, ◌++◌};
+ghost use Rattle.std.specs.Prelude.{◌≡◌, neg_ℤ, IfOk, ◌++◌};
 ghost use Rattle.readers.specs.Implements.{Consumes};
 ghost use Rattle.readers.specs.Parsed.{next_fits};
-ghost use Rattle.session_reader.specs.reading.Directives.{id_at, duration_at, edge_word_at, edge_at, anchored_at, unanchored_at, when_at, amount_at, with_sign, signed_amount_at, truth_at, variant_word, variant_at, begins_amount, value_at, argument_at, given_at};
+ghost use Rattle.session_reader.specs.reading.Directives.{id_at, duration_at, edge_word_at, edge_at, anchored_at, unanchored_at, when_at, amount_at, with_sign, signed_amount_at, truth_at, variant_word, variant_at, begins_amount, length_of_time, value_at, argument_at, given_at};
 
 use crate::raw::RawGiven;
 use aerie_base::{
@@ -15,9 +15,6 @@ use std::alloc::Global;
 
 /// The greatest id.
 const GREATEST_ID: u64 = 4_294_967_295;
-
-/// The greatest number.
-const GREATEST_NUMBER: u64 = 1_000_000_000_000_000_000;
 
 /// The longest time, in microseconds.
 const LONGEST_TIME: u64 = 1_000_000_000_000_000;
@@ -35,16 +32,21 @@ pub fn id(reader: &mut Reader) -> Result<u32, Refusal>
 fn duration(reader: &mut Reader) -> Result<Time, Refusal>
     ensures { Consumes duration_at reader.old reader.new result }
 {
-    let (_at, time) = reader.number_within(Sort::Time, 0, LONGEST_TIME)?;
-    Ok(time_of(time))
+    let (_at, time) = reader.number(Sort::Time)?;
+    Ok(length_of_time(time))
 }
 
-/// So many microseconds.
-fn time_of(micros: u64) -> Time
-    requires { micros ≤ 1_000_000_000_000_000 }
-    ensures { result ≡ micros }
+/// So many microseconds, at most the longest time.
+fn length_of_time(count: Number) -> Time
+    ensures { result ≡ length_of_time count }
 {
-    Time::new(micros as i64).unwrap()
+    let micros = count.get().unsigned_abs();
+    let most = if micros <= LONGEST_TIME {
+        micros
+    } else {
+        LONGEST_TIME
+    };
+    Time::new(most as i64).unwrap()
 }
 
 #[tactic(auto, unfolding(crate::specs::reading::Directives::edge_word_at))]
@@ -103,26 +105,24 @@ pub fn when(reader: &mut Reader) -> Result<When, Refusal>
 }
 
 #[tactic(auto, unfolding(crate::specs::reading::Directives::amount_at))]
-fn amount(reader: &mut Reader) -> Result<(Place, u64), Refusal>
-    ensures read { Consumes amount_at reader.old reader.new result }
-    ensures within { IfOk result (λ amount. amount.1 ≤ 1_000_000_000_000_000_000) }
+fn amount(reader: &mut Reader) -> Result<(Place, Number), Refusal>
+    ensures { Consumes amount_at reader.old reader.new result }
 {
-    if reader.next_counts_within(Sort::Number, 0, GREATEST_NUMBER) {
-        reader.number_within(Sort::Number, 0, GREATEST_NUMBER)
+    if reader.next_is(Sort::Number) {
+        reader.number(Sort::Number)
     } else {
-        reader.number_within(Sort::Time, 0, LONGEST_TIME)
+        reader.number(Sort::Time)
     }
 }
 
 /// A number with its sign.
-fn with_sign(minus: bool, number: u64) -> Number
-    requires { number ≤ 1_000_000_000_000_000_000 }
+fn with_sign(minus: bool, number: Number) -> Number
     ensures { result ≡ with_sign minus number }
 {
     if minus {
-        Number::new(-(number as i64)).unwrap()
+        Number::new(-number.get()).unwrap()
     } else {
-        Number::new(number as i64).unwrap()
+        number
     }
 }
 
@@ -168,9 +168,7 @@ fn variant(alloc: Global, reader: &mut Reader) -> Result<RawValue, Refusal>
 fn begins_amount(reader: &Reader) -> bool
     ensures { result ≡ next_fits begins_amount reader.now }
 {
-    reader.next_is(Sort::Minus)
-        || reader.next_counts_within(Sort::Number, 0, GREATEST_NUMBER)
-        || reader.next_counts_within(Sort::Time, 0, LONGEST_TIME)
+    reader.next_is_one_of(&[Sort::Minus, Sort::Number, Sort::Time])
 }
 
 /// Reads a literal.
