@@ -1,0 +1,12 @@
+pub mod Following
+pub mod FoundStates
+pub mod FreshInstants
+pub mod LineWalks
+pub mod Products
+pub mod Resources
+pub mod Segmenting
+pub mod Sums
+pub mod Terms
+pub mod ValueWalks
+pub mod Walks
+pub mod WatchedCells

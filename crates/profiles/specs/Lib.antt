@@ -1,0 +1,6 @@
+pub mod Followed
+pub mod Profiles
+pub mod Segments
+pub mod Showings
+pub mod States
+pub mod Watching

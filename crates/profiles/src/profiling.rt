@@ -1,0 +1,57 @@
+ghost use Rattle.std.specs.Prelude.{◌≡◌, ◌<◌, length, IsTrue, true, Some, IfOk};
+ghost use Rattle.aerie_base.specs.models.Resources.{is_resource};
+ghost use Rattle.aerie_base.specs.models.ValidModel.{valid_model};
+ghost use Rattle.run_data.specs.Fresh.{IsFresh};
+ghost use Rattle.profiles.specs.Profiles.{profile_at, profile_of};
+
+use crate::discrete::value_profile;
+use crate::linear::line_profile;
+use crate::sampling::Profile;
+use aerie_base::{Model, OutOfMemory, Resource};
+use run_data::Run;
+use std::alloc::Global;
+
+/// The profile of a resource over a run, by the resource's number, counted from 0 in the order of the model. It goes once over the
+/// instants; in each it looks for the cells that the resource reads by halves, so it takes a time in the order of the instants
+/// times the digits of how many cells one of them changed.
+pub fn profile(
+    alloc: Global,
+    model: &Model,
+    run: &Run,
+    resource: u16,
+) -> Result<Profile, OutOfMemory>
+    requires fresh { IsFresh model.now run.now.plan run.now.bound run.now }
+    requires resource { resource < length model.now.resources }
+    ensures exact { IfOk result (λ profile. Some profile ≡ profile_at model.now run.now resource) }
+{
+    let resources = model.resources();
+    let at = usize::from(resource);
+    let named = &resources[at];
+    let made = profile_for(alloc, model, run, &named.1)?;
+    Ok(made)
+}
+
+/// The profile of a resource of the model.
+#[tactic(auto, using(crate::proofs::Terms::read_there))]
+fn profile_for(
+    alloc: Global,
+    model: &Model,
+    run: &Run,
+    resource: &Resource,
+) -> Result<Profile, OutOfMemory>
+    requires valid { IsTrue (valid_model model.now) }
+    requires fresh { IsFresh model.now run.now.plan run.now.bound run.now }
+    requires resource { is_resource model.now.cells resource.now ≡ true }
+    ensures { IfOk result (λ profile. profile ≡ profile_of model.now run.now resource.now) }
+{
+    match resource {
+        Resource::Discrete(read) => {
+            let segments = value_profile(alloc, model, run, *read)?;
+            Ok(Profile::Discrete(segments))
+        }
+        Resource::Linear(form) => {
+            let segments = line_profile(alloc, model, run, form)?;
+            Ok(Profile::Linear(segments))
+        }
+    }
+}
