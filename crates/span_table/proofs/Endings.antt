@@ -11,7 +11,7 @@ use Rattle.aerie_base.specs.Paths.{AnyUnder}
 use Rattle.run_data.specs.Spans.{Timed, is_done, returned, is_of_path, body_ended, task_ended, result_in, or_returned}
 use Rattle.span_table.specs.declared.body_states.BodyState.{BodyState}
 use Rattle.span_table.specs.declared.body_states.BodyState.TheVariants.{Open, Over}
-use Rattle.span_table.specs.declared.progress.Tasks.{Tasks}
+use Rattle.span_table.specs.declared.progress.BodyTable.{BodyTable}
 use Rattle.span_table.specs.BodyStates.{state_if, body_after, is_open_after}
 use Rattle.span_table.specs.Progress.{KnowsTasks}
 
@@ -99,7 +99,7 @@ all_over all path (first ∷ part) among none_open =
         absurd (none_open first.1.path u (ap (λ b. b && not (body_ended all first.1.path)) begun ∙ ap not e))
 
 -- a task has ended where no open path is under its own
-pub ended_by_opens : (frames : List Timed) (tasks : Tasks) (path : List ℕ) (any : Bool) → KnowsTasks frames tasks →
+pub ended_by_opens : (frames : List Timed) (tasks : BodyTable) (path : List ℕ) (any : Bool) → KnowsTasks frames tasks →
     IsTrue any ↔ AnyUnder path (λ q. IsTrue (tree.contains path_cmp tasks.opens q)) → task_ended frames path ≡ not any
 ended_by_opens frames tasks path true knows tells =
     let found = tells.0 refl in

@@ -14,7 +14,7 @@ use Rattle.run_data.specs.declared.frames.Status.{Status}
 use Rattle.run_data.specs.Spans.{Timed, same_path, is_done, returned, is_of_path, body_ended, result_in, or_returned}
 use Rattle.span_table.specs.declared.body_states.BodyState.{BodyState}
 use Rattle.span_table.specs.declared.body_states.BodyState.TheVariants.{Over}
-use Rattle.span_table.specs.declared.progress.Tasks.{Tasks}
+use Rattle.span_table.specs.declared.progress.BodyTable.{BodyTable}
 use Rattle.span_table.specs.BodyStates.{is_open_body, state_if, body_after, is_open_after, state_by, noted_state}
 use Rattle.span_table.specs.Begun.{last_after}
 use Rattle.span_table.specs.Progress.{KnowsTasks}
@@ -125,7 +125,7 @@ open_is frames path = go (list_any (is_of_path path) frames) (body_ended frames 
 -- ---- all tasks
 
 -- the same of all bodies and paths, where the state of the frame's body is put
-pub knows_more : (frames : List Timed) (frame : Timed) (tasks new : Tasks) (after : BodyState) → KnowsTasks frames tasks →
+pub knows_more : (frames : List Timed) (frame : Timed) (tasks new : BodyTable) (after : BodyState) → KnowsTasks frames tasks →
     after ≡ noted_state (hash.get same_path tasks.bodies frame.1.path) frame.1.status →
     ((path : List ℕ) → hash.get same_path new.bodies path ≡ cond (same_path frame.1.path path) (Some after) (hash.get same_path tasks.bodies path)) →
     ((path : List ℕ) → tree.contains path_cmp new.opens path ≡ cond (is_at (path_cmp frame.1.path) path) (is_open_body after) (tree.contains path_cmp tasks.opens path)) →
@@ -157,7 +157,7 @@ knows_more frames frame tasks new after knows is bodies opens last = record {
     inside false state other = refl
 
 -- and where it stays as it was
-pub knows_same : (frames : List Timed) (frame : Timed) (tasks new : Tasks) → KnowsTasks frames tasks →
+pub knows_same : (frames : List Timed) (frame : Timed) (tasks new : BodyTable) → KnowsTasks frames tasks →
     hash.get same_path tasks.bodies frame.1.path ≡ Some (noted_state (hash.get same_path tasks.bodies frame.1.path) frame.1.status) →
     new.bodies ≡ tasks.bodies → new.opens ≡ tasks.opens →
     ((path : List ℕ) → 2 ≤ length path → hash.get same_path new.last path ≡ cond (is_prefix path frame.1.path) (Some frame.0) (hash.get same_path tasks.last path)) →

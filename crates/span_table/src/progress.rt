@@ -19,7 +19,7 @@ use std::collections::{BTreeSet, HashMap};
 
 /// What the frames so far tell of each body and of each path.
 #[derive(Drop)]
-pub(crate) struct Tasks {
+pub(crate) struct BodyTable {
     /// How far each body has come.
     pub(crate) bodies: HashMap<Path, BodyState>,
     /// The paths of the bodies that have not ended.
@@ -34,15 +34,15 @@ pub(crate) struct Progress {
     /// The spans that have begun, in the order in which they did, none of them with an end.
     pub(crate) begun: Vec<Span>,
     /// The bodies and the paths.
-    pub(crate) tasks: Tasks,
+    pub(crate) tasks: BodyTable,
 }
 
-impl Tasks {
+impl BodyTable {
     /// Before any frame.
-    fn new(alloc: Global) -> Tasks
+    fn new(alloc: Global) -> BodyTable
         ensures { KnowsTasks [] result }
     {
-        Tasks {
+        BodyTable {
             bodies: HashMap::new(alloc),
             opens: BTreeSet::new(alloc),
             last: HashMap::new(alloc),
@@ -110,7 +110,7 @@ impl Progress {
     {
         Progress {
             begun: Vec::new(alloc),
-            tasks: Tasks::new(alloc),
+            tasks: BodyTable::new(alloc),
         }
     }
 
@@ -189,7 +189,7 @@ impl Progress {
 }
 
 /// Gives each span its end and its result, if its task has ended.
-fn finish_all(tasks: &Tasks, spans: &mut [Span])
+fn finish_all(tasks: &BodyTable, spans: &mut [Span])
     ensures { (frames : List Timed) → KnowsTasks frames tasks.now → spans.new ≡ map (with_end frames) spans.old }
 {
     for span in spans.iter_mut() {

@@ -2,7 +2,7 @@ use Rattle.std.proofs.Common.{Bool, Option, None, ℕ, sym, ap, not, ◌∙◌}
 use Rattle.aerie_base.specs.declared.values.Value.{Value}
 use Rattle.span_table.specs.Begun.{last_after, with_end_if}
 use Rattle.span_table.proofs.Endings.{ended_by_opens}
-use Rattle.span_table.proofs.progress.Tasks.finish.Goals as goal
+use Rattle.span_table.proofs.progress.BodyTable.finish.Goals as goal
 
 pub returns-then-has_any_under : goal.returns-then-has_any_under
 returns-then-has_any_under c = λ frames knows.

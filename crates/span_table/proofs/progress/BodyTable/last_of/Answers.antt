@@ -1,6 +1,6 @@
 use Rattle.std.proofs.Common.{◌∙◌}
 use Rattle.span_table.proofs.Endings.{is_long}
-use Rattle.span_table.proofs.progress.Tasks.last_of.Goals as goal
+use Rattle.span_table.proofs.progress.BodyTable.last_of.Goals as goal
 
 pub returns : goal.returns
 returns c = λ frames knows.

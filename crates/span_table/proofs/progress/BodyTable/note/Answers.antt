@@ -4,7 +4,7 @@ use Rattle.run_data.specs.Spans.{same_path}
 use Rattle.span_table.specs.declared.body_states.BodyState.{BodyState}
 use Rattle.span_table.specs.BodyStates.{noted_state}
 use Rattle.span_table.proofs.Frames.{knows_more, knows_same}
-use Rattle.span_table.proofs.progress.Tasks.note.Goals as goal
+use Rattle.span_table.proofs.progress.BodyTable.note.Goals as goal
 
 pub returns-then-stays : goal.returns-then-stays
 returns-then-stays c = λ frames knows.

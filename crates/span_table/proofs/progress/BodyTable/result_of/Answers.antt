@@ -1,7 +1,7 @@
 use Rattle.std.proofs.Common.{Some, sym, ap, ◌∙◌}
 use Rattle.span_table.specs.declared.body_states.BodyState.{BodyState}
 use Rattle.span_table.proofs.Endings.{known_result, result_is}
-use Rattle.span_table.proofs.progress.Tasks.result_of.Goals as goal
+use Rattle.span_table.proofs.progress.BodyTable.result_of.Goals as goal
 
 pub returns-in-Some-Open : goal.returns-in-Some-Open
 returns-in-Some-Open c = λ frames knows.
