@@ -1,0 +1,2 @@
+pub mod FamilyJobs
+pub mod IdleRuns

@@ -1,0 +1,2 @@
+pub mod FamilyMission
+pub mod IdleRuns
