@@ -1,0 +1,9 @@
+pub mod RawExpressionForms
+pub mod RawStatementForms
+pub mod NotedInTurn
+pub mod Results
+pub mod ExpressionForms
+pub mod MadeExpressions
+pub mod Turns
+pub mod Arguments
+pub mod LeafForms
