@@ -21,8 +21,8 @@ abbrev pub is_place_before : Place → Place → Bool
 is_place_before one other = nat_lt one.line other.line || (one.line == other.line && nat_lt one.column other.column)
 
 -- by place, and at one place by number
-abbrev pub is_before : Diagnostic → Diagnostic → Bool
-is_before one other =
+abbrev pub is_told_before : Diagnostic → Diagnostic → Bool
+is_told_before one other =
     is_place_before one.place other.place
     || (not (is_place_before other.place one.place) && nat_lt (number_of_cause one.cause) (number_of_cause other.cause))
 
@@ -31,7 +31,7 @@ is_before one other =
 -- the first of what was found so far and one more
 abbrev pub sooner : Option Diagnostic → Diagnostic → Option Diagnostic
 sooner None new = Some new
-sooner (Some old) new = Some (if is_before new old then new else old)
+sooner (Some old) new = Some (if is_told_before new old then new else old)
 
 -- the first of what was found so far and more of them
 abbrev pub noted : Option Diagnostic → List Diagnostic → Option Diagnostic

@@ -1,7 +1,7 @@
 //! What is wrong with a model as it is written, and where.
 
 ghost use Rattle.std.specs.Prelude.{◌≡◌, ◌∷◌, []};
-ghost use Rattle.model_check.specs.Diagnostics.{number_of_cause, is_place_before, is_before, sooner};
+ghost use Rattle.model_check.specs.Diagnostics.{number_of_cause, is_place_before, is_told_before, sooner};
 
 use aerie_base::Place;
 
@@ -59,8 +59,8 @@ pub(crate) fn is_place_before(one: Place, other: Place) -> bool
 
 impl Diagnostic {
     /// Whether this one comes before another: it stands before it, or its number is smaller at the same place.
-    fn is_before(self, other: Diagnostic) -> bool
-        ensures { result ≡ is_before self other }
+    fn is_told_before(self, other: Diagnostic) -> bool
+        ensures { result ≡ is_told_before self other }
     {
         is_place_before(self.place, other.place)
             || !is_place_before(other.place, self.place)
@@ -80,7 +80,7 @@ fn first_of(found: Option<Diagnostic>, new: Diagnostic) -> Diagnostic
     ensures { sooner found new ≡ Some result }
 {
     match found {
-        Some(old) if !new.is_before(old) => old,
+        Some(old) if !new.is_told_before(old) => old,
         _ => new,
     }
 }
