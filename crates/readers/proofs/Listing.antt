@@ -3,7 +3,7 @@ use Rattle.std.proofs.Common.{◌≡◌, true, false, ℕ, List, [], ◌∷◌, 
 use Rattle.aerie_text.specs.declared.sorts.Sort.{Sort}
 use Rattle.aerie_text.specs.declared.sorts.Sort.TheVariants.{Comma, OpenParenthesis, CloseParenthesis}
 use Rattle.readers.specs.Conforms.{Conforms}
-use Rattle.readers.specs.Lists.{passed, pushed_at, unless_passed, one_more_of, one_more_at, listed_at, optional_list_at, parenthesized_at, row_at}
+use Rattle.readers.specs.Lists.{limit_passed, pushed_at, unless_passed, one_more_of, one_more_at, listed_at, optional_list_at, parenthesized_at, row_at}
 use Rattle.readers.specs.Marks.{Mark}
 use Rattle.readers.specs.Parsed.{Parsed, is_of, is_one_of, next_is}
 use Rattle.readers.specs.declared.limits.Limit.{Limit}
@@ -21,7 +21,7 @@ module _ {Rule Kind : Type 0} {look : Lookahead Rule Kind Mark} {A : Type 0} {a 
 
   pub one_more_conforms : ((here : List Mark) → Conforms look a here (part_at here)) → (most : Option Most) (so_far : List A) (marks : List Mark)
       → next_in_first look a marks ≡ true → Conforms look a marks (one_more_of most part_at so_far marks)
-  one_more_conforms h most so_far marks begun = unless_conforms h (passed most (length so_far)) so_far marks begun
+  one_more_conforms h most so_far marks begun = unless_conforms h (limit_passed most (length so_far)) so_far marks begun
 
   one_begun_conforms : (first : Sort) → Begins look (is_of first) a → nullable look a ≡ false → ((here : List Mark) → Conforms look a here (part_at here))
       → (most : Option Most) (so_far : List A) (marks : List Mark) → Conforms look a marks (one_more_at first most part_at so_far marks)

@@ -9,9 +9,9 @@ use Rattle.readers.specs.declared.limits.Limit.{Limit}
 use Rattle.readers.specs.declared.lists.Most.{Most}
 
 -- the limit that is passed with one part more than so many
-abbrev pub passed : Option Most → ℕ → Option Limit
-passed None count = None
-passed (Some most) count = if nat_le most.count count then Some most.limit else None
+abbrev pub limit_passed : Option Most → ℕ → Option Limit
+limit_passed None count = None
+limit_passed (Some most) count = if nat_le most.count count then Some most.limit else None
 
 module _ {A : Type 0} (part_at : List Mark → Parsed A) where
   -- a part, behind those so far
@@ -25,7 +25,7 @@ module _ {A : Type 0} (part_at : List Mark → Parsed A) where
 
 -- a part, behind those so far, where there may be one more
 abbrev pub one_more_of : {A : Type 0} → Option Most → (List Mark → Parsed A) → List A → List Mark → Parsed (List A)
-one_more_of most part_at so_far marks = unless_passed part_at (passed most (length so_far)) so_far marks
+one_more_of most part_at so_far marks = unless_passed part_at (limit_passed most (length so_far)) so_far marks
 
 -- the same, where the next mark begins one
 abbrev pub one_more_at : {A : Type 0} → Sort → Option Most → (List Mark → Parsed A) → List A → List Mark → Parsed (List A)

@@ -10,7 +10,7 @@ mod refusal;
 mod words;
 
 pub use limits::Limit;
-pub use lists::{Item, Most, listed, optional_list, parenthesized, row};
+pub use lists::{Element, Most, listed, optional_list, parenthesized, row};
 pub use reader::Reader;
 pub use refusal::Refusal;
 pub use words::one_of;

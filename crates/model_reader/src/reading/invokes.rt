@@ -7,13 +7,13 @@ use crate::raw::{RawExpr, RawInvoke, RawName};
 use crate::reading::expressions::expr;
 use crate::reading::names::raw_name;
 use aerie_text::Sort;
-use readers::{Item, Reader, Refusal, parenthesized};
+use readers::{Element, Reader, Refusal, parenthesized};
 use std::alloc::Global;
 
 /// An argument: the name of a parameter and its value.
-struct Argument;
+struct OneArgument;
 
-impl Item for Argument {
+impl Element for OneArgument {
     type Part = (RawName, RawExpr);
 
     ghost part_at = { argument_at };
@@ -33,6 +33,6 @@ pub fn invoke(alloc: Global, reader: &mut Reader) -> Result<RawInvoke, Refusal>
     ensures { Consumes invoke_at reader.old reader.new result }
 {
     let name = raw_name(alloc, reader)?;
-    let arguments = parenthesized::<Argument>(alloc, reader, Sort::Name, None)?;
+    let arguments = parenthesized::<OneArgument>(alloc, reader, Sort::Name, None)?;
     Ok(RawInvoke { name, arguments })
 }

@@ -10,7 +10,7 @@ use crate::raw::{RawClient, RawCommand};
 use crate::reading::directives::{argument, given, id, when};
 use aerie_base::{List, Name, Text};
 use aerie_text::Sort;
-use readers::{Item, Limit, Most, Reader, Refusal, row};
+use readers::{Element, Limit, Most, Reader, Refusal, row};
 use std::alloc::Global;
 
 /// How many commands a client may have.
@@ -247,9 +247,9 @@ fn command(alloc: Global, reader: &mut Reader) -> Result<RawCommand, Refusal>
 }
 
 /// A command and its semicolon.
-struct EndedCommand;
+struct OneCommand;
 
-impl Item for EndedCommand {
+impl Element for OneCommand {
     type Part = RawCommand;
 
     ghost part_at = { ended_command_at };
@@ -282,7 +282,7 @@ fn commands(alloc: Global, reader: &mut Reader) -> Result<List<RawCommand>, Refu
         Sort::Schedule,
         Sort::Expand,
     ];
-    row::<EndedCommand>(alloc, reader, &words, Some(MOST_COMMANDS))
+    row::<OneCommand>(alloc, reader, &words, Some(MOST_COMMANDS))
 }
 
 #[tactic(auto, unfolding(crate::specs::reading::Commands::client_at))]

@@ -10,7 +10,7 @@ use aerie_base::{
     Anchor, Edge, Name, Number, OutOfMemory, Place, RawArgument, RawValue, Text, Time, When,
 };
 use aerie_text::Sort;
-use readers::{Item, Reader, Refusal, parenthesized};
+use readers::{Element, Reader, Refusal, parenthesized};
 use std::alloc::Global;
 
 /// The greatest id.
@@ -201,7 +201,7 @@ pub fn argument(alloc: Global, reader: &mut Reader) -> Result<RawArgument, Refus
 /// An argument: the name of a parameter and a literal.
 struct GivenArgument;
 
-impl Item for GivenArgument {
+impl Element for GivenArgument {
     type Part = RawArgument;
 
     ghost part_at = { argument_at };

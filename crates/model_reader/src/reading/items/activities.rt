@@ -10,7 +10,7 @@ use crate::reading::names::raw_name;
 use crate::reading::statements::body;
 use crate::reading::types::type_;
 use aerie_text::Sort;
-use readers::{Item, Limit, Most, Reader, Refusal, row};
+use readers::{Element, Limit, Most, Reader, Refusal, row};
 use std::alloc::Global;
 
 /// How many requirements an activity type may have.
@@ -34,9 +34,9 @@ fn result_(alloc: Global, reader: &mut Reader) -> Result<Option<RawType>, Refusa
 }
 
 /// A requirement.
-struct Requirement;
+struct OneRequirement;
 
-impl Item for Requirement {
+impl Element for OneRequirement {
     type Part = RawExpr;
 
     ghost part_at = { require_at };
@@ -59,7 +59,7 @@ pub fn activity(alloc: Global, reader: &mut Reader) -> Result<RawItem, Refusal>
     let parameters = params(alloc, reader)?;
     let result = result_(alloc, reader)?;
     reader.take(Sort::OpenBrace)?;
-    let requires_ = row::<Requirement>(alloc, reader, &[Sort::Require], Some(MOST_REQUIRES))?;
+    let requires_ = row::<OneRequirement>(alloc, reader, &[Sort::Require], Some(MOST_REQUIRES))?;
     let body = body(alloc, reader)?;
     reader.take(Sort::CloseBrace)?;
     Ok(RawItem::Activity {

@@ -7,7 +7,7 @@ ghost use Rattle.model_reader.specs.reading.Names.{raw_name_at};
 use crate::raw::{RawItem, RawName};
 use crate::reading::names::raw_name;
 use aerie_text::Sort;
-use readers::{Item, Limit, Most, Reader, Refusal, listed};
+use readers::{Element, Limit, Most, Reader, Refusal, listed};
 use std::alloc::Global;
 
 /// How many variants an enumeration may have.
@@ -17,9 +17,9 @@ const MOST_VARIANTS: Most = Most {
 };
 
 /// A variant.
-struct Variant;
+struct OneVariant;
 
-impl Item for Variant {
+impl Element for OneVariant {
     type Part = RawName;
 
     ghost part_at = { raw_name_at };
@@ -36,7 +36,7 @@ pub fn enum_(alloc: Global, reader: &mut Reader) -> Result<RawItem, Refusal>
     reader.take(Sort::Enum)?;
     let name = raw_name(alloc, reader)?;
     reader.take(Sort::OpenBrace)?;
-    let variants = listed::<Variant>(alloc, reader, Sort::Name, Some(MOST_VARIANTS))?;
+    let variants = listed::<OneVariant>(alloc, reader, Sort::Name, Some(MOST_VARIANTS))?;
     reader.take(Sort::CloseBrace)?;
     Ok(RawItem::Enum { name, variants })
 }

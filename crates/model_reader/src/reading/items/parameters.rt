@@ -9,7 +9,7 @@ use crate::reading::names::raw_name;
 use crate::reading::types::type_;
 use aerie_base::List;
 use aerie_text::Sort;
-use readers::{Item, Limit, Most, Reader, Refusal, parenthesized};
+use readers::{Element, Limit, Most, Reader, Refusal, parenthesized};
 use std::alloc::Global;
 
 /// How many parameters an activity type may have.
@@ -33,9 +33,9 @@ fn default(alloc: Global, reader: &mut Reader) -> Result<Option<RawLiteral>, Ref
 }
 
 /// A parameter.
-struct Parameter;
+struct OneParameter;
 
-impl Item for Parameter {
+impl Element for OneParameter {
     type Part = RawParameter;
 
     ghost part_at = { param_at };
@@ -59,5 +59,5 @@ impl Item for Parameter {
 pub fn params(alloc: Global, reader: &mut Reader) -> Result<List<RawParameter>, Refusal>
     ensures { Consumes params_at reader.old reader.new result }
 {
-    parenthesized::<Parameter>(alloc, reader, Sort::Name, Some(MOST_PARAMETERS))
+    parenthesized::<OneParameter>(alloc, reader, Sort::Name, Some(MOST_PARAMETERS))
 }

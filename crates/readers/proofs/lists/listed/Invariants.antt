@@ -8,7 +8,7 @@ use Rattle.readers.proofs.lists.listed.Given as goal
 -- behind the first part, so many were read, each with a comma before it
 abbrev pub invariant-loop-alloc : goal.invariant-loop-alloc
 invariant-loop-alloc g l =
-    Going (is_of Comma) (behind_at Comma (one_more_at l.fn.first l.fn.most g.I.Item.part_at)) l.initial.parts l.initial.reader l.parts l.reader
+    Going (is_of Comma) (behind_at Comma (one_more_at l.fn.first l.fn.most g.E.Element.part_at)) l.initial.parts l.initial.reader l.parts l.reader
 
 abbrev pub decreases-loop-alloc : goal.decreases-loop-alloc
 decreases-loop-alloc g l = length l.reader

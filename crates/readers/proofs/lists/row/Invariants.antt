@@ -7,7 +7,7 @@ use Rattle.readers.proofs.lists.row.Given as goal
 -- so many were read
 abbrev pub invariant-loop-alloc : goal.invariant-loop-alloc
 invariant-loop-alloc g l =
-    Going (is_one_of l.begin) (one_more_of l.fn.most g.I.Item.part_at) l.initial.parts l.initial.reader l.parts l.reader
+    Going (is_one_of l.begin) (one_more_of l.fn.most g.E.Element.part_at) l.initial.parts l.initial.reader l.parts l.reader
 
 abbrev pub decreases-loop-alloc : goal.decreases-loop-alloc
 decreases-loop-alloc g l = length l.reader
