@@ -5,6 +5,7 @@ pub mod LineWalks
 pub mod Products
 pub mod Resources
 pub mod Segmenting
+pub mod Started
 pub mod Sums
 pub mod Terms
 pub mod ValueWalks

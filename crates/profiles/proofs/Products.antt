@@ -1,5 +1,5 @@
 -- Products of whole numbers spread over sums, and how great they are.
-use Rattle.std.proofs.Common.{◌≡◌, ℕ, zero, suc, ◌*◌, ◌≤◌, ℤ, pos, negsuc, ◌+ℤ◌, ◌-ℤ◌, ◌*ℤ◌, ap, sym, ◌∙◌, arith}
+use Rattle.std.proofs.Common.{◌≡◌, ℕ, zero, suc, ◌*◌, ◌^◌, ◌<◌, ◌≤◌, ℤ, pos, negsuc, ◌+ℤ◌, ◌-ℤ◌, ◌*ℤ◌, ap, sym, ◌∙◌, arith}
 use Rattle.std.specs.Int.RustNames.{unsigned_abs}
 use Rattle.std.proofs.lemmas.Int.{ints, unsigned_abs-mul}
 use Rattle.std.proofs.lemmas.Nat.{mul-le}
@@ -63,3 +63,14 @@ product_within a b small =
     let product = unsigned_abs-mul a b in
     let most = mul-le (unsigned_abs a) (unsigned_abs b) 1_000_000 (unsigned_abs b) small (omega arith) in
     omega (arith, product, most)
+
+-- a number is no greater than a product of it with some time
+pub no_greater : (rate : ℤ) (dt limit : ℕ) → 1 ≤ dt → unsigned_abs (rate *ℤ pos dt) < limit → unsigned_abs rate < limit
+no_greater rate dt limit some small =
+    let product = unsigned_abs-mul rate (pos dt) in
+    let most = mul-le (unsigned_abs rate) 1 (unsigned_abs rate) dt (omega arith) some in
+    omega (arith, product, most, small)
+
+-- the difference of two numbers below a limit
+pub between_sums : (value product : ℤ) → unsigned_abs value < 2 ^ 120 → unsigned_abs (value +ℤ product) < 2 ^ 120 → unsigned_abs product < 2 ^ 121
+between_sums value product before after = omega (arith, ints)

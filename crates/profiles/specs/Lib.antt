@@ -1,5 +1,6 @@
 pub mod Followed
 pub mod Profiles
+pub mod Samples
 pub mod Segments
 pub mod Showings
 pub mod States

@@ -10,4 +10,4 @@ mod states;
 mod watching;
 
 pub use profiling::profile;
-pub use sampling::Profile;
+pub use sampling::{Profile, Sample};

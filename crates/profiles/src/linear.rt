@@ -16,7 +16,7 @@ ghost use Rattle.profiles.specs.States.{RiseFrom};
 ghost use Rattle.profiles.specs.Watching.{IsModerate, IsWatchable, advanced, summed_line};
 
 use crate::runs::can_be_followed;
-use crate::states::{between, is_below, start_time};
+use crate::states::{between, elapsed, is_below, start_time};
 use crate::watching::{Watched, advance_all, line_from, watched_terms};
 use aerie_base::{Linear, List, Model, OutOfMemory, Time};
 use run_data::{Instant, Run};
@@ -37,15 +37,6 @@ fn line_after(watched: &mut Vec<Watched>, from: Time, instant: &Instant) -> Segm
     let dt = between(from, instant.time);
     advance_all(watched, dt, instant.changed.as_slice());
     line_from(instant.time, watched.as_slice())
-}
-
-/// The microseconds from one time to a later one.
-fn elapsed(from: Time, to: Time) -> u128
-    requires { from ≤ to }
-    ensures micros { result ≡ to - from }
-    ensures time { IsTime result }
-{
-    (to.get() - from.get()) as u128
 }
 
 /// The value so many microseconds later.

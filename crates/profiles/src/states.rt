@@ -59,6 +59,15 @@ pub(crate) fn between(from: Time, to: Time) -> Time
     Time::new(to.get() - from.get()).unwrap()
 }
 
+/// How many microseconds they are apart.
+pub(crate) fn elapsed(from: Time, to: Time) -> u128
+    requires { from ≤ to }
+    ensures micros { result ≡ to - from }
+    ensures time { IsTime result }
+{
+    (to.get() - from.get()) as u128
+}
+
 /// The state a time `dt` later, where there is no effect.
 fn later(state: CellState, dt: Time) -> CellState
     requires { is_in_range state ≡ true }
