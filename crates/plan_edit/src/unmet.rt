@@ -7,15 +7,18 @@ ghost use Rattle.plan_edit.specs.Requires.{first_unmet as first_unmet_by, is_met
 
 use aerie_base::{CellRead, Expr, Fault, Look, Value, eval, truth_in};
 
-/// A place to read from that has no reads.
+/// A place to read from: nothing at all, or registers that are all false. A `require` reads none, so it is judged where
+/// there is nothing.
 #[derive(Drop)]
-struct NoReads {}
+struct Registers {
+    are_there: bool,
+}
 
-impl Look for NoReads {
+impl Look for Registers {
     ghost use Rattle.std.specs.Prelude.{[]};
-    ghost use Rattle.plan_edit.specs.Requires.{no_kinds, no_reads, no_readings};
+    ghost use Rattle.plan_edit.specs.Requires.{kinds_if, no_reads, readings_if};
 
-    ghost kinds = { λ look. no_kinds };
+    ghost kinds = { λ look. kinds_if look.are_there };
 
     ghost values = { λ look. no_reads };
 
@@ -25,10 +28,10 @@ impl Look for NoReads {
 
     ghost unchanged = { λ look. tt };
 
-    ghost readings = { λ look. no_readings };
+    ghost readings = { λ look. readings_if look.are_there };
 
     fn look(&mut self, _read: CellRead) -> Result<Value, Fault> {
-        Err(Fault::Range)
+        Ok(Value::Truth(false))
     }
 }
 
@@ -37,7 +40,7 @@ fn is_met(expr: &Expr, values: &[Value]) -> bool
     requires { IsTrue (is_typed_for values.now expr.now) }
     ensures { result ≡ is_met_by values.now expr.now }
 {
-    match eval(expr, values, &mut NoReads {}) {
+    match eval(expr, values, &mut Registers { are_there: false }) {
         Ok(value) => truth_in(&value),
         Err(_) => false,
     }
