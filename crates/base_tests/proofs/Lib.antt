@@ -1,0 +1,2 @@
+mod Single
+pub mod InOrder
