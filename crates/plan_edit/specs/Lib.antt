@@ -1,6 +1,7 @@
 pub mod Answers
 pub mod Arguments
 pub mod Requires
+pub mod RequireLaws
 pub mod Editing
 pub mod Mappings
 pub mod Migrating

@@ -1,9 +1,7 @@
 -- What the arguments of a directive must meet: the `require`s of its type.
-use Rattle.std.specs.Prelude.{◌≡◌, ℕ, ◌+◌, Bool, true, false, List, [], ◌∷◌, Option, Some, None, is_some, Ok, Err, if◌then◌else◌}
-use Rattle.std.proofs.lemmas.Option.{none-some, same_Some}
+use Rattle.std.specs.Prelude.{ℕ, ◌+◌, Bool, true, false, List, [], ◌∷◌, Option, Some, None, is_some, Ok, Err, if◌then◌else◌}
 use Rattle.aerie_base.specs.declared.values.Kind.{Kind}
 use Rattle.aerie_base.specs.declared.values.Kind.TheVariants as kind
-use Rattle.aerie_base.specs.expressions.Readings.{AreReadings, MayHave}
 use Rattle.aerie_base.specs.expressions.Typing.{kind_of, slot_kinds}
 use Rattle.aerie_base.specs.declared.values.Value.{Value}
 use Rattle.aerie_base.specs.declared.values.Value.TheVariants.{Int, Truth, Variant}
@@ -33,27 +31,6 @@ register_kinds (Rate cell) = None
 abbrev pub kinds_if : Bool → CellRead → Option Kind
 kinds_if true = register_kinds
 kinds_if false = no_kinds
-
-pub has_kind : (read : CellRead) (of : Kind) → register_kinds read ≡ Some of → kind.Truth ≡ of
-has_kind (Register cell) of e = same_Some _ _ e
-has_kind (Counter cell) of e = absurd (none-some of e)
-has_kind (Conflicted cell) of e = absurd (none-some of e)
-has_kind (Volume cell) of e = absurd (none-some of e)
-has_kind (Rate cell) of e = absurd (none-some of e)
-
-pub may_have_kind : (read : CellRead) (of : Kind) → register_kinds read ≡ Some of → MayHave read of
-may_have_kind (Register cell) of e = tt
-may_have_kind (Counter cell) of e = absurd (none-some of e)
-may_have_kind (Conflicted cell) of e = absurd (none-some of e)
-may_have_kind (Volume cell) of e = absurd (none-some of e)
-may_have_kind (Rate cell) of e = absurd (none-some of e)
-
-pub readings_if : (registers : Bool) → AreReadings (kinds_if registers) no_reads
-readings_if true = record { of_kind = has_kind; sorts = may_have_kind }
-readings_if false = record {
-  of_kind = λ read of e. absurd (none-some of e);
-  sorts = λ read of e. absurd (none-some of e);
-}
 
 -- a fault is not true
 abbrev pub is_true : ValueOrFault → Bool

@@ -16,7 +16,8 @@ struct Registers {
 
 impl Look for Registers {
     ghost use Rattle.std.specs.Prelude.{[]};
-    ghost use Rattle.plan_edit.specs.Requires.{kinds_if, no_reads, readings_if};
+    ghost use Rattle.plan_edit.specs.RequireLaws.{readings_if};
+    ghost use Rattle.plan_edit.specs.Requires.{kinds_if, no_reads};
 
     ghost kinds = { λ look. kinds_if look.are_there };
 
