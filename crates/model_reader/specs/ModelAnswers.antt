@@ -76,3 +76,7 @@ AreModel text tokens from to = IsRead written model_rule (marks_between text tok
 -- no tokens from this one on are a model
 abbrev pub NoModelBegins : List ℕ → List Token → ℕ → Type 0
 NoModelBegins text tokens from = (to : ℕ) → AreModel text tokens from to → ⊥
+
+-- where reading a model fails, no marks in front are one, by the grammar as it is written
+abbrev pub FailsWhereNoModelBegins : Type 0
+FailsWhereNoModelBegins = (marks rest : List Mark) → model_at marks ≡ failed rest → (count : ℕ) → IsRead written model_rule (take count marks) → ⊥

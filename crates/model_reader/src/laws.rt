@@ -1,15 +1,14 @@
 //! Laws of the grammar of models, each the promise of a function without a body.
 
-ghost use Rattle.std.specs.Prelude.{◌≡◌, ℕ, List, take};
+ghost use Rattle.std.specs.Prelude.{List};
 ghost use Rattle.readers.specs.Conforms.{Conforms};
 ghost use Rattle.readers.specs.Marks.{Mark};
 ghost use Rattle.readers.specs.grammar.Alike.{AreAlike};
 ghost use Rattle.readers.specs.grammar.Forms.{rule};
 ghost use Rattle.readers.specs.grammar.Predictive.{IsPredictive};
-ghost use Rattle.readers.specs.grammar.Readings.{IsRead};
 ghost use Rattle.readers.specs.grammar.Tells.{AnswersAreRight};
-ghost use Rattle.readers.specs.Parsed.{failed};
 ghost use Rattle.readers.specs.Verdicts.{Judges};
+ghost use Rattle.model_reader.specs.ModelAnswers.{FailsWhereNoModelBegins};
 ghost use Rattle.model_reader.specs.grammar.Factored.{look, factored};
 ghost use Rattle.model_reader.specs.grammar.Rules.{model_rule};
 ghost use Rattle.model_reader.specs.grammar.Written.{written};
@@ -33,5 +32,5 @@ pub fn answers_are_right()
 pub fn models_conform()
     ensures conforms { (marks : List Mark) → Conforms look (rule model_rule) marks (model_at marks) }
     ensures judged { (marks : List Mark) → Judges written model_rule marks (model_at marks) }
-    ensures failed { (marks rest : List Mark) → model_at marks ≡ failed rest → (count : ℕ) → IsRead written model_rule (take count marks) → ⊥ }
+    ensures failed { FailsWhereNoModelBegins }
 {}
