@@ -1,6 +1,5 @@
 //! The parts of a model as they are written: names stand for what they are to name, and each part knows its place.
 
-mod copies;
 mod expressions;
 mod invokes;
 mod items;

@@ -1,4 +1,5 @@
 pub mod Conforms
+pub mod Endings
 pub mod Entries
 pub mod EntriesCases
 pub mod Implements

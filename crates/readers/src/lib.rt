@@ -2,6 +2,7 @@
 //! is proved; and readers over the tokens of a text. `example` shows how a reader is written.
 #![tactic(auto)]
 
+mod copies;
 pub mod example;
 mod limits;
 mod lists;
@@ -9,8 +10,9 @@ mod reader;
 mod refusal;
 mod words;
 
+pub use copies::{RawData, copy_both};
 pub use limits::Limit;
 pub use lists::{Element, Most, listed, optional_list, parenthesized, row};
 pub use reader::Reader;
 pub use refusal::Refusal;
-pub use words::one_of;
+pub use words::{ended_by, one_of};

@@ -1,5 +1,7 @@
-//! Words and symbols that stand for a value.
+//! Words and symbols that stand for a value, and those that end a part.
 
+ghost use Rattle.std.specs.Prelude.{◌≡◌, IfOk};
+ghost use Rattle.readers.specs.Endings.{ended_by};
 ghost use Rattle.readers.specs.Implements.{Consumes};
 ghost use Rattle.readers.specs.Parsed.{one_of_at};
 
@@ -24,4 +26,13 @@ pub fn one_of<T: Copy>(reader: &mut Reader, table: &[(Sort, T)]) -> Result<(Plac
         }
         None => Err(Refusal::Syntax),
     }
+}
+
+/// Reads the symbol that ends a part, and gives the part. Where it is called last, the part need not be dropped by the caller.
+pub fn ended_by<T: Drop>(reader: &mut Reader, sort: Sort, part: T) -> Result<T, Refusal>
+    ensures read { Consumes (ended_by sort part) reader.old reader.new result }
+    ensures kept { IfOk result (λ given. given ≡ part) }
+{
+    reader.take(sort)?;
+    Ok(part)
 }

@@ -3,7 +3,7 @@
 use aerie_base::{List, Name, Place, RawArgument, RawValue, Text, When};
 
 /// An activity with arguments, as a directive gives it.
-#[derive(Debug, Drop)]
+#[derive(Drop)]
 pub struct RawGiven {
     /// The name of the activity type.
     pub kind: Name,
@@ -12,7 +12,7 @@ pub struct RawGiven {
 }
 
 /// A command. `branch` is the branch that it names first.
-#[derive(Debug, Drop)]
+#[derive(Drop)]
 pub enum RawCommand {
     /// Opens an empty branch.
     New {
@@ -85,7 +85,7 @@ pub enum RawCommand {
 }
 
 /// A client with its commands.
-#[derive(Debug, Drop)]
+#[derive(Drop)]
 pub struct RawClient {
     /// The place of its name.
     pub at: Place,

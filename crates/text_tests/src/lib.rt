@@ -11,8 +11,6 @@ mod lists_of_entries;
 #[cfg(test)]
 mod models;
 #[cfg(test)]
-mod raw_models;
-#[cfg(test)]
 mod readers_of_tokens;
 #[cfg(test)]
 mod tokens_and_lines;

@@ -400,6 +400,17 @@ fn answer_on(alloc: Global, text: &str, tokens: &[Token]) -> Option<String>
     }
 }
 
+/// How many items a copy has of the model that is read in a text.
+fn copied_items(alloc: Global, text: &str) -> Option<usize> {
+    if text.len() >= 4_294_967_295 {
+        return None;
+    }
+    let tokens = tokens(alloc, text).ok()?;
+    let (model, _) = read_model(alloc, text, tokens.as_slice(), 0).ok()?;
+    let copy = model.copy(alloc).ok()?;
+    Some(copy.items.len())
+}
+
 fn is_answer(alloc: Global, text: &str, expected: &str) -> bool {
     match answer(alloc, text) {
         Some(answer) => answer.as_str() == expected,
@@ -418,6 +429,12 @@ fn reads_whole_models(rt: HostRuntime) {
     for (text, expected) in cases {
         assert!(&rt; is_answer(rt.alloc(), text, expected), "of {text}");
     }
+}
+
+/// Memory suffices for a copy; that it is equal its clause says.
+#[test]
+fn copies_models(rt: HostRuntime) {
+    assert_eq!(&rt; copied_items(rt.alloc(), LANDER), Some(10));
 }
 
 #[test]

@@ -20,7 +20,7 @@ use Rattle.model_reader.specs.declared.reading.with_height.WithHeight.{WithHeigh
 use Rattle.model_reader.specs.declared.reading.expressions.precedence.Sign.TheVariants as sign
 use Rattle.model_reader.specs.grammar.Factored.{look, expr_first, amount_form, part_form, dotted_member_form, member_form, named_form, parenthesis_form, unary_sign_form, signed_form, product_sign_form, sum_sign_form, compare_sign_form}
 use Rattle.model_reader.specs.grammar.Rules.{Rule, expr_rule, and_rule, compare_rule, sum_rule, product_rule, unary_rule, primary_rule}
-use Rattle.model_reader.specs.reading.Expressions.{Readers, amount_leaf_at, truth_leaf_at, variant_at, part_read_at, dotted_member_at, member_at, named_at, parentheses_at, opening, is_amount, parenthesis_at, primary_at, unary_sign_at, signed_at, is_unary_sign, unary_at, operated_at, operation_at, chain_at, is_product_sign, product_sign_at, product_at, is_sum_sign, sum_sign_at, sum_at, is_compare_sign, compare_sign_at, comparison_at, conjunction_at, disjunction_at, readers_by, inner_readers, whole_at, expr_at, begins_expr}
+use Rattle.model_reader.specs.reading.Expressions.{Readers, amount_leaf_at, truth_leaf_at, variant_at, part_read_at, dotted_member_at, member_at, named_at, parentheses_at, opening, is_amount, parenthesis_at, primary_at, unary_sign_at, signed_at, is_unary_sign, unary_at, operand_at, operated_at, operation_at, chain_at, is_product_sign, product_sign_at, product_at, is_sum_sign, sum_sign_at, sum_at, is_compare_sign, compare_sign_at, comparison_at, conjunction_at, disjunction_at, readers_by, inner_readers, whole_at, expr_at, begins_expr}
 use Rattle.model_reader.proofs.Following.Literals.{amount_conforms}
 use Rattle.model_reader.proofs.Following.Names.{Along, begins_with, take_conforms, raw_name_conforms, standing_for_conforms, begins_with_one_of, word_conforms, one_standing_for_conforms}
 use Rattle.model_reader.proofs.Following.Types.{part_conforms}
@@ -124,9 +124,13 @@ module _ (room : ℕ) (is_sign : Mark → Bool) (sign : List Mark → Parsed Ope
   operation_begins : Begins look is_sign (both sign_form a)
   operation_begins = begins_both sign_begins some
 
+  signed_operand_conforms : (room == 0) ≡ false → (marks : List Mark) → Along (both sign_form a) marks (operand_at sign operand marks)
+  unfolding operand_at
+  signed_operand_conforms free marks = and_then _ (sign_conforms marks) (λ operator rest. then_value _ (operand_conforms free rest) (λ right behind. value))
+
   operated_conforms : (room == 0) ≡ false → (left : WithHeight) (marks : List Mark) → Along (both sign_form a) marks (operated_at sign operand left marks)
   unfolding operated_at
-  operated_conforms free left marks = and_then _ (sign_conforms marks) (λ operator rest. then_value _ (operand_conforms free rest) (λ right behind. value))
+  operated_conforms free left marks = then_value _ (signed_operand_conforms free marks) (λ right rest. value)
 
   operation_conforms : (left : WithHeight) (marks : List Mark) → next_fits is_sign marks ≡ true → Along (both sign_form a) marks (operation_at room sign operand left marks)
   unfolding operation_at

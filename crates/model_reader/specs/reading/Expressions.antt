@@ -154,12 +154,18 @@ binary operator left right =
       height = higher left.height right.height + 1;
     }
 
--- an operator and its right operand, behind its left operand
-unfoldable pub operated_at : (List Mark → Parsed Operator) → (List Mark → Parsed WithHeight) → WithHeight → List Mark → Parsed WithHeight
-operated_at sign operand left marks = do
+-- an operator and its right operand
+unfoldable pub operand_at : (List Mark → Parsed Operator) → (List Mark → Parsed WithHeight) → List Mark → Parsed (Operator × WithHeight)
+operand_at sign operand marks = do
   operator ← sign marks
   right ← operand operator.1
-  parsed (binary operator.0 left right.0) right.1
+  parsed (operator.0, right.0) right.1
+
+-- the same, behind its left operand
+unfoldable pub operated_at : (List Mark → Parsed Operator) → (List Mark → Parsed WithHeight) → WithHeight → List Mark → Parsed WithHeight
+operated_at sign operand left marks = do
+  right ← operand_at sign operand marks
+  parsed (binary right.0.0 left right.0.1) right.1
 
 -- the same; the operator opens one level more than there are in its left operand
 unfoldable pub operation_at : ℕ → (List Mark → Parsed Operator) → (List Mark → Parsed WithHeight) → WithHeight → List Mark → Parsed WithHeight

@@ -1,15 +1,15 @@
 ghost use Rattle.std.specs.Prelude.{◌≡◌, IfOk};
 
-use crate::raw::copies::RawData;
 use crate::raw::literals::RawLiteralKind;
 use crate::raw::reads::RawRead;
 use aerie_base::{Boxed, Operator, OutOfMemory, Place};
+use readers::RawData;
 use std::alloc::Global;
 
 /// An expression, and the place of its first token, an opening parenthesis or a `-` included. Parentheses leave no other
 /// trace.
 #[cycle(expression)]
-#[derive(Debug, Drop)]
+#[derive(Drop)]
 pub struct RawExpr {
     pub at: Place,
     pub what: RawExprKind,
@@ -17,7 +17,7 @@ pub struct RawExpr {
 
 /// What an expression is.
 #[cycle(expression)]
-#[derive(Debug, Drop)]
+#[derive(Drop)]
 pub enum RawExprKind {
     /// A literal, which has no sign here: `-` before it is a `Negate`.
     Literal(RawLiteralKind),

@@ -1,12 +1,12 @@
-use crate::raw::copies::{RawData, copy_all};
 use crate::raw::expressions::RawExpr;
 use crate::raw::names::RawName;
 use aerie_base::{List, OutOfMemory};
+use readers::{RawData, copy_both};
 use std::alloc::Global;
 
 /// An activity type by its name, of which a child is made, and the arguments in the text's order: the name of a parameter
 /// and its value.
-#[derive(Debug, Drop)]
+#[derive(Drop)]
 pub struct RawInvoke {
     pub name: RawName,
     pub arguments: List<(RawName, RawExpr)>,
@@ -14,8 +14,7 @@ pub struct RawInvoke {
 
 impl RawData for RawInvoke {
     fn copied(&self, alloc: Global) -> Result<RawInvoke, OutOfMemory> {
-        let name = self.name.copy(alloc)?;
-        let arguments = copy_all(alloc, &self.arguments)?;
+        let (name, arguments) = copy_both(alloc, &self.name, &self.arguments)?;
         Ok(RawInvoke { name, arguments })
     }
 }

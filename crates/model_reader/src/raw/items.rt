@@ -1,15 +1,18 @@
-use crate::raw::copies::{RawData, copy_all};
+ghost use Rattle.std.specs.Prelude.{◌≡◌, IfOk};
+ghost use Rattle.model_reader.specs.declared.raw.items.RawItem.TheVariants.{Activity};
+
 use crate::raw::expressions::RawExpr;
 use crate::raw::literals::RawLiteral;
 use crate::raw::names::RawName;
 use crate::raw::reads::RawRead;
-use crate::raw::statements::{RawStmt, copy_block};
+use crate::raw::statements::RawStmt;
 use crate::raw::types::RawType;
 use aerie_base::{List, Number, OutOfMemory};
+use readers::{RawData, copy_both};
 use std::alloc::Global;
 
 /// A parameter of an activity type, with the value that it has where no argument is given.
-#[derive(Debug, Drop)]
+#[derive(Drop)]
 pub struct RawParameter {
     pub name: RawName,
     pub kind: RawType,
@@ -17,7 +20,7 @@ pub struct RawParameter {
 }
 
 /// A declaration of a model.
-#[derive(Debug, Drop)]
+#[derive(Drop)]
 pub enum RawItem {
     /// An enumeration, with its variants in the text's order.
     Enum {
@@ -69,58 +72,77 @@ pub enum RawItem {
 
 impl RawData for RawParameter {
     fn copied(&self, alloc: Global) -> Result<RawParameter, OutOfMemory> {
+        let (name, kind) = copy_both(alloc, &self.name, &self.kind)?;
+        let default = RawData::copied(&self.default, alloc)?;
         Ok(RawParameter {
-            name: self.name.copy(alloc)?,
-            kind: self.kind.copied(alloc)?,
-            default: RawData::copied(&self.default, alloc)?,
+            name,
+            kind,
+            default,
         })
     }
+}
+
+/// An equal activity type.
+fn copy_activity(
+    alloc: Global,
+    name: &RawName,
+    parameters: &List<RawParameter>,
+    returned: &Option<RawType>,
+    requires_: &List<RawExpr>,
+    body: &List<RawStmt>,
+) -> Result<RawItem, OutOfMemory>
+    ensures { IfOk result (λ copy. copy ≡ Activity name.now parameters.now returned.now requires_.now body.now) }
+{
+    let (name, parameters) = copy_both(alloc, name, parameters)?;
+    let result = RawData::copied(returned, alloc)?;
+    let (requires_, body) = copy_both(alloc, requires_, body)?;
+    Ok(RawItem::Activity {
+        name,
+        parameters,
+        result,
+        requires_,
+        body,
+    })
 }
 
 impl RawData for RawItem {
     fn copied(&self, alloc: Global) -> Result<RawItem, OutOfMemory> {
         match self {
-            RawItem::Enum { name, variants } => Ok(RawItem::Enum {
-                name: name.copy(alloc)?,
-                variants: copy_all(alloc, variants)?,
-            }),
+            RawItem::Enum { name, variants } => {
+                let (name, variants) = copy_both(alloc, name, variants)?;
+                Ok(RawItem::Enum { name, variants })
+            }
             RawItem::Counter { name, start } => Ok(RawItem::Counter {
                 name: name.copy(alloc)?,
                 start: *start,
             }),
-            RawItem::Register { name, kind, start } => Ok(RawItem::Register {
-                name: name.copy(alloc)?,
-                kind: kind.copied(alloc)?,
-                start: start.copied(alloc)?,
-            }),
-            RawItem::Accumulator { name, volume, rate } => Ok(RawItem::Accumulator {
-                name: name.copy(alloc)?,
-                volume: *volume,
-                rate: rate.copied(alloc)?,
-            }),
-            RawItem::Discrete { name, read } => Ok(RawItem::Discrete {
-                name: name.copy(alloc)?,
-                read: read.copied(alloc)?,
-            }),
-            RawItem::Linear { name, sum } => Ok(RawItem::Linear {
-                name: name.copy(alloc)?,
-                sum: sum.copy(alloc)?,
-            }),
+            RawItem::Register { name, kind, start } => {
+                let (name, kind) = copy_both(alloc, name, kind)?;
+                let start = start.copied(alloc)?;
+                Ok(RawItem::Register { name, kind, start })
+            }
+            RawItem::Accumulator { name, volume, rate } => {
+                let (name, rate) = copy_both(alloc, name, rate)?;
+                let volume = *volume;
+                Ok(RawItem::Accumulator { name, volume, rate })
+            }
+            RawItem::Discrete { name, read } => {
+                let (name, read) = copy_both(alloc, name, read)?;
+                Ok(RawItem::Discrete { name, read })
+            }
+            RawItem::Linear { name, sum } => {
+                let (name, sum) = copy_both(alloc, name, sum)?;
+                Ok(RawItem::Linear { name, sum })
+            }
             RawItem::Activity {
                 name,
                 parameters,
                 result,
                 requires_,
                 body,
-            } => Ok(RawItem::Activity {
-                name: name.copy(alloc)?,
-                parameters: copy_all(alloc, parameters)?,
-                result: RawData::copied(result, alloc)?,
-                requires_: copy_all(alloc, requires_)?,
-                body: copy_block(alloc, body)?,
-            }),
+            } => copy_activity(alloc, name, parameters, result, requires_, body),
             RawItem::Daemon { body } => Ok(RawItem::Daemon {
-                body: copy_block(alloc, body)?,
+                body: body.copied(alloc)?,
             }),
         }
     }

@@ -1,10 +1,10 @@
-use crate::raw::copies::RawData;
 use crate::raw::names::RawName;
 use aerie_base::{Number, OutOfMemory, Place};
+use readers::{RawData, copy_both};
 use std::alloc::Global;
 
 /// What a literal means.
-#[derive(Debug, Drop)]
+#[derive(Drop)]
 pub enum RawLiteralKind {
     /// A whole number with its sign; a duration is the number of its microseconds.
     Number(Number),
@@ -15,7 +15,7 @@ pub enum RawLiteralKind {
 }
 
 /// A literal, and the place of its first token, a `-` included.
-#[derive(Debug, Drop)]
+#[derive(Drop)]
 pub struct RawLiteral {
     pub at: Place,
     pub what: RawLiteralKind,
@@ -27,8 +27,7 @@ impl RawData for RawLiteralKind {
             RawLiteralKind::Number(number) => Ok(RawLiteralKind::Number(*number)),
             RawLiteralKind::Truth(truth) => Ok(RawLiteralKind::Truth(*truth)),
             RawLiteralKind::Variant { kind, variant } => {
-                let kind = kind.copy(alloc)?;
-                let variant = variant.copy(alloc)?;
+                let (kind, variant) = copy_both(alloc, kind, variant)?;
                 Ok(RawLiteralKind::Variant { kind, variant })
             }
         }

@@ -1,11 +1,11 @@
 ghost use Rattle.std.specs.Prelude.{◌≡◌, IfOk};
 
-use crate::raw::copies::RawData;
 use aerie_base::{Name, OutOfMemory, Place};
+use readers::RawData;
 use std::alloc::Global;
 
 /// A name, and the place of its first letter.
-#[derive(Debug, Drop)]
+#[derive(Drop)]
 pub struct RawName {
     pub at: Place,
     pub name: Name,

@@ -1,6 +1,6 @@
-use crate::raw::copies::RawData;
 use crate::raw::names::RawName;
 use aerie_base::OutOfMemory;
+use readers::RawData;
 use std::alloc::Global;
 
 /// Which part of a cell is read.
@@ -17,7 +17,7 @@ pub enum RawPart {
 }
 
 /// A read of a local or of a cell, with whose name it begins, or of a part of it.
-#[derive(Debug, Drop)]
+#[derive(Drop)]
 pub struct RawRead {
     pub name: RawName,
     pub part: RawPart,

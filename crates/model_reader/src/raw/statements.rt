@@ -1,15 +1,16 @@
 ghost use Rattle.std.specs.Prelude.{◌≡◌, IfOk};
+ghost use Rattle.model_reader.specs.declared.raw.statements.RawStmtKind.{If};
 
-use crate::raw::copies::RawData;
 use crate::raw::expressions::RawExpr;
 use crate::raw::invokes::RawInvoke;
 use crate::raw::names::RawName;
 use aerie_base::{List, OutOfMemory, Place};
+use readers::{RawData, copy_both};
 use std::alloc::Global;
 
 /// A statement, and the place of its first token.
 #[cycle(statement)]
-#[derive(Debug, Drop)]
+#[derive(Drop)]
 pub struct RawStmt {
     pub at: Place,
     pub what: RawStmtKind,
@@ -17,7 +18,7 @@ pub struct RawStmt {
 
 /// What a statement is. Each name is that of a local or a cell.
 #[cycle(statement)]
-#[derive(Debug, Drop)]
+#[derive(Drop)]
 pub enum RawStmtKind {
     /// `let`: the first value of a local.
     Let {
@@ -95,43 +96,39 @@ impl RawStmtKind {
         ensures { IfOk result (λ copy. copy ≡ self.now) }
     {
         match self {
-            RawStmtKind::Let { name, value } => Ok(RawStmtKind::Let {
-                name: name.copy(alloc)?,
-                value: value.copy(alloc)?,
-            }),
-            RawStmtKind::LetCall { name, call } => Ok(RawStmtKind::LetCall {
-                name: name.copy(alloc)?,
-                call: call.copied(alloc)?,
-            }),
-            RawStmtKind::Assign { name, value } => Ok(RawStmtKind::Assign {
-                name: name.copy(alloc)?,
-                value: value.copy(alloc)?,
-            }),
-            RawStmtKind::Add { name, value } => Ok(RawStmtKind::Add {
-                name: name.copy(alloc)?,
-                value: value.copy(alloc)?,
-            }),
-            RawStmtKind::Put { name, value } => Ok(RawStmtKind::Put {
-                name: name.copy(alloc)?,
-                value: value.copy(alloc)?,
-            }),
-            RawStmtKind::AddVolume { name, value } => Ok(RawStmtKind::AddVolume {
-                name: name.copy(alloc)?,
-                value: value.copy(alloc)?,
-            }),
-            RawStmtKind::AddRate { name, value } => Ok(RawStmtKind::AddRate {
-                name: name.copy(alloc)?,
-                value: value.copy(alloc)?,
-            }),
+            RawStmtKind::Let { name, value } => {
+                let (name, value) = copy_both(alloc, name, value)?;
+                Ok(RawStmtKind::Let { name, value })
+            }
+            RawStmtKind::LetCall { name, call } => {
+                let (name, call) = copy_both(alloc, name, call)?;
+                Ok(RawStmtKind::LetCall { name, call })
+            }
+            RawStmtKind::Assign { name, value } => {
+                let (name, value) = copy_both(alloc, name, value)?;
+                Ok(RawStmtKind::Assign { name, value })
+            }
+            RawStmtKind::Add { name, value } => {
+                let (name, value) = copy_both(alloc, name, value)?;
+                Ok(RawStmtKind::Add { name, value })
+            }
+            RawStmtKind::Put { name, value } => {
+                let (name, value) = copy_both(alloc, name, value)?;
+                Ok(RawStmtKind::Put { name, value })
+            }
+            RawStmtKind::AddVolume { name, value } => {
+                let (name, value) = copy_both(alloc, name, value)?;
+                Ok(RawStmtKind::AddVolume { name, value })
+            }
+            RawStmtKind::AddRate { name, value } => {
+                let (name, value) = copy_both(alloc, name, value)?;
+                Ok(RawStmtKind::AddRate { name, value })
+            }
             RawStmtKind::Delay(length) => Ok(RawStmtKind::Delay(length.copy(alloc)?)),
             RawStmtKind::WaitUntil(cond) => Ok(RawStmtKind::WaitUntil(cond.copy(alloc)?)),
             RawStmtKind::Spawn(child) => Ok(RawStmtKind::Spawn(child.copied(alloc)?)),
             RawStmtKind::Call(child) => Ok(RawStmtKind::Call(child.copied(alloc)?)),
-            RawStmtKind::If { test, yes, no } => Ok(RawStmtKind::If {
-                test: test.copy(alloc)?,
-                yes: copy_block(alloc, yes)?,
-                no: copy_block(alloc, no)?,
-            }),
+            RawStmtKind::If { test, yes, no } => copy_choice(alloc, test, yes, no),
             RawStmtKind::While { test, body } => Ok(RawStmtKind::While {
                 test: test.copy(alloc)?,
                 body: copy_block(alloc, body)?,
@@ -141,9 +138,25 @@ impl RawStmtKind {
     }
 }
 
+/// An equal choice.
+#[cycle(copy)]
+fn copy_choice(
+    alloc: Global,
+    test: &RawExpr,
+    yes: &List<RawStmt>,
+    no: &List<RawStmt>,
+) -> Result<RawStmtKind, OutOfMemory>
+    ensures { IfOk result (λ copy. copy ≡ If test.now yes.now no.now) }
+{
+    let test = test.copy(alloc)?;
+    let yes = copy_block(alloc, yes)?;
+    let no = copy_block(alloc, no)?;
+    Ok(RawStmtKind::If { test, yes, no })
+}
+
 /// An equal block.
 #[cycle(copy)]
-pub(crate) fn copy_block(alloc: Global, block: &List<RawStmt>) -> Result<List<RawStmt>, OutOfMemory>
+fn copy_block(alloc: Global, block: &List<RawStmt>) -> Result<List<RawStmt>, OutOfMemory>
     ensures { IfOk result (λ copies. copies ≡ block.now) }
 {
     let mut copies = List::new(alloc);
@@ -151,4 +164,10 @@ pub(crate) fn copy_block(alloc: Global, block: &List<RawStmt>) -> Result<List<Ra
         copies.push(stmt.copy(alloc)?)?;
     }
     Ok(copies)
+}
+
+impl RawData for RawStmt {
+    fn copied(&self, alloc: Global) -> Result<RawStmt, OutOfMemory> {
+        self.copy(alloc)
+    }
 }

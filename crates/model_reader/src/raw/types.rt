@@ -1,10 +1,10 @@
-use crate::raw::copies::RawData;
 use crate::raw::names::RawName;
 use aerie_base::OutOfMemory;
+use readers::RawData;
 use std::alloc::Global;
 
 /// The type of a parameter, a register or a result.
-#[derive(Debug, Drop)]
+#[derive(Drop)]
 pub enum RawType {
     /// `int` or `duration`: whole numbers, of which a duration is the number of its microseconds.
     Int,

@@ -2,7 +2,7 @@ use crate::raw::RawItem;
 use aerie_base::List;
 
 /// The items of a model as far as they are read, and how many there are of each sort that is limited.
-#[derive(Debug, Drop)]
+#[derive(Drop)]
 pub struct Declarations {
     /// The items in the text's order.
     pub items: List<RawItem>,

@@ -8,7 +8,7 @@ mod signs;
 ghost use Rattle.std.specs.Prelude.{◌≡◌, ◌<◌, ◌≤◌, IfOk};
 ghost use Rattle.readers.specs.Implements.{Consumes};
 ghost use Rattle.readers.specs.Parsed.{next_fits};
-ghost use Rattle.model_reader.specs.reading.Expressions.{parenthesis_at, primary_at, unary_at, sign_before, operation_at, product_at, sum_at, comparison_at, conjunction_at, disjunction_at, inner_readers, expr_at, begins_expr, is_compare_sign};
+ghost use Rattle.model_reader.specs.reading.Expressions.{parenthesis_at, primary_at, unary_at, sign_before, operand_at, operation_at, product_at, sum_at, comparison_at, conjunction_at, disjunction_at, inner_readers, expr_at, begins_expr, is_compare_sign};
 
 use crate::raw::RawExpr;
 use crate::reading::expressions::leaves::{amount_leaf, named, truth_leaf};
@@ -16,9 +16,9 @@ use crate::reading::expressions::nodes::{behind_sign, binary, in_parentheses};
 use crate::reading::expressions::precedence::Precedence;
 use crate::reading::expressions::signs::{sign_before, unary_sign};
 use crate::reading::with_height::WithHeight;
-use aerie_base::{Comparison, Name, Number};
+use aerie_base::{Comparison, Name, Number, Operator};
 use aerie_text::Sort;
-use readers::{Limit, Reader, Refusal};
+use readers::{Limit, Reader, Refusal, ended_by};
 use std::alloc::Global;
 
 /// How many levels an expression may have.
@@ -69,8 +69,7 @@ fn parenthesis(alloc: Global, reader: &mut Reader, room: usize) -> Result<WithHe
     }
     let at = reader.take(Sort::OpenParenthesis)?;
     let inner = inner(alloc, reader, room, Precedence::Expr)?;
-    reader.take(Sort::CloseParenthesis)?;
-    Ok(in_parentheses(at, inner))
+    ended_by(reader, Sort::CloseParenthesis, in_parentheses(at, inner))
 }
 
 #[cycle(expression)]
@@ -113,6 +112,24 @@ fn unary(alloc: Global, reader: &mut Reader, room: usize) -> Result<WithHeight, 
 
 /// Reads an operator and the operand behind it, which is this part.
 #[cycle(expression)]
+#[tactic(auto, unfolding(crate::specs::reading::Expressions::operand_at))]
+fn operand(
+    alloc: Global,
+    reader: &mut Reader,
+    room: usize,
+    part: Precedence,
+) -> Result<(Operator, WithHeight), Refusal>
+    requires levels { room ≤ 64 }
+    ensures read { Consumes (operand_at (sign_before part) (inner_readers room part)) reader.old reader.new result }
+    ensures low { IfOk result (λ operand. operand.1.height < room) }
+{
+    let operator = sign_before(reader, part)?;
+    let right = inner(alloc, reader, room, part)?;
+    Ok((operator, right))
+}
+
+/// The same behind the operand on the left.
+#[cycle(expression)]
 #[tactic(auto, unfolding(crate::specs::reading::Expressions::operation_at, crate::specs::reading::Expressions::operated_at))]
 fn operation(
     alloc: Global,
@@ -129,8 +146,7 @@ fn operation(
     if room <= left.height {
         return Err(Refusal::TooMany(Limit::Depth));
     }
-    let operator = sign_before(reader, part)?;
-    let right = inner(alloc, reader, room, part)?;
+    let (operator, right) = operand(alloc, reader, room, part)?;
     Ok(binary(alloc, operator, left, right)?)
 }
 

@@ -7,7 +7,7 @@ use crate::raw::RawModel;
 use crate::reading::items::items;
 use crate::reading::names::raw_name;
 use aerie_text::Sort;
-use readers::{Reader, Refusal};
+use readers::{Reader, Refusal, ended_by};
 use std::alloc::Global;
 
 /// Reads a model where the reader stands, and leaves the reader at the token behind it; a refusal is of the token where it
@@ -20,6 +20,5 @@ pub fn model(alloc: Global, reader: &mut Reader) -> Result<RawModel, Refusal>
     let name = raw_name(alloc, reader)?;
     reader.take(Sort::OpenBrace)?;
     let items = items(alloc, reader)?;
-    reader.take(Sort::CloseBrace)?;
-    Ok(RawModel { name, items })
+    ended_by(reader, Sort::CloseBrace, RawModel { name, items })
 }

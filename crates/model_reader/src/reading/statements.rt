@@ -14,7 +14,7 @@ use crate::reading::expressions::expr;
 use crate::reading::statements::simple::{simple_turn, with_stmt};
 use aerie_base::List;
 use aerie_text::Sort;
-use readers::{Limit, Reader, Refusal};
+use readers::{Limit, Reader, Refusal, ended_by};
 use std::alloc::Global;
 
 /// How many blocks may stand inside one another.
@@ -67,8 +67,7 @@ fn block(alloc: Global, reader: &mut Reader, room: usize, spare: usize) -> Resul
     }
     reader.take(Sort::OpenBrace)?;
     let inner = nested(alloc, reader, room, spare)?;
-    reader.take(Sort::CloseBrace)?;
-    Ok(inner)
+    ended_by(reader, Sort::CloseBrace, inner)
 }
 
 /// Reads `else` and its block, or nothing.

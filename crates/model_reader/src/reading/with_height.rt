@@ -2,7 +2,7 @@ use crate::raw::RawExpr;
 
 /// An expression, and how many of its levels stand inside one another: operators with what they take on both sides,
 /// signs, and pairs of parentheses.
-#[derive(Debug, Drop)]
+#[derive(Drop)]
 pub struct WithHeight {
     /// The expression.
     pub expr: RawExpr,

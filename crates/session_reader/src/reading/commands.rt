@@ -10,7 +10,7 @@ use crate::raw::{RawClient, RawCommand};
 use crate::reading::directives::{argument, given, id, when};
 use aerie_base::{List, Name, Text};
 use aerie_text::Sort;
-use readers::{Element, Limit, Most, Reader, Refusal, row};
+use readers::{Element, Limit, Most, Reader, Refusal, ended_by, row};
 use std::alloc::Global;
 
 /// How many commands a client may have.
@@ -257,8 +257,7 @@ impl Element for OneCommand {
     #[tactic(auto, unfolding(crate::specs::reading::Commands::ended_command_at))]
     fn part(alloc: Global, reader: &mut Reader) -> Result<RawCommand, Refusal> {
         let command = command(alloc, reader)?;
-        reader.take(Sort::Semicolon)?;
-        Ok(command)
+        ended_by(reader, Sort::Semicolon, command)
     }
 }
 
@@ -293,8 +292,8 @@ fn client_parts(alloc: Global, reader: &mut Reader) -> Result<RawClient, Refusal
     let (at, name) = reader.name(alloc)?;
     reader.take(Sort::OpenBrace)?;
     let commands = commands(alloc, reader)?;
-    reader.take(Sort::CloseBrace)?;
-    Ok(RawClient { at, name, commands })
+    let client = RawClient { at, name, commands };
+    ended_by(reader, Sort::CloseBrace, client)
 }
 
 /// Reads a client with its commands. A refusal stands at the first token that is left, or at the end where none is left:

@@ -1,16 +1,17 @@
 //! Activity types and daemons.
 
 ghost use Rattle.readers.specs.Implements.{Consumes, MayConsume};
-ghost use Rattle.model_reader.specs.reading.Items.{result_at, require_at, activity_at, daemon_at};
+ghost use Rattle.model_reader.specs.reading.Items.{result_at, require_at, activity_body_at, activity_at, daemon_at};
 
-use crate::raw::{RawExpr, RawItem, RawType};
+use crate::raw::{RawExpr, RawItem, RawStmt, RawType};
 use crate::reading::expressions::expr;
 use crate::reading::items::parameters::params;
 use crate::reading::names::raw_name;
 use crate::reading::statements::body;
 use crate::reading::types::type_;
+use aerie_base::List;
 use aerie_text::Sort;
-use readers::{Element, Limit, Most, Reader, Refusal, row};
+use readers::{Element, Limit, Most, Reader, Refusal, ended_by, row};
 use std::alloc::Global;
 
 /// How many requirements an activity type may have.
@@ -45,12 +46,25 @@ impl Element for OneRequirement {
     fn part(alloc: Global, reader: &mut Reader) -> Result<RawExpr, Refusal> {
         reader.take(Sort::Require)?;
         let condition = expr(alloc, reader)?;
-        reader.take(Sort::Semicolon)?;
-        Ok(condition)
+        ended_by(reader, Sort::Semicolon, condition)
     }
 }
 
-#[tactic(auto, unfolding(crate::specs::reading::Items::activity_at, crate::specs::reading::Items::activity_body_at, crate::specs::reading::Items::requires_at))]
+/// Reads the requirements and the statements of an activity type, in braces.
+#[tactic(auto, unfolding(crate::specs::reading::Items::activity_body_at, crate::specs::reading::Items::requires_at))]
+fn activity_body(
+    alloc: Global,
+    reader: &mut Reader,
+) -> Result<(List<RawExpr>, List<RawStmt>), Refusal>
+    ensures { Consumes activity_body_at reader.old reader.new result }
+{
+    reader.take(Sort::OpenBrace)?;
+    let requires_ = row::<OneRequirement>(alloc, reader, &[Sort::Require], Some(MOST_REQUIRES))?;
+    let body = body(alloc, reader)?;
+    ended_by(reader, Sort::CloseBrace, (requires_, body))
+}
+
+#[tactic(auto, unfolding(crate::specs::reading::Items::activity_at))]
 pub fn activity(alloc: Global, reader: &mut Reader) -> Result<RawItem, Refusal>
     ensures { Consumes activity_at reader.old reader.new result }
 {
@@ -58,10 +72,7 @@ pub fn activity(alloc: Global, reader: &mut Reader) -> Result<RawItem, Refusal>
     let name = raw_name(alloc, reader)?;
     let parameters = params(alloc, reader)?;
     let result = result_(alloc, reader)?;
-    reader.take(Sort::OpenBrace)?;
-    let requires_ = row::<OneRequirement>(alloc, reader, &[Sort::Require], Some(MOST_REQUIRES))?;
-    let body = body(alloc, reader)?;
-    reader.take(Sort::CloseBrace)?;
+    let (requires_, body) = activity_body(alloc, reader)?;
     Ok(RawItem::Activity {
         name,
         parameters,
@@ -78,6 +89,5 @@ pub fn daemon(alloc: Global, reader: &mut Reader) -> Result<RawItem, Refusal>
     reader.take(Sort::Daemon)?;
     reader.take(Sort::OpenBrace)?;
     let body = body(alloc, reader)?;
-    reader.take(Sort::CloseBrace)?;
-    Ok(RawItem::Daemon { body })
+    ended_by(reader, Sort::CloseBrace, RawItem::Daemon { body })
 }

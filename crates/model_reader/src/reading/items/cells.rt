@@ -8,7 +8,7 @@ use crate::reading::literals::{int, literal};
 use crate::reading::names::raw_name;
 use crate::reading::types::type_;
 use aerie_text::Sort;
-use readers::{Reader, Refusal};
+use readers::{Reader, Refusal, ended_by};
 use std::alloc::Global;
 
 #[tactic(auto, unfolding(crate::specs::reading::Items::counter_at))]
@@ -19,8 +19,7 @@ fn counter(alloc: Global, reader: &mut Reader) -> Result<RawItem, Refusal>
     let name = raw_name(alloc, reader)?;
     reader.take(Sort::Assign)?;
     let (_at, start) = int(reader)?;
-    reader.take(Sort::Semicolon)?;
-    Ok(RawItem::Counter { name, start })
+    ended_by(reader, Sort::Semicolon, RawItem::Counter { name, start })
 }
 
 #[tactic(auto, unfolding(crate::specs::reading::Items::register_at))]
@@ -33,8 +32,8 @@ fn register(alloc: Global, reader: &mut Reader) -> Result<RawItem, Refusal>
     let kind = type_(alloc, reader)?;
     reader.take(Sort::Assign)?;
     let start = literal(alloc, reader)?;
-    reader.take(Sort::Semicolon)?;
-    Ok(RawItem::Register { name, kind, start })
+    let item = RawItem::Register { name, kind, start };
+    ended_by(reader, Sort::Semicolon, item)
 }
 
 #[tactic(auto, unfolding(crate::specs::reading::Items::accumulator_at, crate::specs::reading::Items::int_literal_at))]
@@ -47,10 +46,10 @@ fn accumulator(alloc: Global, reader: &mut Reader) -> Result<RawItem, Refusal>
     let (_at, volume) = int(reader)?;
     reader.take(Sort::Rate)?;
     let (at, rate) = int(reader)?;
-    reader.take(Sort::Semicolon)?;
     let what = RawLiteralKind::Number(rate);
     let rate = RawLiteral { at, what };
-    Ok(RawItem::Accumulator { name, volume, rate })
+    let item = RawItem::Accumulator { name, volume, rate };
+    ended_by(reader, Sort::Semicolon, item)
 }
 
 #[tactic(auto, unfolding(crate::specs::reading::Items::cell_at))]

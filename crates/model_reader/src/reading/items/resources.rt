@@ -8,7 +8,7 @@ use crate::reading::expressions::expr;
 use crate::reading::names::raw_name;
 use crate::reading::types::read;
 use aerie_text::Sort;
-use readers::{Reader, Refusal};
+use readers::{Reader, Refusal, ended_by};
 use std::alloc::Global;
 
 #[tactic(auto, unfolding(crate::specs::reading::Items::discrete_at))]
@@ -19,8 +19,7 @@ fn discrete(alloc: Global, reader: &mut Reader) -> Result<RawItem, Refusal>
     let name = raw_name(alloc, reader)?;
     reader.take(Sort::Assign)?;
     let read = read(alloc, reader)?;
-    reader.take(Sort::Semicolon)?;
-    Ok(RawItem::Discrete { name, read })
+    ended_by(reader, Sort::Semicolon, RawItem::Discrete { name, read })
 }
 
 #[tactic(auto, unfolding(crate::specs::reading::Items::linear_at))]
@@ -31,8 +30,7 @@ fn linear(alloc: Global, reader: &mut Reader) -> Result<RawItem, Refusal>
     let name = raw_name(alloc, reader)?;
     reader.take(Sort::Assign)?;
     let sum = expr(alloc, reader)?;
-    reader.take(Sort::Semicolon)?;
-    Ok(RawItem::Linear { name, sum })
+    ended_by(reader, Sort::Semicolon, RawItem::Linear { name, sum })
 }
 
 #[tactic(auto, unfolding(crate::specs::reading::Items::resource_at))]

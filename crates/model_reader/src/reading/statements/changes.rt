@@ -9,7 +9,7 @@ use crate::reading::assignment_operator::AssignmentOperator;
 use crate::reading::expressions::expr;
 use crate::reading::names::{one_standing_for, raw_name};
 use aerie_text::Sort;
-use readers::{Reader, Refusal};
+use readers::{Reader, Refusal, ended_by};
 use std::alloc::Global;
 
 /// Reads how what the name stands for is changed: a sign, or a dot, a part of an accumulator and the sign that adds to it.
@@ -31,8 +31,7 @@ fn change_sign(reader: &mut Reader) -> Result<AssignmentOperator, Refusal>
     } else {
         reader.take(Sort::Dot)?;
         let change = one_standing_for(reader, &parts)?;
-        reader.take(Sort::PlusAssign)?;
-        Ok(change)
+        ended_by(reader, Sort::PlusAssign, change)
     }
 }
 
@@ -58,7 +57,6 @@ pub fn change(alloc: Global, reader: &mut Reader) -> Result<RawStmt, Refusal>
     let at = name.at;
     let change = change_sign(reader)?;
     let value = expr(alloc, reader)?;
-    reader.take(Sort::Semicolon)?;
     let what = statement_of(change, name, value);
-    Ok(RawStmt { at, what })
+    ended_by(reader, Sort::Semicolon, RawStmt { at, what })
 }

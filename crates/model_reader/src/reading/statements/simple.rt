@@ -13,7 +13,7 @@ use crate::reading::names::raw_name;
 use crate::reading::statements::changes::change;
 use aerie_base::OutOfMemory;
 use aerie_text::Sort;
-use readers::{Reader, Refusal, one_of};
+use readers::{Reader, Refusal, ended_by, one_of};
 use std::alloc::Global;
 
 /// Reads what gives the local of this name its first value: a child, by its result, or an expression.
@@ -40,8 +40,7 @@ fn let_(alloc: Global, reader: &mut Reader) -> Result<RawStmt, Refusal>
     let name = raw_name(alloc, reader)?;
     reader.take(Sort::Assign)?;
     let what = let_value(alloc, reader, name)?;
-    reader.take(Sort::Semicolon)?;
-    Ok(RawStmt { at, what })
+    ended_by(reader, Sort::Semicolon, RawStmt { at, what })
 }
 
 /// Reads `delay` and by how much.
@@ -51,9 +50,8 @@ fn delay(alloc: Global, reader: &mut Reader) -> Result<RawStmt, Refusal>
 {
     let at = reader.take(Sort::Delay)?;
     let by = expr(alloc, reader)?;
-    reader.take(Sort::Semicolon)?;
     let what = RawStmtKind::Delay(by);
-    Ok(RawStmt { at, what })
+    ended_by(reader, Sort::Semicolon, RawStmt { at, what })
 }
 
 /// Reads `wait until` and the condition.
@@ -64,9 +62,8 @@ fn wait(alloc: Global, reader: &mut Reader) -> Result<RawStmt, Refusal>
     let at = reader.take(Sort::Wait)?;
     reader.take(Sort::Until)?;
     let condition = expr(alloc, reader)?;
-    reader.take(Sort::Semicolon)?;
     let what = RawStmtKind::WaitUntil(condition);
-    Ok(RawStmt { at, what })
+    ended_by(reader, Sort::Semicolon, RawStmt { at, what })
 }
 
 /// What the start of the child is as a statement.
@@ -90,9 +87,8 @@ fn start(alloc: Global, reader: &mut Reader) -> Result<RawStmt, Refusal>
     ];
     let (at, start) = one_of(reader, &words)?;
     let child = invoke(alloc, reader)?;
-    reader.take(Sort::Semicolon)?;
     let what = started(start, child);
-    Ok(RawStmt { at, what })
+    ended_by(reader, Sort::Semicolon, RawStmt { at, what })
 }
 
 /// Reads an expression, or nothing.
@@ -115,9 +111,8 @@ fn return_(alloc: Global, reader: &mut Reader) -> Result<RawStmt, Refusal>
 {
     let at = reader.take(Sort::Return)?;
     let value = optional_expr(alloc, reader)?;
-    reader.take(Sort::Semicolon)?;
     let what = RawStmtKind::Return(value);
-    Ok(RawStmt { at, what })
+    ended_by(reader, Sort::Semicolon, RawStmt { at, what })
 }
 
 /// The statements so far and one more behind them; how many the body may still have.

@@ -17,8 +17,11 @@ decreases-primary l = 10 * l.room + 3
 abbrev pub decreases-unary : goal.decreases-unary
 decreases-unary l = 10 * l.room + 4
 
+abbrev pub decreases-operand : goal.decreases-operand
+decreases-operand l = 10 * l.room + 1
+
 abbrev pub decreases-operation : goal.decreases-operation
-decreases-operation l = 10 * l.room + 1
+decreases-operation l = 10 * l.room + 2
 
 abbrev pub decreases-product : goal.decreases-product
 decreases-product l = 10 * l.room + 5

@@ -1,5 +1,5 @@
 use Rattle.std.proofs.Common.{◌≡◌, take}
-use Rattle.model_reader.proofs.raw.copies.copy_all.Given as goal
+use Rattle.readers.proofs.copies.copy_all.Given as goal
 
 -- so many copies were made as parts were passed, each equal
 abbrev pub invariant-loop-part : goal.invariant-loop-part

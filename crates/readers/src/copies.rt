@@ -6,17 +6,14 @@ use aerie_base::{List, OutOfMemory};
 use std::alloc::Global;
 
 /// What is written can be copied into memory of its own.
-pub(crate) trait RawData: Sized {
+pub trait RawData: Sized {
     /// An equal part.
     fn copied(&self, alloc: Global) -> Result<Self, OutOfMemory>
         ensures { IfOk result (λ copy. copy ≡ self.now) };
 }
 
 /// An equal list, at a cost linear in its size.
-pub(crate) fn copy_all<T: RawData + Drop>(
-    alloc: Global,
-    parts: &List<T>,
-) -> Result<List<T>, OutOfMemory>
+fn copy_all<T: RawData + Drop>(alloc: Global, parts: &List<T>) -> Result<List<T>, OutOfMemory>
     ensures { IfOk result (λ copies. copies ≡ parts.now) }
 {
     let mut copies = List::new(alloc);
@@ -24,6 +21,18 @@ pub(crate) fn copy_all<T: RawData + Drop>(
         copies.push(part.copied(alloc)?)?;
     }
     Ok(copies)
+}
+
+/// Equal parts, both of them.
+pub fn copy_both<A: RawData + Drop, B: RawData + Drop>(
+    alloc: Global,
+    first: &A,
+    second: &B,
+) -> Result<(A, B), OutOfMemory>
+    ensures { IfOk result (λ copy. copy ≡ (first.now, second.now)) }
+{
+    let first = first.copied(alloc)?;
+    Ok((first, second.copied(alloc)?))
 }
 
 impl<T: RawData + Drop> RawData for Option<T> {
@@ -37,7 +46,12 @@ impl<T: RawData + Drop> RawData for Option<T> {
 
 impl<A: RawData + Drop, B: RawData + Drop> RawData for (A, B) {
     fn copied(&self, alloc: Global) -> Result<(A, B), OutOfMemory> {
-        let first = self.0.copied(alloc)?;
-        Ok((first, self.1.copied(alloc)?))
+        copy_both(alloc, &self.0, &self.1)
+    }
+}
+
+impl<T: RawData + Drop> RawData for List<T> {
+    fn copied(&self, alloc: Global) -> Result<List<T>, OutOfMemory> {
+        copy_all(alloc, self)
     }
 }
