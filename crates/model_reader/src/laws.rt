@@ -8,8 +8,10 @@ ghost use Rattle.readers.specs.grammar.Forms.{rule};
 ghost use Rattle.readers.specs.grammar.Predictive.{IsPredictive};
 ghost use Rattle.readers.specs.grammar.Readings.{IsRead};
 ghost use Rattle.readers.specs.grammar.Tells.{AnswersAreRight};
-ghost use Rattle.readers.specs.Parsed.{failed};
+ghost use Rattle.readers.specs.Parsed.{failed, parsed};
 ghost use Rattle.readers.specs.Verdicts.{Judges};
+ghost use Rattle.model_reader.specs.declared.raw.models.RawModel.{RawModel};
+ghost use Rattle.model_reader.specs.Limits.{CountNumbers, IsWithinLimits};
 ghost use Rattle.model_reader.specs.grammar.Factored.{look, factored};
 ghost use Rattle.model_reader.specs.grammar.Rules.{model_rule};
 ghost use Rattle.model_reader.specs.grammar.Written.{written};
@@ -34,4 +36,9 @@ pub fn models_conform()
     ensures conforms { (marks : List Mark) → Conforms look (rule model_rule) marks (model_at marks) }
     ensures judged { (marks : List Mark) → Judges written model_rule marks (model_at marks) }
     ensures failed { (marks rest : List Mark) → model_at marks ≡ failed rest → (count : ℕ) → IsRead written model_rule (take count marks) → ⊥ }
+{}
+
+/// What is read of marks that count numbers is within the limits.
+pub fn models_are_within_limits()
+    ensures { (marks rest : List Mark) (raw : RawModel) → CountNumbers marks → model_at marks ≡ parsed raw rest → IsWithinLimits raw }
 {}
