@@ -1,5 +1,5 @@
 -- What the answer of the reader of a model says of the readings of the grammar.
-use Rattle.std.proofs.Common.{◌≡◌, ℕ, ◌+◌, ◌-◌, ◌≤◌, List, [], ◌∷◌, ◌++◌, length, take, drop, Ok, Err, refl, sym, ap, subst, ◌∙◌, arith}
+use Rattle.std.proofs.Common.{◌≡◌, ℕ, ◌+◌, ◌-◌, ◌≤◌, List, [], ◌∷◌, ◌++◌, length, take, drop, Result, Ok, Err, IfOk, refl, sym, ap, subst, ◌∙◌, arith}
 use Rattle.std.proofs.Math.Seq.{take-append_seam}
 use Rattle.std.proofs.lemmas.List.{length-append, length-drop, length-map}
 use Rattle.aerie_base.specs.declared.places.Place.{Place}
@@ -11,10 +11,11 @@ use Rattle.readers.specs.grammar.Readings.{IsRead}
 use Rattle.readers.specs.Parsed.{Parsed, parsed, failed, over_limit}
 use Rattle.readers.specs.Verdicts.{Judges}
 use Rattle.model_reader.specs.declared.raw.models.RawModel.{RawModel}
+use Rattle.model_reader.specs.declared.read_error.ReadError.{ReadError}
 use Rattle.model_reader.specs.declared.read_error.ReadError.TheVariants.{Syntax, TooMany}
 use Rattle.model_reader.specs.grammar.Rules.{model_rule}
 use Rattle.model_reader.specs.grammar.Written.{written}
-use Rattle.model_reader.specs.ModelAnswers.{answer_of, place_left, marks_from, IsFirstRefused, at_mark, at_end, IsReadThrough}
+use Rattle.model_reader.specs.ModelAnswers.{answer_of, UnlessOutOfMemory, place_left, marks_from, IsFirstRefused, at_mark, at_end, IsReadThrough}
 
 -- as many marks as there are tokens from this one on
 pub marks_left : (text : List ℕ) (tokens : List Token) (from : ℕ) → length (marks_from text tokens from) ≡ length tokens - from
@@ -42,6 +43,20 @@ answered_read text count from marks (parsed model rest) answer l e judged h =
     subst (IsRead written model_rule) (sym here) judged.read
 answered_read text count from marks (failed rest) answer l e judged h = cc
 answered_read text count from marks (over_limit limit rest) answer l e judged h = cc
+
+-- a model is answered: what holds of each that is read holds of it
+pub answered_holds : (text : List ℕ) (count : ℕ) (reading : Parsed RawModel) (answer : RawModel × ℕ) (P : RawModel → Type 0) → ((rest : List Mark) (raw : RawModel) → reading ≡ parsed raw rest → P raw)
+    → answer_of text count reading ≡ Ok answer → P answer.0
+answered_holds text count (parsed model rest) answer P holds h =
+    subst P (sym (ap (λ (a : RawModel × ℕ). a.0) (pair_of text count model rest answer h))) (holds rest model refl)
+answered_holds text count (failed rest) answer P holds h = cc
+answered_holds text count (over_limit limit rest) answer P holds h = cc
+
+-- what holds of each model that is read holds of the one that is answered
+pub answer_holds : (text : List ℕ) (count : ℕ) (reading : Parsed RawModel) (result : Result (RawModel × ℕ) ReadError) (P : RawModel → Type 0) → ((rest : List Mark) (raw : RawModel) → reading ≡ parsed raw rest → P raw)
+    → UnlessOutOfMemory (answer_of text count reading) result → IfOk result (λ answer. P answer.0)
+answer_holds text count reading (Ok answer) P holds exact = answered_holds text count reading answer P holds exact
+answer_holds text count reading (Err error) P holds exact = tt
 
 -- a place is answered alone: the first mark that is refused stands there, or the end is refused
 pub answered_refused : (text : List ℕ) (count : ℕ) (marks : List Mark) (reading : Parsed RawModel) (place : Place) → Judges written model_rule marks reading

@@ -1,3 +1,4 @@
 pub mod Grammar
 pub mod Following
 pub mod Answered
+pub mod Limited

@@ -1,3 +1,4 @@
+pub mod Limits
 pub mod ModelAnswers
 pub mod reading
 pub mod grammar

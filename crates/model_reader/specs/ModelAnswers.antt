@@ -11,6 +11,7 @@ use Rattle.readers.specs.Words.{word_of}
 use Rattle.model_reader.specs.declared.raw.models.RawModel.{RawModel}
 use Rattle.model_reader.specs.declared.read_error.ReadError.{ReadError}
 use Rattle.model_reader.specs.declared.read_error.ReadError.TheVariants.{Syntax, TooMany, OutOfMemory}
+use Rattle.model_reader.specs.Limits.{CountNumbers, IsWithinLimits}
 use Rattle.model_reader.specs.grammar.Rules.{model_rule}
 use Rattle.model_reader.specs.grammar.Written.{written}
 use Rattle.model_reader.specs.reading.Models.{model_at}
@@ -80,3 +81,7 @@ NoModelBegins text tokens from = (to : ℕ) → AreModel text tokens from to →
 -- where reading a model fails, no marks in front are one, by the grammar as it is written
 abbrev pub FailsWhereNoModelBegins : Type 0
 FailsWhereNoModelBegins = (marks rest : List Mark) → model_at marks ≡ failed rest → (count : ℕ) → IsRead written model_rule (take count marks) → ⊥
+
+-- what is read of marks that count numbers is within the limits
+abbrev pub ReadsWithinLimits : Type 0
+ReadsWithinLimits = (marks rest : List Mark) (raw : RawModel) → CountNumbers marks → model_at marks ≡ parsed raw rest → IsWithinLimits raw

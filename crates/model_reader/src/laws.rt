@@ -8,7 +8,7 @@ ghost use Rattle.readers.specs.grammar.Forms.{rule};
 ghost use Rattle.readers.specs.grammar.Predictive.{IsPredictive};
 ghost use Rattle.readers.specs.grammar.Tells.{AnswersAreRight};
 ghost use Rattle.readers.specs.Verdicts.{Judges};
-ghost use Rattle.model_reader.specs.ModelAnswers.{FailsWhereNoModelBegins};
+ghost use Rattle.model_reader.specs.ModelAnswers.{FailsWhereNoModelBegins, ReadsWithinLimits};
 ghost use Rattle.model_reader.specs.grammar.Factored.{look, factored};
 ghost use Rattle.model_reader.specs.grammar.Rules.{model_rule};
 ghost use Rattle.model_reader.specs.grammar.Written.{written};
@@ -33,4 +33,9 @@ pub fn models_conform()
     ensures conforms { (marks : List Mark) → Conforms look (rule model_rule) marks (model_at marks) }
     ensures judged { (marks : List Mark) → Judges written model_rule marks (model_at marks) }
     ensures failed { FailsWhereNoModelBegins }
+{}
+
+/// What is read of marks that count numbers is within the limits.
+pub fn models_are_within_limits()
+    ensures { ReadsWithinLimits }
 {}

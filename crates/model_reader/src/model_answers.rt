@@ -4,10 +4,11 @@ ghost use Rattle.std.specs.Prelude.{◌≡◌, ◌≤◌, ◌<◌, ◌-◌, IfOk
 ghost use Rattle.aerie_text.specs.Marks.{AreTokensWithin};
 ghost use Rattle.readers.specs.Words.{word_of};
 ghost use Rattle.model_reader.specs.declared.read_error.ReadError.TheVariants.{TooMany};
+ghost use Rattle.model_reader.specs.Limits.{IsWithinLimits};
 ghost use Rattle.model_reader.specs.reading.Models.{model_at};
 ghost use Rattle.model_reader.specs.ModelAnswers.{marks_from, place_left, answer_of, UnlessOutOfMemory, IsFirstRefused, IsReadThrough, IsAnswer, IfSyntax, IfTooMany, AreModel, NoModelBegins};
 
-use crate::laws::models_conform;
+use crate::laws::{models_are_within_limits, models_conform};
 use crate::raw::RawModel;
 use crate::read_error::ReadError;
 use crate::reading::model;
@@ -31,11 +32,13 @@ pub fn read_model(
     ensures exact { IsAnswer text.now tokens.now from result }
     ensures behind { IfOk result (λ answer. (from < answer.1) × (answer.1 ≤ length tokens.now)) }
     ensures read { IfOk result (λ answer. AreModel text.now tokens.now from answer.1) }
+    ensures limits { IfOk result (λ answer. IsWithinLimits answer.0) }
     ensures refused { IfSyntax result (IsFirstRefused text.now (marks_from text.now tokens.now from)) }
     ensures no_model { IfSyntax result (λ place. NoModelBegins text.now tokens.now from) }
     ensures too_many { IfTooMany result (IsReadThrough (marks_from text.now tokens.now from)) }
 {
     models_conform();
+    models_are_within_limits();
     let mut reader = Reader::new(text, tokens, from);
     read_marks(alloc, text, &mut reader, tokens.len())
 }

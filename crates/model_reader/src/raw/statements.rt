@@ -1,5 +1,4 @@
 ghost use Rattle.std.specs.Prelude.{◌≡◌, IfOk};
-ghost use Rattle.model_reader.specs.declared.raw.statements.RawStmtKind.{If};
 
 use crate::raw::expressions::RawExpr;
 use crate::raw::invokes::RawInvoke;
@@ -128,7 +127,11 @@ impl RawStmtKind {
             RawStmtKind::WaitUntil(cond) => Ok(RawStmtKind::WaitUntil(cond.copy(alloc)?)),
             RawStmtKind::Spawn(child) => Ok(RawStmtKind::Spawn(child.copied(alloc)?)),
             RawStmtKind::Call(child) => Ok(RawStmtKind::Call(child.copied(alloc)?)),
-            RawStmtKind::If { test, yes, no } => copy_choice(alloc, test, yes, no),
+            RawStmtKind::If { test, yes, no } => Ok(RawStmtKind::If {
+                test: test.copy(alloc)?,
+                yes: copy_block(alloc, yes)?,
+                no: copy_block(alloc, no)?,
+            }),
             RawStmtKind::While { test, body } => Ok(RawStmtKind::While {
                 test: test.copy(alloc)?,
                 body: copy_block(alloc, body)?,
@@ -136,22 +139,6 @@ impl RawStmtKind {
             RawStmtKind::Return(value) => Ok(RawStmtKind::Return(RawData::copied(value, alloc)?)),
         }
     }
-}
-
-/// An equal choice.
-#[cycle(copy)]
-fn copy_choice(
-    alloc: Global,
-    test: &RawExpr,
-    yes: &List<RawStmt>,
-    no: &List<RawStmt>,
-) -> Result<RawStmtKind, OutOfMemory>
-    ensures { IfOk result (λ copy. copy ≡ If test.now yes.now no.now) }
-{
-    let test = test.copy(alloc)?;
-    let yes = copy_block(alloc, yes)?;
-    let no = copy_block(alloc, no)?;
-    Ok(RawStmtKind::If { test, yes, no })
 }
 
 /// An equal block.
