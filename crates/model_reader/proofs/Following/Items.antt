@@ -1,12 +1,12 @@
 -- What is read of the items of a model conforms to the grammar of models, the limits of how many of each it has included: they
 -- are passed at the mark that begins one.
-use Rattle.std.proofs.Common.{◌≡◌, true, List, [], ◌∷◌, length, nat_le, refl}
+use Rattle.std.proofs.Common.{◌≡◌, true, List, [], ◌∷◌, refl}
 use Rattle.readers.specs.Marks.{Mark}
 use Rattle.aerie_text.specs.declared.sorts.Sort.{Sort}
 use Rattle.aerie_text.specs.declared.sorts.Sort.TheVariants as sort
-use Rattle.readers.specs.grammar.Forms.{Form, token, rule, many, option}
+use Rattle.readers.specs.grammar.Forms.{Form, rule, many}
 use Rattle.readers.specs.grammar.Lookahead.{next_in_first}
-use Rattle.readers.specs.Parsed.{is_of, is_one_of, next_is}
+use Rattle.readers.specs.Parsed.{is_of, is_one_of}
 use Rattle.readers.proofs.Conforming.{Begins, begins_both, begins_either, begins_rule, begins_here, in_table, and_then, then_value, value, either_conforms, option_conforms, chosen_conforms, repeated_conforms, rule_conforms, limited_conforms, failed_conforms}
 use Rattle.readers.proofs.Listing.{listed_conforms, parenthesized_conforms, row_conforms}
 use Rattle.model_reader.specs.declared.reading.declarations.Declarations.{Declarations}

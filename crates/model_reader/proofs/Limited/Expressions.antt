@@ -1,7 +1,6 @@
 -- What is read of expressions is not too deep, and its literals have their range.
-use Rattle.std.proofs.Common.{◌≡◌, ℕ, zero, suc, ◌+◌, ◌<◌, ◌≤◌, ◌==◌, max, Bool, true, false, List, [], ◌∷◌, Option, Some, None, nat_le, if◌then◌else◌, refl, arith}
+use Rattle.std.proofs.Common.{◌≡◌, ℕ, zero, suc, ◌+◌, ◌<◌, ◌≤◌, ◌==◌, max, Bool, true, false, List, [], ◌∷◌, nat_le, if◌then◌else◌, refl, arith}
 use Rattle.std.proofs.lemmas.Bool.{leb-true, leb-false}
-use Rattle.aerie_base.specs.declared.expressions.Comparison.TheVariants as comparison
 use Rattle.aerie_base.specs.declared.expressions.Operator.{Operator}
 use Rattle.aerie_base.specs.declared.expressions.Operator.TheVariants as operator
 use Rattle.aerie_base.specs.declared.places.Place.{Place}
@@ -10,7 +9,7 @@ use Rattle.aerie_text.specs.declared.sorts.Sort.TheVariants as sort
 use Rattle.readers.specs.Marks.{Mark}
 use Rattle.readers.specs.Parsed.{Parsed, next_is, next_fits, is_of}
 use Rattle.model_reader.specs.declared.raw.expressions.RawExpr.{RawExpr}
-use Rattle.model_reader.specs.declared.raw.expressions.RawExprKind.{RawExprKind, Literal, Read as Look, Not, Negate, Binary}
+use Rattle.model_reader.specs.declared.raw.expressions.RawExprKind.{RawExprKind, Binary}
 use Rattle.model_reader.specs.declared.raw.expressions.RawExprKind.TheBlock.{hidden-the_row-RawExpr-0, shape-the_row-RawExpr-0}
 use denote.Hole.Carrier.{hidden}
 use Rattle.model_reader.specs.declared.raw.names.RawName.{RawName}
@@ -20,7 +19,7 @@ use Rattle.model_reader.specs.declared.reading.expressions.precedence.Sign.{Sign
 use Rattle.model_reader.specs.declared.reading.expressions.precedence.Sign.TheVariants.{Minus, Exclamation}
 use Rattle.model_reader.specs.declared.reading.with_height.WithHeight.{WithHeight}
 use Rattle.model_reader.specs.Limits.{CountNumbers, raw_depth, HasLiteralsInRange, IsLimitedExpr}
-use Rattle.model_reader.specs.reading.Expressions.{Readers, leaf, amount_leaf_at, truth_leaf_at, variant_at, part_read_at, dotted_member_at, member_at, named_at, in_parentheses, parentheses_at, opening, parenthesis_at, is_amount, primary_at, unary_sign_at, signed_kind, behind_sign, signed_at, is_unary_sign, unary_at, higher, binary, operand_at, operated_at, operation_at, chain_at, is_product_sign, product_sign_at, product_at, is_sum_sign, sum_sign_at, sum_at, is_compare_sign, compare_sign_at, comparison_at, conjunction_at, disjunction_at, readers_by, inner_readers, whole_at, expr_at}
+use Rattle.model_reader.specs.reading.Expressions.{Readers, leaf, amount_leaf_at, truth_leaf_at, variant_at, part_read_at, dotted_member_at, member_at, named_at, in_parentheses, parentheses_at, parenthesis_at, is_amount, primary_at, unary_sign_at, signed_kind, behind_sign, signed_at, is_unary_sign, unary_at, higher, binary, operand_at, operated_at, operation_at, chain_at, is_product_sign, product_sign_at, product_at, is_sum_sign, sum_sign_at, sum_at, is_compare_sign, compare_sign_at, comparison_at, conjunction_at, disjunction_at, readers_by, inner_readers, whole_at, expr_at}
 use Rattle.model_reader.proofs.Limited.Keeping.{Nothing, Keeps, gives, fails, and_then, weakened, one_of_two, unless_over, take_keeps, one_of_keeps, repeated_keeps}
 use Rattle.model_reader.proofs.Limited.Literals.{raw_name_keeps, one_standing_for_keeps, standing_for_keeps, part_keeps, amount_keeps}
 

@@ -1,25 +1,20 @@
 -- What is read of the declarations of a model is within the limits, and each kind has as many as it may.
-use Rattle.std.proofs.Common.{◌≡◌, ℕ, ◌+◌, ◌<◌, ◌≤◌, Bool, true, false, List, [], ◌∷◌, ◌++◌, Option, Some, None, length, nat_le, refl, sym, ap, ◌∙◌, subst, arith}
+use Rattle.std.proofs.Common.{◌≡◌, ℕ, ◌+◌, ◌<◌, ◌≤◌, List, [], ◌∷◌, ◌++◌, nat_le, refl, sym, ap, ◌∙◌, subst, arith}
 use Rattle.std.proofs.lemmas.Bool.{leb-false}
 use Rattle.std.specs.List.{AllByRecursion}
-use Rattle.aerie_base.specs.Ranges.{IsNumber}
-use Rattle.aerie_base.specs.models.Limits.{variant_limit, parameter_limit, require_limit}
 use Rattle.aerie_text.specs.declared.sorts.Sort.TheVariants as sort
 use Rattle.readers.specs.Marks.{Mark}
-use Rattle.readers.specs.Parsed.{Parsed, next_is, next_is_one_of}
+use Rattle.readers.specs.Parsed.{next_is, next_is_one_of}
 use Rattle.model_reader.specs.declared.raw.expressions.RawExpr.{RawExpr}
 use Rattle.model_reader.specs.declared.raw.items.RawItem.{RawItem}
 use Rattle.model_reader.specs.declared.raw.items.RawParameter.{RawParameter}
-use Rattle.model_reader.specs.declared.raw.literals.RawLiteral.{RawLiteral}
-use Rattle.model_reader.specs.declared.raw.names.RawName.{RawName}
 use Rattle.model_reader.specs.declared.raw.statements.RawStmt.{RawStmt}
 use Rattle.model_reader.specs.declared.reading.declarations.Declarations.{Declarations}
 use Rattle.model_reader.specs.declared.reading.declarations.ItemKind.{ItemKind}
 use Rattle.model_reader.specs.declared.reading.declarations.ItemKind.TheVariants as kind
-use Rattle.readers.specs.declared.lists.Most.{Most}
-use Rattle.model_reader.specs.Limits.{CountNumbers, IsLimitedExpr, IsLimitedBody, IsLimitedDefault, AreLimitedParameters, IsLimitedItem, kind_of_item, one_where_same, count_of_kind}
+use Rattle.model_reader.specs.Limits.{CountNumbers, IsLimitedExpr, IsLimitedBody, IsLimitedDefault, IsLimitedItem, kind_of_item, one_where_same, count_of_kind}
 use Rattle.model_reader.specs.reading.Items.{most_variants, variants_at, enum_at, counter_at, register_at, int_literal_at, accumulator_at, discrete_at, linear_at, given_default_at, default_at, param_at, most_parameters, params_at, given_result_at, result_at, require_at, most_requires, requires_at, activity_body_at, activity_at, daemon_at, none_declared, declared_count, most_of, with_item, cell_at, resource_at, kind_at, declared_at, turn_at, item_at, begins_item, items_at}
-use Rattle.model_reader.proofs.Limited.Keeping.{Nothing, Keeps, gives, fails, and_then, weakened, one_of_two, unless_over, take_keeps, repeated_keeps}
+use Rattle.model_reader.proofs.Limited.Keeping.{Nothing, Keeps, gives, fails, and_then, one_of_two, unless_over, take_keeps, repeated_keeps}
 use Rattle.model_reader.proofs.Limited.Lists.{AreListed, AreSome, all_behind, listed_keeps, parenthesized_keeps, row_keeps}
 use Rattle.model_reader.proofs.Limited.Literals.{InRange, raw_name_keeps, type_keeps, read_keeps, int_keeps, literal_keeps}
 use Rattle.model_reader.proofs.Limited.Expressions.{expr_keeps}

@@ -1,13 +1,11 @@
 -- What holds of a part that is read, where each mark counts a number: one law for each way in which readings are made of
 -- others, so that the law of a reader is one term with the shape of its definition.
-use Rattle.std.proofs.Common.{◌≡◌, ℕ, zero, suc, ◌<◌, ◌≤◌, Bool, true, false, List, [], ◌∷◌, ◌++◌, Option, Some, None, length, nat_le, refl, arith}
-use Rattle.std.specs.List.{AllByRecursion}
+use Rattle.std.proofs.Common.{◌≡◌, ℕ, zero, suc, Bool, true, false, List, [], ◌∷◌, length, refl}
 use Rattle.aerie_base.specs.Ranges.{IsNumber}
-use Rattle.aerie_base.specs.declared.places.Place.{Place}
 use Rattle.aerie_text.specs.declared.sorts.Sort.{Sort}
 use Rattle.aerie_text.specs.declared.sorts.Sort.TheVariants.{Name}
 use Rattle.readers.specs.Marks.{Mark}
-use Rattle.readers.specs.Parsed.{Parsed, parsed, failed, over_limit, ◌>>=◌, next_fits, next_is, is_of, is_one_of, one_of_at, chosen, taken, mark_at, take_at, name_at, number_at, limited, turns_at, repeated, behind_at, separated_at}
+use Rattle.readers.specs.Parsed.{Parsed, parsed, failed, over_limit, ◌>>=◌, next_fits, next_is, is_of, one_of_at, chosen, taken, mark_at, take_at, name_at, number_at, limited, turns_at, repeated}
 use Rattle.readers.specs.declared.limits.Limit.{Limit}
 use Rattle.model_reader.specs.Limits.{CountNumbers}
 

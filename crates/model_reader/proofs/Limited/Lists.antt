@@ -1,17 +1,17 @@
 -- What holds of each part of a list that is read, and how many there are.
-use Rattle.std.proofs.Common.{◌≡◌, ℕ, ◌+◌, ◌<◌, ◌≤◌, Bool, true, false, List, [], ◌∷◌, ◌++◌, Option, Some, None, length, nat_le, if◌then◌else◌, refl, sym, arith, subst}
+use Rattle.std.proofs.Common.{◌≡◌, ℕ, ◌+◌, ◌≤◌, Bool, true, false, List, [], ◌∷◌, ◌++◌, Option, Some, None, length, nat_le, if◌then◌else◌, refl, sym, arith, subst}
 use Rattle.std.proofs.lemmas.Bool.{leb-false}
 use Rattle.std.proofs.lemmas.List.{length-append}
 use Rattle.std.specs.List.{AllByRecursion}
 use Rattle.aerie_text.specs.declared.sorts.Sort.{Sort}
 use Rattle.aerie_text.specs.declared.sorts.Sort.TheVariants.{Comma, OpenParenthesis, CloseParenthesis}
 use Rattle.readers.specs.Marks.{Mark}
-use Rattle.readers.specs.Parsed.{Parsed, next_is, is_of, is_one_of, separated_at, behind_at}
-use Rattle.readers.specs.Lists.{limit_passed, pushed_at, unless_passed, one_more_of, one_more_at, listed_at, optional_list_at, parenthesized_at, row_at}
+use Rattle.readers.specs.Parsed.{Parsed, next_is, is_of, is_one_of, behind_at}
+use Rattle.readers.specs.Lists.{limit_passed, unless_passed, one_more_of, one_more_at, listed_at, optional_list_at, parenthesized_at, row_at}
 use Rattle.readers.specs.declared.limits.Limit.{Limit}
 use Rattle.readers.specs.declared.lists.Most.{Most}
 use Rattle.model_reader.specs.Limits.{CountNumbers}
-use Rattle.model_reader.proofs.Limited.Keeping.{Nothing, Keeps, gives, fails, passes, and_then, weakened, one_of_two, take_keeps, repeated_keeps}
+use Rattle.model_reader.proofs.Limited.Keeping.{Keeps, gives, fails, passes, and_then, weakened, one_of_two, take_keeps, repeated_keeps}
 
 pub all_behind : {A : Type 0} (P : A → Type 0) (items : List A) (last : A) → AllByRecursion P items → P last → AllByRecursion P (items ++ last ∷ [])
 all_behind P [] last all is = (is, tt)

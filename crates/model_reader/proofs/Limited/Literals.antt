@@ -1,18 +1,18 @@
 -- What is read of literals has its range; names, types and reads have no number.
-use Rattle.std.proofs.Common.{◌≡◌, ℕ, zero, suc, ◌≤◌, ℤ, pos, negsuc, neg_ℤ, Bool, true, false, List, [], ◌∷◌, Option, Some, None, refl, subst, sym}
+use Rattle.std.proofs.Common.{◌≡◌, ℕ, zero, suc, ◌≤◌, ℤ, pos, negsuc, neg_ℤ, Bool, true, false, List, Option, Some, None, refl, subst, sym}
 use Rattle.std.specs.Int.RustNames.{unsigned_abs}
 use Rattle.aerie_base.specs.Ranges.{IsNumber, number_limit}
 use Rattle.aerie_base.specs.declared.places.Place.{Place}
 use Rattle.aerie_text.specs.declared.sorts.Sort.{Sort}
 use Rattle.aerie_text.specs.declared.sorts.Sort.TheVariants as sort
 use Rattle.readers.specs.Marks.{Mark}
-use Rattle.readers.specs.Parsed.{Parsed, next_is, next_fits}
+use Rattle.readers.specs.Parsed.{next_is, next_fits}
 use Rattle.model_reader.specs.declared.raw.literals.RawLiteral.{RawLiteral}
 use Rattle.model_reader.specs.Limits.{CountNumbers, IsLiteralInRange}
 use Rattle.model_reader.specs.reading.Literals.{minus_at, sign_at, with_minus, int_at, amount_at, amount_literal_at, truth_literal_at, variant_literal_at, begins_amount, literal_at}
 use Rattle.model_reader.specs.reading.Names.{raw_name_at, one_standing_for, standing_for}
 use Rattle.model_reader.specs.reading.Types.{named_type_at, type_at, part_at, dotted_part_at, read_part_at, read_at}
-use Rattle.model_reader.proofs.Limited.Keeping.{Nothing, Keeps, gives, fails, and_then, one_of_two, take_keeps, name_keeps, number_keeps, one_of_keeps}
+use Rattle.model_reader.proofs.Limited.Keeping.{Nothing, Keeps, gives, and_then, one_of_two, take_keeps, name_keeps, number_keeps, one_of_keeps}
 
 -- ---- names
 

@@ -1,5 +1,5 @@
 -- What is read of a model is within the limits.
-use Rattle.std.proofs.Common.{◌≡◌, ℕ, List, subst}
+use Rattle.std.proofs.Common.{◌≡◌, List, subst}
 use Rattle.aerie_text.specs.declared.sorts.Sort.TheVariants as sort
 use Rattle.readers.specs.Marks.{Mark}
 use Rattle.readers.specs.Parsed.{Parsed, parsed}

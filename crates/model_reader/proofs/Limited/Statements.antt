@@ -1,11 +1,10 @@
 -- What is read of statements and blocks is within the limits of a body.
-use Rattle.std.proofs.Common.{◌≡◌, ℕ, zero, suc, ◌+◌, ◌-◌, ◌<◌, ◌≤◌, ◌==◌, max, Bool, true, false, List, [], ◌∷◌, ◌++◌, Option, Some, None, refl, sym, ap, ◌∙◌, arith}
-use Rattle.std.specs.List.{AllByRecursion}
+use Rattle.std.proofs.Common.{◌≡◌, ℕ, zero, suc, ◌+◌, ◌-◌, ◌<◌, ◌≤◌, ◌==◌, max, false, List, [], ◌∷◌, ◌++◌, None, refl, ap, arith}
 use Rattle.aerie_base.specs.declared.places.Place.{Place}
 use Rattle.aerie_base.specs.models.Limits.{depth_limit, statement_limit}
 use Rattle.aerie_text.specs.declared.sorts.Sort.TheVariants as sort
 use Rattle.readers.specs.Marks.{Mark}
-use Rattle.readers.specs.Parsed.{Parsed, next_is, next_is_one_of, next_fits}
+use Rattle.readers.specs.Parsed.{next_is, next_is_one_of, next_fits}
 use Rattle.model_reader.specs.declared.raw.expressions.RawExpr.{RawExpr}
 use Rattle.model_reader.specs.declared.raw.invokes.RawInvoke.{RawInvoke}
 use Rattle.model_reader.specs.declared.raw.names.RawName.{RawName}
@@ -19,7 +18,7 @@ use Rattle.model_reader.specs.declared.reading.assignment_operator.AssignmentOpe
 use Rattle.model_reader.specs.declared.reading.child_start.ChildStart.{ChildStart}
 use Rattle.model_reader.specs.declared.reading.child_start.ChildStart.TheVariants as start
 use Rattle.model_reader.specs.Limits.{CountNumbers, IsLimitedExpr, AreLimitedArguments, IsLimitedValue, raw_count, row_count, raw_nesting, row_nesting, HasLimitedExprs, RowLimited, stmts_count, stmts_nesting, AreLimitedStmts, IsLimitedBody}
-use Rattle.model_reader.specs.reading.Expressions.{expr_at, begins_expr}
+use Rattle.model_reader.specs.reading.Expressions.{begins_expr}
 use Rattle.model_reader.specs.reading.Statements.{argument_at, invoke_at, stmt, let_call_at, let_expr_at, let_value_at, let_at, part_change_word_at, part_change_at, change_sign_at, statement_of, change_at, delay_at, wait_at, start_word_at, started, start_at, some_expr_at, optional_expr_at, return_at, Blocks, opened_block_at, block_at, else_block_at, else_at, with_stmt, choice_at, if_at, while_at, simple_at, simple_turn_at, stmt_at, stmt_turn_at, begins_stmt, stmts_by, inner_blocks, body_at}
 use Rattle.model_reader.proofs.Limited.Keeping.{Nothing, Keeps, gives, fails, and_then, weakened, one_of_two, unless_over, take_keeps, one_of_keeps, repeated_keeps}
 use Rattle.model_reader.proofs.Limited.Lists.{all_behind, parenthesized_keeps}

@@ -1,5 +1,5 @@
 -- What the marks of a text's tokens count are numbers.
-use Rattle.std.proofs.Common.{◌≡◌, ℕ, ◌+◌, ◌-◌, ◌*◌, ◌≤◌, Bool, true, false, List, [], ◌∷◌, take, drop, Option, Some, None, option_and_then, pos, if◌then◌else◌, nat_eq, nat_le, refl, arith}
+use Rattle.std.proofs.Common.{◌≡◌, ℕ, ◌*◌, ◌≤◌, Bool, true, false, List, [], ◌∷◌, take, drop, Option, Some, None, option_and_then, if◌then◌else◌, nat_eq, nat_le, refl, arith}
 use Rattle.std.proofs.lemmas.Bool.{leb-true}
 use Rattle.std.specs.Str.Parse.{digits_value}
 use Rattle.aerie_base.specs.Durations.{duration_of, of_unit, unit_micros, digit_count}
@@ -10,8 +10,8 @@ use Rattle.aerie_text.specs.TokenTexts.{IsTextOf, number}
 use Rattle.aerie_text.specs.declared.token.Token.{Token}
 use Rattle.aerie_text.specs.declared.token.TokenKind.{TokenKind}
 use Rattle.aerie_text.specs.declared.token.TokenKind.TheVariants as kind
-use Rattle.aerie_text.proofs.Marking.{Goes, Next, goes_first, goes_next}
-use Rattle.readers.specs.Marks.{Mark, marks_of}
+use Rattle.aerie_text.proofs.Marking.{Goes, goes_first, goes_next}
+use Rattle.readers.specs.Marks.{marks_of}
 use Rattle.readers.proofs.Standing.{tokens_behind}
 use Rattle.model_reader.specs.Limits.{CountNumbers}
 use Rattle.model_reader.specs.ModelAnswers.{marks_from}

@@ -1,5 +1,5 @@
 -- Reading the items of a model, with the limits of how many of each it has.
-use Rattle.std.specs.Prelude.{ℕ, ◌+◌, Bool, List, [], ◌∷◌, ◌++◌, length, nat_le, Option, Some, None}
+use Rattle.std.specs.Prelude.{ℕ, ◌+◌, Bool, List, [], ◌∷◌, ◌++◌, nat_le, Option, Some, None}
 use Rattle.aerie_base.specs.models.Limits.{cell_limit, type_limit, parameter_limit, enum_limit, variant_limit, resource_limit, daemon_limit, require_limit}
 use Rattle.readers.specs.declared.limits.Limit.TheVariants.{Cells, Types, Parameters, Enums, Variants, Resources, Daemons, Requires}
 use Rattle.readers.specs.Lists.{listed_at, parenthesized_at, row_at}
