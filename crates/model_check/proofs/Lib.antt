@@ -7,3 +7,4 @@ pub mod MadeExpressions
 pub mod Turns
 pub mod Arguments
 pub mod LeafForms
+pub mod Sound

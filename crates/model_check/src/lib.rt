@@ -6,6 +6,7 @@ mod diagnostics;
 mod expressions;
 mod forms;
 mod invokes;
+mod laws;
 mod leaves;
 mod literals;
 mod names;

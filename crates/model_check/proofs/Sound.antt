@@ -1,0 +1,15 @@
+pub mod Empty
+pub mod Knows
+pub mod Expressions
+pub mod Linear
+pub mod Conditions
+pub mod Invokes
+pub mod Scopes
+pub mod Statements
+pub mod Bodies
+pub mod Names
+pub mod Tables
+pub mod Facts
+pub mod Activities
+pub mod Resources
+pub mod Models
