@@ -162,7 +162,7 @@ module _ (symbols : Symbols) (enums : List EnumType) (known_enums : (name : List
       let next = declared_follows count scope slots parameter.name.name of true follows (omega (arith, few)) (λ e. absurd (true≢false e)) in
       let long = length-append slots (Some of ∷ []) in
       let more = parameters_follow count rest (with_new_local scope parameter.name.name (Some of) true) (slots ++ Some of ∷ []) next (omega (arith, few, next.count, follows.count, long))
-          (subst (λ (k : Option Kind). parameters_diagnostics symbols (with_new_local scope parameter.name.name k true) rest ≡ []) kind_is (back_empty (parameter_diagnostics symbols scope parameter) _ none)) in
+      (subst (λ (k : Option Kind). parameters_diagnostics symbols (with_new_local scope parameter.name.name k true) rest ≡ []) kind_is (back_empty (parameter_diagnostics symbols scope parameter) _ none)) in
       subst (λ (k : Option Kind). Follows count (parameter_scope symbols (with_new_local scope parameter.name.name k true) rest) (slots ++ Some of ∷ map Some (kinds_written rest))) (sym kind_is)
       (subst (Follows count (parameter_scope symbols (with_new_local scope parameter.name.name (Some of) true) rest)) (append_assoc slots (Some of ∷ []) (map Some (kinds_written rest))) more)
 
@@ -226,9 +226,11 @@ module _ (symbols : Symbols) (enums : List EnumType) (known_enums : (name : List
       → parameters_diagnostics symbols empty_scope parameters ≡ [] → result_type_diagnostics symbols result ≡ []
       → HasSignature enums (record { parameters = parameters_from symbols.enums no_entries parameters; result = result_symbol symbols.enums result }) (record { parameters = kinds; result = result_written symbols result })
   has_signature parameters result kinds e limited none none_result =
-      let are = parameters_right empty_scope parameters limited none in
-      (subst (λ (values : List ParameterSymbol). AllPairs (IsParameterOf enums) values kinds) (sym (parameter_table symbols.enums parameters (names_differ parameters none)))
-      (subst (AllPairs (IsParameterOf enums) (written_symbols symbols.enums parameters)) (sym e) are.pairs), result_right result none_result)
+      let are = parameters_right empty_scope parameters limited none in (
+        subst (λ (values : List ParameterSymbol). AllPairs (IsParameterOf enums) values kinds) (sym (parameter_table symbols.enums parameters (names_differ parameters none)))
+            (subst (AllPairs (IsParameterOf enums) (written_symbols symbols.enums parameters)) (sym e) are.pairs),
+        result_right result none_result,
+      )
 
   -- ---- what arguments must meet
 
@@ -253,7 +255,7 @@ module _ (symbols : Symbols) (enums : List EnumType) (known_enums : (name : List
   requires_right count scope kinds [] follows limited none = refl
   requires_right count scope kinds (truth ∷ rest) follows limited none =
       let here = wanted_expr (bare_symbols symbols.enums) scope enums (slice_get kinds) (λ read. None) (knows_parameters count scope kinds follows) Truth truth limited.0
-          (front_empty (typed_diagnostics (bare_symbols symbols.enums) scope Truth truth) _ none) in
+      (front_empty (typed_diagnostics (bare_symbols symbols.enums) scope Truth truth) _ none) in
       rw here (requires_right count scope kinds rest follows limited.1 (back_empty (typed_diagnostics (bare_symbols symbols.enums) scope Truth truth) _ none))
 
   requires_count : (scope : BodyScope) (written : List RawExpr) → length (model_requires symbols scope written) ≡ length written

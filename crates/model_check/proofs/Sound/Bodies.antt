@@ -40,6 +40,7 @@ module _ (symbols : Symbols) where
 
   mutual
     unfolding count
+
     count_made : (at : Place) (what : RawStmtKind) (scope : BodyScope) → count (its at what scope) ≡ raw_count what
     count_made at (Let name value) scope = refl
     count_made at (LetCall name call) scope = refl
@@ -82,6 +83,7 @@ module _ (symbols : Symbols) where
 
   mutual
     unfolding stmt_depth
+
     nesting_made : (at : Place) (what : RawStmtKind) (scope : BodyScope) → stmt_depth (its at what scope) ≡ raw_nesting what
     nesting_made at (Let name value) scope = refl
     nesting_made at (LetCall name call) scope = refl

@@ -95,6 +95,7 @@ module _ (symbols : Symbols) (scope : BodyScope) where
 
   mutual
     unfolding cond_depth
+
     depth_within : (at : Place) (what : RawExprKind) → cond_depth (cond_made at what) ≤ raw_depth what
     depth_within at (Literal literal) = omega arith
     depth_within at (Read read) = omega arith

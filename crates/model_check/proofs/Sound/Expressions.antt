@@ -114,6 +114,7 @@ module _ (symbols : Symbols) (scope : BodyScope) where
   -- what is made is as deep as what is written
   mutual
     unfolding expr_depth
+
     depth_made : (at : Place) (what : RawExprKind) → expr_depth (made at what) ≡ raw_depth what
     depth_made at (Literal literal) = refl
     depth_made at (Read read) = refl
@@ -146,9 +147,10 @@ module _ (symbols : Symbols) (scope : BodyScope) where
         → sides_diagnostics symbols scope wanted left right ≡ [] → SidesFit wanted l r
     sides_fit None left right l r el er none =
         kinds_match right.at l r (subst (λ (k : Option Kind). mismatch right.at (Some l) k ≡ []) er (subst (λ (k : Option Kind). mismatch right.at k (raw_kind symbols scope right.what) ≡ []) el none))
-    sides_fit (Some wanted) left right l r el er none =
-        (kinds_match left.at wanted l (subst (λ (k : Option Kind). mismatch left.at (Some wanted) k ≡ []) el (front_empty (is_wanted symbols scope wanted left) _ none)),
-         kinds_match right.at wanted r (subst (λ (k : Option Kind). mismatch right.at (Some wanted) k ≡ []) er (back_empty (is_wanted symbols scope wanted left) _ none)))
+    sides_fit (Some wanted) left right l r el er none = (
+      kinds_match left.at wanted l (subst (λ (k : Option Kind). mismatch left.at (Some wanted) k ≡ []) el (front_empty (is_wanted symbols scope wanted left) _ none)),
+      kinds_match right.at wanted r (subst (λ (k : Option Kind). mismatch right.at (Some wanted) k ≡ []) er (back_empty (is_wanted symbols scope wanted left) _ none)),
+    )
 
     both_kinds : (o : Operator) (left right : Expr) (l r : Kind) → kind_of left locals reads ≡ Some l → kind_of right locals reads ≡ Some r → combined_kind o l r ≡ Some (kind_of_operator o)
         → of_both o (kind_of left locals reads) (kind_of right locals reads) ≡ Some (kind_of_operator o)
@@ -160,12 +162,14 @@ module _ (symbols : Symbols) (scope : BodyScope) where
     binary_sound : (o : Operator) (raw_left raw_right : RawExpr) (left right : Expr) → IsSound raw_left.what left → IsSound raw_right.what right
         → sides_diagnostics symbols scope (side_kind_of o) raw_left raw_right ≡ [] → (kind_of (expr.Binary o left right) locals reads ≡ Some (kind_of_operator o)) × (has_literals enums (expr.Binary o left right) ≡ true)
     binary_sound o raw_left raw_right left right one two none =
-        let fit = sides_fit (side_kind_of o) raw_left raw_right one.of two.of one.raw_is two.raw_is none in
-        (kind_Binary locals reads o left right ∙ both_kinds o left right one.of two.of one.typed_is two.typed_is (combined o one.of two.of fit),
-         literals_Binary enums o left right ∙ both_literals left right one.literals two.literals)
+        let fit = sides_fit (side_kind_of o) raw_left raw_right one.of two.of one.raw_is two.raw_is none in (
+          kind_Binary locals reads o left right ∙ both_kinds o left right one.of two.of one.typed_is two.typed_is (combined o one.of two.of fit),
+          literals_Binary enums o left right ∙ both_literals left right one.literals two.literals,
+        )
 
     mutual
       unfolding kind_of has_literals
+
       pub sound_made : (at : Place) (what : RawExprKind) → HasLiteralsInRange what → judged at what ≡ [] → IsSound what (made at what)
       sound_made at (Literal literal) within none =
           let sound = sound_literal symbols.enums enums knows.variant literal within none in

@@ -105,9 +105,11 @@ found_enum symbols enums entry pairs few stands =
     let pair = pair_at SameVariants symbols enums entry.0 entry.1 pairs stands in
     let here : short entry.0 ≡ entry.0 = short_is entry.0 (omega (arith, pair.below, few)) in
     let count : variant_count enums (short entry.0) ≡ length entry.1.variants =
-        ap (variant_count enums) here ∙ ap variants_of pair.stands ∙ ap length (sym pair.related) in
-    (short_below entry.0 (length enums) pair.below, λ name number e.
-    subst (λ (n : ℕ). nat_lt (short number) n ≡ true) (sym count) (short_below number (length entry.1.variants) (position_within _ entry.1.variants number e)))
+    ap (variant_count enums) here ∙ ap variants_of pair.stands ∙ ap length (sym pair.related) in (
+      short_below entry.0 (length enums) pair.below,
+      λ name number e.
+          subst (λ (n : ℕ). nat_lt (short number) n ≡ true) (sym count) (short_below number (length entry.1.variants) (position_within _ entry.1.variants number e)),
+    )
 
 -- ---- types and literals
 
@@ -137,7 +139,7 @@ module _ (symbols : Symbols) (enums : List EnumType) (known : (name : List ℕ) 
   literal_written written of raw e within none =
       let sound = sound_literal symbols.enums enums (λ name entry found. (known name entry found).1) raw.what within (front_empty (literal_diagnostics symbols.enums raw.what) _ none) in
       let found = subst (λ (k : Option Kind). mismatch raw.at (Some of) k ≡ []) sound.kind
-          (subst (λ (k : Option Kind). mismatch raw.at k (literal_kind symbols.enums raw.what) ≡ []) e (back_empty (literal_diagnostics symbols.enums raw.what) _ none)) in
+      (subst (λ (k : Option Kind). mismatch raw.at k (literal_kind symbols.enums raw.what) ≡ []) e (back_empty (literal_diagnostics symbols.enums raw.what) _ none)) in
       rw (same_kind_turned of (value_kind (literal_value symbols.enums raw.what)) (kinds_match raw.at of (value_kind (literal_value symbols.enums raw.what)) found), sound.value) refl
 
   -- ---- cells

@@ -80,11 +80,14 @@ module _ (symbols : Symbols) (scope : BodyScope) (enums : List EnumType) (locals
     first_given : (number : ℕ) (earlier : List NamedArgument) (argument : NamedArgument) → IsLimitedExpr argument.1 → argument_diagnostics symbols scope parameters earlier argument ≡ []
         → is_this_number number (name_number argument.0.name parameters.names) ≡ true → IsGiven number argument.1
     first_given number earlier argument limited none this =
-        let rest = back_empty (argument_name_diagnostics parameters earlier argument.0 (entry_in argument.0.name parameters)) _ (three (argument_name_diagnostics parameters earlier argument.0 (entry_in argument.0.name parameters)) (expr_diagnostics symbols scope argument.1) _ none) in
-        (limited, front_empty (expr_diagnostics symbols scope argument.1) _ rest, λ parameter at.
-        subst (λ (entry : Option (ℕ × ParameterSymbol)). mismatch argument.1.at (parameter_kind entry) (raw_kind symbols scope argument.1.what) ≡ [])
-        (entry_is argument.0.name number parameter (number_is number (name_number argument.0.name parameters.names) this) at)
-        (back_empty (expr_diagnostics symbols scope argument.1) _ rest))
+        let rest = back_empty (argument_name_diagnostics parameters earlier argument.0 (entry_in argument.0.name parameters)) _ (three (argument_name_diagnostics parameters earlier argument.0 (entry_in argument.0.name parameters)) (expr_diagnostics symbols scope argument.1) _ none) in (
+          limited,
+          front_empty (expr_diagnostics symbols scope argument.1) _ rest,
+          λ parameter at.
+              subst (λ (entry : Option (ℕ × ParameterSymbol)). mismatch argument.1.at (parameter_kind entry) (raw_kind symbols scope argument.1.what) ≡ [])
+              (entry_is argument.0.name number parameter (number_is number (name_number argument.0.name parameters.names) this) at)
+              (back_empty (expr_diagnostics symbols scope argument.1) _ rest),
+        )
 
     pub given : (number : ℕ) (earlier arguments : List NamedArgument) (raw : RawExpr) → AreLimitedArguments arguments → arguments_diagnostics symbols scope parameters earlier arguments ≡ []
         → given_value parameters number arguments ≡ Some raw → IsGiven number raw
@@ -133,7 +136,7 @@ module _ (symbols : Symbols) (scope : BodyScope) (enums : List EnumType) (locals
           let some = holds_if_empty (is_some parameter.default || is_some (given_value parameters number arguments)) _ at (front_empty (refused_unless (is_some parameter.default || is_some (given_value parameters number arguments)) WrongType at) _ none) in
           let fits = value_fits number parameter kind (given_value parameters number arguments) here pairs.0 (all_given number) some in
           let more = filled (number + 1) rest kinds (λ k. subst (λ (n : ℕ). slice_get parameters.values n ≡ slice_get rest k) (next number k) (stand (suc k))) pairs.1
-              (back_empty (refused_unless (is_some parameter.default || is_some (given_value parameters number arguments)) WrongType at) _ none) in
+          (back_empty (refused_unless (is_some parameter.default || is_some (given_value parameters number arguments)) WrongType at) _ none) in
           rw (same (argument_expr symbols scope parameter (given_value parameters number arguments)) kind, fits) more
         where
           next : (number k : ℕ) → number + suc k ≡ number + 1 + k

@@ -152,9 +152,10 @@ nothing_wrong (Some diagnostic) none = cc
 -- what holds of a leaf that is not refused holds of each
 pub none_wrong : (P : Leaf → Type 0) (before : ℕ) (leaves : List Leaf) → AllByRecursion (λ leaf. leaf.wrong ≡ None → P leaf) leaves → leaves_diagnostics before leaves ≡ [] → AllByRecursion P leaves
 none_wrong P before [] all none = tt
-none_wrong P before (leaf ∷ rest) all none =
-    (all.0 (nothing_wrong leaf.wrong (front_empty (option_to_list leaf.wrong) _ (front_empty (leaf_diagnostics before leaf) _ none))),
-     none_wrong P (before + 1) rest all.1 (back_empty (leaf_diagnostics before leaf) _ none))
+none_wrong P before (leaf ∷ rest) all none = (
+  all.0 (nothing_wrong leaf.wrong (front_empty (option_to_list leaf.wrong) _ (front_empty (leaf_diagnostics before leaf) _ none))),
+  none_wrong P (before + 1) rest all.1 (back_empty (leaf_diagnostics before leaf) _ none),
+)
 
 -- ---- forms of a comparison
 

@@ -240,9 +240,11 @@ module _ (raw : RawModel) (symbols : Symbols) (stands : Stands raw.items symbols
   type_pairs (item.Activity name parameters result requires_ body) good =
       let limited = good.0 in
       let scope = parameter_scope symbols empty_scope parameters in
-      let none = five (parameters_diagnostics symbols empty_scope parameters) (result_type_diagnostics symbols result) (requires_diagnostics symbols scope requires_) (block_diagnostics symbols (result_symbol symbols.enums result) body scope) _ good.1 in
-      (has_signature symbols model.enums known_enums parameters result _ (kinds_are symbols model.enums known_enums parameters) limited.0.1 (front_empty (parameters_diagnostics symbols empty_scope parameters) _ none)
-      (front_empty (result_type_diagnostics symbols result) _ (back_empty (parameters_diagnostics symbols empty_scope parameters) _ none)), tt)
+      let none = five (parameters_diagnostics symbols empty_scope parameters) (result_type_diagnostics symbols result) (requires_diagnostics symbols scope requires_) (block_diagnostics symbols (result_symbol symbols.enums result) body scope) _ good.1 in (
+        has_signature symbols model.enums known_enums parameters result _ (kinds_are symbols model.enums known_enums parameters) limited.0.1 (front_empty (parameters_diagnostics symbols empty_scope parameters) _ none)
+            (front_empty (result_type_diagnostics symbols result) _ (back_empty (parameters_diagnostics symbols empty_scope parameters) _ none)),
+        tt,
+      )
   type_pairs (item.Daemon body) good = tt
 
   same_types : AllPairs (HasSignature model.enums) (parts_of_items (type_symbol symbols.enums) items) signatures
@@ -253,7 +255,7 @@ module _ (raw : RawModel) (symbols : Symbols) (stands : Stands raw.items symbols
   known_types : (name : List ℕ) (entry : ℕ × TypeSymbol) → entry_in name symbols.types ≡ Some entry → (signature : Signature) × (slice_get signatures (short entry.0) ≡ Some signature) × HasSignature model.enums entry.1 signature
   known_types name entry e =
       let pair = pair_at (HasSignature model.enums) (parts_of_items (type_symbol symbols.enums) items) signatures entry.0 entry.1 same_types
-          (subst (λ (values : List TypeSymbol). slice_get values entry.0 ≡ Some entry.1) types_stand.values_are (entry_stands name symbols.types entry e)) in
+      (subst (λ (values : List TypeSymbol). slice_get values entry.0 ≡ Some entry.1) types_stand.values_are (entry_stands name symbols.types entry e)) in
       let long = length-map model.activities signature_of in
       let here = short_is entry.0 (omega (arith, pair.below, long, few_activities)) in
       (pair.other, ap (slice_get signatures) here ∙ pair.stands, pair.related)
@@ -357,9 +359,11 @@ module _ (raw : RawModel) (symbols : Symbols) (stands : Stands raw.items symbols
   good_activities : has_good_activities model ≡ true
   unfolding has_good_activities
   good_activities =
-      rw (le-leb (length model.activities) type_limit few_activities,
-      subst (λ (taken : List (List ℕ)). list_all (is_activity model.enums model.cells signatures taken) model.activities ≡ true) taken_names
-      (all_of_items (IsGood symbols) (is_activity model.enums model.cells signatures (symbols.enums.names ++ symbols.cells.names)) (activity_of symbols) one_activity items all)) refl
+      rw (
+        le-leb (length model.activities) type_limit few_activities,
+        subst (λ (taken : List (List ℕ)). list_all (is_activity model.enums model.cells signatures taken) model.activities ≡ true) taken_names
+            (all_of_items (IsGood symbols) (is_activity model.enums model.cells signatures (symbols.enums.names ++ symbols.cells.names)) (activity_of symbols) one_activity items all),
+      ) refl
 
   one_daemon : (one : RawItem) → IsGood symbols one → list_all (is_daemon model.enums model.cells signatures) (daemon_of symbols one) ≡ true
   one_daemon (item.Enum name variants) good = refl

@@ -153,9 +153,11 @@ module _ (symbols : Symbols) (cells : NamedCells) (its : (name : List ℕ) (entr
             constant = pos 0;
           }
           else unfit_leaf at)
-      go true e right =
-          (summand_is negative coefficient (read_operand symbols empty_scope raw) (small_coefficient coefficient_at coefficient right)
-          (summed_part raw.part raw.name.at (entry_in raw.name.name symbols.cells) (its raw.name.name) none (stands raw none e)), refl)
+      go true e right = (
+        summand_is negative coefficient (read_operand symbols empty_scope raw) (small_coefficient coefficient_at coefficient right)
+            (summed_part raw.part raw.name.at (entry_in raw.name.name symbols.cells) (its raw.name.name) none (stands raw none e)),
+        refl,
+      )
       go false e right = cc
 
   right_leaves : (raw : RawExpr) → HasLiteralsInRange raw.what → expr_diagnostics symbols empty_scope raw ≡ [] → AllByRecursion Right (leaves_of Resource symbols empty_scope raw false)

@@ -221,7 +221,7 @@ braces_left parameters scope inner slots answer follows passes =
     let names = length-take (length scope.known.names) inner.known.names in
     let values = length-take (length scope.known.names) inner.known.values in
     let kept : take (length scope.known.names) inner.known.values ≡ scope.known.values =
-        ap (take (length scope.known.names)) passes.extends ∙ take_at scope.known.values passes.more (length scope.known.names) (sym follows.aligned) in
+    ap (take (length scope.known.names)) passes.extends ∙ take_at scope.known.values passes.more (length scope.known.names) (sym follows.aligned) in
     let long = length-append slots spare in
     let nothing : Option Kind = None in
     let padded = length-replicate (length last - length slots) nothing in

@@ -247,7 +247,7 @@ module _ (symbols : Symbols) (returns : Option ResultSymbol) (setting : Setting)
         × Goes scope scope slots (same_scope_if (is_emission setting slots (cell_number (cell_in symbols name)) (emission.Rate (expr_of symbols scope value))) slots)
     flow_sound name value limited none =
         let are = flowed name.at (cell_in symbols name) (expr_of symbols scope value) (its_cells name) (front_empty (on_cell flow_sort name.at (cell_in symbols name)) _ none)
-            (value_in Int value limited (back_empty (on_cell flow_sort name.at (cell_in symbols name)) _ none)) in
+        (value_in Int value limited (back_empty (on_cell flow_sort name.at (cell_in symbols name)) _ none)) in
         (goes_same _ are.0, goes_same _ are.1)
 
     put_sound : (name : RawName) (value : RawExpr) → IsLimitedExpr value → put_diagnostics symbols scope name value ≡ []
@@ -319,6 +319,7 @@ module _ (symbols : Symbols) (returns : Option ResultSymbol) (setting : Setting)
 
   mutual
     unfolding checked scope_behind
+
     sound_stmt : (at : Place) (what : RawStmtKind) (scope : BodyScope) (slots : Scope) → Along scope slots → setting.parameters ≤ length slots → HasLimitedExprs what → judged at what scope ≡ []
         → Goes scope (scoped at what scope) slots (checked setting (made at what scope) slots)
     sound_stmt at (Let name value) scope slots follows within limited none = let_sound scope slots follows within at name value limited none
