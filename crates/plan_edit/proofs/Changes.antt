@@ -73,7 +73,7 @@ all_changed test other f (first ∷ rest) each all =
     let parts = both (test first) (list_all test rest) all in
     and_too (other (f first)) (list_all other (map f rest)) (each 0 first refl parts.0) (all_changed test other f rest (λ at. each (suc at)) parts.1)
 
-ids_same : (f : Directive → Directive) → ((d : Directive) → (f d).id ≡ d.id) → (directives : List Directive) → ids_of (map f directives) ≡ ids_of directives
+pub ids_same : (f : Directive → Directive) → ((d : Directive) → (f d).id ≡ d.id) → (directives : List Directive) → ids_of (map f directives) ≡ ids_of directives
 ids_same f same [] = refl
 ids_same f same (first ∷ rest) = ap (λ (id : ℕ). id ∷ ids_of (map f rest)) (same first) ∙ ap (λ (ids : List ℕ). first.id ∷ ids) (ids_same f same rest)
 

@@ -58,6 +58,20 @@ pub part_of : {A B : Type 0} (make : A → Result B EditError) (made : Result A 
 part_of make (Ok part) all h = (part, (refl, h))
 part_of make (Err refusal) all h = absurd (cc)
 
+-- a part that is refused refuses the whole
+pub refused_too : {A B : Type 0} (part : Result A EditError) (whole : Result B EditError) (refusal : EditError) → ((r : EditError) → part ≡ Err r → whole ≡ Err r) → IsRefusal part refusal → IsRefusal whole refusal
+refused_too part whole NoDirective same h = same NoDirective h
+refused_too part whole UnknownType same h = same UnknownType h
+refused_too part whole (BadArgument parameter) same h = same (BadArgument parameter) h
+refused_too part whole (Invalid number) same h = same (Invalid number) h
+refused_too part whole OutsidePlan same h = same OutsidePlan h
+refused_too part whole TooMany same h = same TooMany h
+refused_too part whole NotAPlan same h = same NotAPlan h
+refused_too part whole OutOfMemory same h = tt
+refused_too part whole NoAnchor same h = same NoAnchor h
+refused_too part whole Cycle same h = same Cycle h
+refused_too part whole (Anchored by) same h = same (Anchored by) h
+
 -- ---- a search by id
 
 pub found_is : (directives : List Directive) (found : Option ℕ) (id : ℕ) → option_and_then (slice_get directives) found ≡ with_id directives id → IfSome found (λ at. at < length directives) →

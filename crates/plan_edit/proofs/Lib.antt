@@ -9,3 +9,9 @@ mod Changes
 mod Moves
 mod Settings
 mod Migrations
+mod WrittenForms
+mod Variants
+mod Rounds
+mod Places
+mod Anew
+mod Loads

@@ -44,24 +44,24 @@ check = record {
   body = [];
 }
 
-abbrev model : Parts
+abbrev pub model : Parts
 model = record { name = codes "m"; enums = mode ∷ []; cells = []; resources = []; activities = bump ∷ check ∷ []; daemons = [] }
 
 -- ---- plans of 100 microseconds
 
-abbrev plan : ℕ → List Directive → Plan
+abbrev pub plan : ℕ → List Directive → Plan
 plan next_id directives = record { model = 0; duration = 100; next_id = next_id; directives = directives }
 
-abbrev at : ℕ → When
+abbrev pub at : ℕ → When
 at start = record { start = start; anchor = None }
 
-abbrev behind : ℕ → When
+abbrev pub behind : ℕ → When
 behind to = record { start = 5; anchor = Some (record { to = to; edge = End }) }
 
-abbrev bumped : ℕ → When → ℕ → Directive
+abbrev pub bumped : ℕ → When → ℕ → Directive
 bumped id when by = record { id = id; start = when.start; anchor = when.anchor; kind = 0; arguments = Int (pos by) ∷ [] }
 
-abbrev checked : ℕ → ℕ → ℕ → Directive
+abbrev pub checked : ℕ → ℕ → ℕ → Directive
 checked id start number =
     record { id = id; start = start; anchor = None; kind = 1; arguments = Truth true ∷ Variant 0 number ∷ [] }
 
@@ -124,7 +124,7 @@ no_id_is_left = refl
 
 -- ---- two directives, the second behind the first
 
-abbrev two : Plan
+abbrev pub two : Plan
 two = plan 3 (bumped 1 (at 5) 3 ∷ bumped 2 (behind 1) 1 ∷ [])
 
 pub one_is_anchored_to_it : remove_of two 1 ≡ Err (Anchored 2)

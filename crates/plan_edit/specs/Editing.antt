@@ -1,5 +1,5 @@
 -- The edits of a plan: each gives the edited plan, or the refusal with the smallest number of those that apply.
-use Rattle.std.specs.Prelude.{ℕ, suc, zero, ◌+◌, ◌||◌, not, Bool, false, List, [], ◌∷◌, ◌++◌, map, filter, find, length, nat_eq, nat_lt, position, slice_get, slice_set, Option, Some, None, option_map, Result, Ok, Err, if◌then◌else◌}
+use Rattle.std.specs.Prelude.{◌≡◌, ℕ, suc, zero, ◌+◌, ◌||◌, not, Bool, false, List, [], ◌∷◌, ◌++◌, map, filter, find, length, nat_eq, nat_lt, position, slice_get, slice_set, Option, Some, None, option_map, Result, Ok, Err, if◌then◌else◌}
 use Rattle.aerie_base.specs.declared.values.Value.{Value}
 use Rattle.aerie_base.specs.declared.arguments.RawValue.{RawValue}
 use Rattle.aerie_base.specs.declared.arguments.RawArgument.{RawArgument}
@@ -102,6 +102,11 @@ changed_where id change directive = if nat_eq directive.id id then change direct
 abbrev pub with_changed : Plan → ℕ → (Directive → Directive) → Plan
 with_changed plan id change = record plan { directives = map (changed_where id change) plan.directives }
 
+-- the directive at a place, where there is one, is changed so, and every other one is as it was
+abbrev pub ChangesAt : ℕ → (Directive → Directive) → List Directive → List Directive → Type 0
+ChangesAt at change before after =
+    (directive : Directive) → slice_get before at ≡ Some directive → after ≡ slice_set before at (change directive)
+
 -- ---- remove
 
 -- whether a directive is anchored to the one with an id
@@ -172,6 +177,10 @@ abbrev pub arguments_set : Parts → List Value → List ℕ → RawValue → Op
 arguments_set model arguments name value None = Err UnknownType
 arguments_set model arguments name value (Some activity) =
     argument_set activity arguments name (parameter_place activity.parameters name) (value_for model.enums activity.parameters name value)
+
+abbrev pub arguments_set_for : Parts → List Value → List ℕ → RawValue → ℕ → Result (List Value) EditError
+arguments_set_for model arguments name value kind =
+    arguments_set model arguments name value (slice_get model.activities kind)
 
 -- the plan after a `set` of one argument of a directive
 abbrev pub set_of : Parts → Plan → ℕ → List ℕ → RawValue → Result Plan EditError

@@ -5,4 +5,7 @@ pub mod RequireLaws
 pub mod Editing
 pub mod Mappings
 pub mod Migrating
+pub mod PlanForm
+pub mod Loading
 pub mod Cases
+pub mod ShownPlan

@@ -1,14 +1,17 @@
 -- What a plan becomes in another model.
-use Rattle.std.specs.Prelude.{◌≡◌, ℕ, ◌<◌, pos, Bool, true, List, [], ◌∷◌, find, length, nat_eq, nat_lt, slice_get, slice_index_or, Option, Some, None, option_and_then, Result, Ok, Err}
+use Rattle.std.specs.Prelude.{◌≡◌, ℕ, ◌<◌, pos, Bool, true, List, [], ◌∷◌, find, length, map, IsTrue, nat_eq, nat_lt, slice_get, slice_index_or, Option, Some, None, option_and_then, Result, Ok, Err}
 use Rattle.aerie_base.specs.declared.values.Kind.{Kind}
 use Rattle.aerie_base.specs.declared.values.Kind.TheVariants as kind
 use Rattle.aerie_base.specs.declared.values.Value.{Value}
 use Rattle.aerie_base.specs.declared.values.Value.TheVariants.{Int, Truth, Variant}
 use Rattle.aerie_base.specs.declared.models.Activity.{Activity}
+use Rattle.aerie_base.specs.declared.models.Parameter.{Parameter}
 use Rattle.aerie_base.specs.declared.models.model.Parts.{Parts}
 use Rattle.aerie_base.specs.declared.plans.Directive.{Directive}
 use Rattle.aerie_base.specs.declared.plans.Plan.{Plan}
 use Rattle.aerie_base.specs.models.Signatures.{parameter_kinds}
+use Rattle.aerie_base.specs.plans.OfModel.{is_directive_of, takes}
+use Rattle.std.specs.List.{list_all}
 use Rattle.plan_edit.specs.declared.errors.MigrateError.{MigrateError}
 use Rattle.plan_edit.specs.declared.errors.MigrateError.TheVariants.{Unmapped, Misfit, OutOfMemory}
 use Rattle.plan_edit.specs.declared.mappings.Feed.{Feed}
@@ -38,7 +41,18 @@ all_fed arguments [] feeds = []
 all_fed arguments (kind ∷ kinds) [] = []
 all_fed arguments (kind ∷ kinds) (feed ∷ feeds) = fed arguments kind feed ∷ all_fed arguments kinds feeds
 
+abbrev pub kinds_of_parameters : List Parameter → List Kind
+kinds_of_parameters parameters = map (λ parameter. parameter.kind) parameters
+
 -- ---- directives
+
+-- whether a directive has arguments of its type's parameters
+abbrev pub takes_arguments : Parts → Directive → Bool
+takes_arguments model directive = takes model.enums (slice_get model.activities directive.kind) directive.arguments
+
+-- these are directives of some plan of the model
+abbrev pub AreDirectivesOf : Parts → List Directive → Type 0
+AreDirectivesOf model directives = (plan : Plan) × IsTrue (list_all (is_directive_of model plan) directives)
 
 -- the first rule for a type
 abbrev pub rule_of : List TypeRule → ℕ → Option TypeRule

@@ -32,7 +32,7 @@ pub fn add(
     requires plan { IsPlanOf model.now plan.old }
     ensures edited { OnOk result (add_of model.now plan.old at kind.now arguments.now ≡ Ok plan.new) }
     ensures id { IfOk result (λ id. id ≡ plan.old.next_id) }
-    ensures refused { IfErr result (λ refusal. IsRefusal (add_of model.now plan.old at kind.now arguments.now) refusal) }
+    ensures refused { IfErr result (IsRefusal (add_of model.now plan.old at kind.now arguments.now)) }
     ensures unchanged { OnErr result (plan.new ≡ plan.old) }
     ensures plan { IsPlanOf model.now plan.new }
 {

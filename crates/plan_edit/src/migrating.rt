@@ -1,12 +1,10 @@
 //! Plans are taken to another model.
 
-ghost use Rattle.std.specs.Prelude.{◌≡◌, ◌<◌, ℕ, IsTrue, Some, Ok, IfOk, IfErr, OnOk, OnErr, length, map, option_copied, option_and_then, slice_get};
+ghost use Rattle.std.specs.Prelude.{◌≡◌, ◌<◌, IsTrue, Some, Ok, IfOk, IfErr, OnOk, OnErr, length, map, option_copied, option_and_then, slice_get};
 ghost use Rattle.std.specs.List.{list_all};
-ghost use Rattle.aerie_base.specs.declared.models.Parameter.{Parameter as ShownParameter};
-ghost use Rattle.aerie_base.specs.declared.plans.Plan.{Plan as ShownPlan};
-ghost use Rattle.aerie_base.specs.plans.OfModel.{IsPlanOf, is_directive_of, takes};
+ghost use Rattle.aerie_base.specs.plans.OfModel.{IsPlanOf};
 ghost use Rattle.plan_edit.specs.Mappings.{IsMappingOf, is_type_rule};
-ghost use Rattle.plan_edit.specs.Migrating.{all_fed as all_fed_by, all_migrated as all_migrated_by, by_rule as made_by_rule, fed as fed_by, is_feed_within, migrate_of, migrated as migrated_by, retyped as retyped_by, rule_of, IsMigrated, IsMigrateRefusal, IsRuleTable};
+ghost use Rattle.plan_edit.specs.Migrating.{takes_arguments, kinds_of_parameters, all_fed as all_fed_by, all_migrated as all_migrated_by, by_rule as made_by_rule, fed as fed_by, is_feed_within, migrate_of, migrated as migrated_by, retyped as retyped_by, rule_of, AreDirectivesOf, IsMigrated, IsMigrateRefusal, IsRuleTable};
 
 use crate::errors::MigrateError;
 use crate::items::item_at;
@@ -28,7 +26,7 @@ pub fn migrate(
     requires mapping { IsMappingOf old.now new.now mapping.now }
     requires plan { IsPlanOf old.now plan.old }
     ensures migrated { OnOk result (migrate_of new.now mapping.now plan.old ≡ Ok plan.new) }
-    ensures refused { IfErr result (λ refusal. IsMigrateRefusal (migrate_of new.now mapping.now plan.old) refusal) }
+    ensures refused { IfErr result (IsMigrateRefusal (migrate_of new.now mapping.now plan.old)) }
     ensures unchanged { OnErr result (plan.new ≡ plan.old) }
     ensures plan { OnOk result (IsPlanOf new.now plan.new) }
 {
@@ -91,7 +89,7 @@ fn all_migrated(
     requires mapping { IsMappingOf old.now new.now mapping.now }
     requires table { IsRuleTable mapping.now.rules table.now }
     requires count { length table.now ≡ length old.now.activities }
-    requires directives { (plan : ShownPlan) × IsTrue (list_all (is_directive_of old.now plan) directives.now) }
+    requires directives { AreDirectivesOf old.now directives.now }
     ensures { IsMigrated (all_migrated_by new.now mapping.now directives.now) result }
 {
     let mut all = List::with_capacity(alloc, directives.len())?;
@@ -113,7 +111,7 @@ fn migrated(
     requires mapping { IsMappingOf old.now new.now mapping.now }
     requires table { IsRuleTable mapping.now.rules table.now }
     requires count { length table.now ≡ length old.now.activities }
-    requires takes { IsTrue (takes old.now.enums (slice_get old.now.activities directive.now.kind) directive.now.arguments) }
+    requires takes { IsTrue (takes_arguments old.now directive.now) }
     ensures { IsMigrated (migrated_by new.now mapping.now directive.now) result }
 {
     match rule_for(mapping.rules.as_slice(), table, directive.kind) {
@@ -132,7 +130,7 @@ fn by_rule(
 ) -> Result<Directive, MigrateError>
     requires rule { IsTrue (is_type_rule old.now new.now rule.now) }
     requires kind { rule.now.old ≡ directive.now.kind }
-    requires takes { IsTrue (takes old.now.enums (slice_get old.now.activities directive.now.kind) directive.now.arguments) }
+    requires takes { IsTrue (takes_arguments old.now directive.now) }
     ensures { IsMigrated (made_by_rule new.now directive.now (Some rule.now)) result }
 {
     let activity = &new.activities()[usize::from(rule.new)];
@@ -166,7 +164,7 @@ fn all_fed(
 ) -> Result<List<Value>, OutOfMemory>
     requires count { length feeds.now ≡ length parameters.now }
     requires within { IsTrue (list_all (is_feed_within (length arguments.now)) feeds.now) }
-    ensures { IfOk result (λ values. values ≡ all_fed_by arguments.now (map (λ (parameter : ShownParameter). parameter.kind) parameters.now) feeds.now) }
+    ensures { IfOk result (λ values. values ≡ all_fed_by arguments.now (kinds_of_parameters parameters.now) feeds.now) }
 {
     let mut values = List::with_capacity(alloc, parameters.len())?;
     for place in 0..parameters.len() {

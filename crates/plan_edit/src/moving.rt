@@ -77,7 +77,7 @@ fn anchor_of(directives: &[Directive], id: u32) -> Option<u32>
 }
 
 /// The id to which a directive is anchored.
-fn lead_of(directive: &Directive) -> Option<u32>
+pub fn lead_of(directive: &Directive) -> Option<u32>
     ensures { result ≡ anchored_to directive.now }
 {
     match directive.anchor {

@@ -1,7 +1,6 @@
 //! Where a directive may stand.
 
 ghost use Rattle.std.specs.Prelude.{◌≡◌, Some};
-ghost use Rattle.aerie_base.specs.declared.plans.Anchor.{Anchor as ShownAnchor};
 ghost use Rattle.aerie_base.specs.plans.OfModel.{is_there as is_there_by, Rise};
 ghost use Rattle.plan_edit.specs.Editing.{is_full as is_full_by, is_loose as is_loose_by, is_outside as is_outside_by};
 

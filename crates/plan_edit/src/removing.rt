@@ -31,7 +31,7 @@ pub fn remove(plan: &mut Plan, id: u32) -> Result<(), EditError>
 
 /// The id of the first directive that is anchored to the one with an id.
 fn anchored_by(directives: &[Directive], id: u32) -> Option<u32>
-    ensures { result ≡ option_map (λ (directive : Shown). directive.id) (find (is_anchored id) directives.now) }
+    ensures { result ≡ option_map (λ (found : Shown). found.id) (find (is_anchored id) directives.now) }
 {
     for directive in directives {
         if is_anchored_to(directive, id) {

@@ -4,7 +4,7 @@ ghost use Rattle.std.specs.Prelude.{◌≡◌, ◌<◌, IsTrue, Ok, IfErr, OnOk,
 ghost use Rattle.aerie_base.specs.models.ValidModel.{valid_model};
 ghost use Rattle.aerie_base.specs.plans.OfModel.{IsPlanOf, takes};
 ghost use Rattle.plan_edit.specs.Answers.{IsMade, IsRefusal};
-ghost use Rattle.plan_edit.specs.Editing.{arguments_set as arguments_set_by, set_of};
+ghost use Rattle.plan_edit.specs.Editing.{arguments_set_for as arguments_set_by, set_of};
 
 use crate::adding::if_met;
 use crate::arguments::{parameter_place, value_for};
@@ -26,7 +26,7 @@ pub fn set_argument(
 ) -> Result<(), EditError>
     requires plan { IsPlanOf model.now plan.old }
     ensures edited { OnOk result (set_of model.now plan.old id parameter.now value.now ≡ Ok plan.new) }
-    ensures refused { IfErr result (λ refusal. IsRefusal (set_of model.now plan.old id parameter.now value.now) refusal) }
+    ensures refused { IfErr result (IsRefusal (set_of model.now plan.old id parameter.now value.now)) }
     ensures unchanged { OnErr result (plan.new ≡ plan.old) }
     ensures plan { IsPlanOf model.now plan.new }
 {
@@ -57,7 +57,7 @@ fn arguments_set(
     value: &RawValue,
 ) -> Result<List<Value>, EditError>
     requires { IsTrue (takes model.now.enums (slice_get model.now.activities kind) arguments.now) }
-    ensures made { IsMade (arguments_set_by model.now arguments.now parameter.now value.now (slice_get model.now.activities kind)) result }
+    ensures made { IsMade (arguments_set_by model.now arguments.now parameter.now value.now kind) result }
     ensures valid { IsTrue (valid_model model.now) }
 {
     let activity = match item_at(model.activities(), usize::from(kind)) {

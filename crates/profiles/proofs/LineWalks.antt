@@ -66,7 +66,7 @@ module _ (model : Parts) (run : Run) (form : Linear) where
     no_constant z = ap (λ (c : ℤ). z +ℤ c) known.constant ∙ omega (arith, ints)
 
     -- the sum on cells, and its rate
-    sum_on : (cells : List CellState) → linear_value (value_on cells) [] form ≡ values_sum (watched_on cells form.terms)
+    pub sum_on : (cells : List CellState) → linear_value (value_on cells) [] form ≡ values_sum (watched_on cells form.terms)
     sum_on cells = no_constant (terms_value (value_on cells) [] form.terms) ∙ values_are (length model.cells) cells form.terms known.terms
 
     rate_on_cells : (cells : List CellState) → terms_rate cells form.terms ≡ rates_sum (watched_on cells form.terms)

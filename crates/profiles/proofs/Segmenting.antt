@@ -51,7 +51,7 @@ one_more f test n m same segments made upto none here =
 
 -- ---- values that stay
 
-same_itself : (value : Value) → same_value value value ≡ true
+pub same_itself : (value : Value) → same_value value value ≡ true
 same_itself (Int number) = int_eq_equiv.refl number
 same_itself (Truth true) = refl
 same_itself (Truth false) = refl
@@ -82,7 +82,7 @@ one_later line t from =
     let count : suc t - line.from ≡ suc (t - line.from) = omega arith in
     rw count (omega (arith, ints, step))
 
-same_number : (a b : ℤ) → a ≡ b → int_eq a b ≡ true
+pub same_number : (a b : ℤ) → a ≡ b → int_eq a b ≡ true
 same_number a b is = ap (int_eq a) (sym is) ∙ int_eq_equiv.refl a
 
 pub no_line_begins : (value rate : ℕ → ℤ) (line : Segment) (to : ℕ) → Runs value rate line to → (t : ℕ) → suc line.from ≤ t → t < to → begins_line value rate t ≡ false

@@ -1,4 +1,6 @@
 pub mod Followed
+pub mod GivenValues
+pub mod Neighbours
 pub mod Profiles
 pub mod Samples
 pub mod Segments

@@ -2,10 +2,13 @@ ghost use Rattle.std.specs.Prelude.{◌≡◌, ◌<◌, length, IsTrue, true, So
 ghost use Rattle.aerie_base.specs.models.Resources.{is_resource};
 ghost use Rattle.aerie_base.specs.models.ValidModel.{valid_model};
 ghost use Rattle.run_data.specs.Fresh.{IsFresh};
+ghost use Rattle.profiles.specs.GivenValues.{HasSlopes, HasValues, IsShortest, OfResource};
+ghost use Rattle.profiles.specs.Neighbours.{DivideTime, MayBeCompared, NoneContinues, starts_of};
 ghost use Rattle.profiles.specs.Profiles.{profile_at, profile_of};
 
 use crate::discrete::value_profile;
 use crate::linear::line_profile;
+use crate::runs::can_be_followed;
 use crate::sampling::Profile;
 use aerie_base::{Model, OutOfMemory, Resource};
 use run_data::Run;
@@ -14,6 +17,10 @@ use std::alloc::Global;
 /// The profile of a resource over a run, by the resource's number, counted from 0 in the order of the model. It goes once over the
 /// instants; in each it looks for the cells that the resource reads by halves, so it takes a time in the order of the instants
 /// times the digits of how many cells one of them changed.
+///
+/// At each time below the run's reach the profile has the resource's value; its segments divide that time, are the fewest that
+/// give the values and the rates, and none continues the one before it. Where the reach is 0 there is none. The segments of a
+/// linear resource stay below 2^120, so that they may be compared with a number as windows.
 pub fn profile(
     alloc: Global,
     model: &Model,
@@ -23,8 +30,15 @@ pub fn profile(
     requires fresh { IsFresh model.now run.now.plan run.now.bound run.now }
     requires resource { resource < length model.now.resources }
     ensures exact { IfOk result (λ profile. Some profile ≡ profile_at model.now run.now resource) }
+    ensures values { IfOk result (λ profile. OfResource model.now resource (λ of. HasValues model.now run.now of profile)) }
+    ensures slopes { IfOk result (λ profile. OfResource model.now resource (λ of. HasSlopes model.now run.now of profile)) }
+    ensures fewest { IfOk result (λ profile. OfResource model.now resource (λ of. IsShortest model.now run.now of profile)) }
+    ensures none_continues { IfOk result NoneContinues }
+    ensures divide { IfOk result (λ profile. DivideTime run.now.reach (starts_of profile)) }
+    ensures compared { IfOk result (MayBeCompared run.now.reach) }
 {
     let resources = model.resources();
+    can_be_followed(model, run);
     let at = usize::from(resource);
     let named = &resources[at];
     let made = profile_for(alloc, model, run, &named.1)?;

@@ -1,6 +1,9 @@
 pub mod Endings
 pub mod Frames
 pub mod Gathering
+pub mod InstantTimes
 pub mod Noting
 pub mod Sorting
 pub mod SpanOrder
+pub mod SpansByPath
+pub mod TimesInOrder

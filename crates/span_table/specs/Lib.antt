@@ -3,3 +3,4 @@ pub mod Begun
 pub mod BodyStates
 pub mod Ordering
 pub mod Progress
+pub mod SpanLaws
