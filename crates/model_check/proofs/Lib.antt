@@ -8,3 +8,4 @@ pub mod Turns
 pub mod Arguments
 pub mod LeafForms
 pub mod Sound
+pub mod FirstTold

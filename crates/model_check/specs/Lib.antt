@@ -1,4 +1,5 @@
 pub mod Diagnostics
+pub mod FirstTold
 pub mod NameLists
 pub mod NameTables
 pub mod RawExpressions

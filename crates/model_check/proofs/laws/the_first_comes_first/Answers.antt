@@ -1,0 +1,6 @@
+use Rattle.model_check.specs.ModelDiagnostics.{model_diagnostics}
+use Rattle.model_check.proofs.FirstTold.{told_first}
+use Rattle.model_check.proofs.laws.the_first_comes_first.Goals as goal
+
+pub returns : goal.returns
+returns c raw first e = told_first (model_diagnostics raw) first e
