@@ -4,7 +4,7 @@ use Rattle.std.proofs.lemmas.Bool.Decides.{nat_tests}
 use Rattle.std.specs.List.{AllByRecursion}
 use Rattle.model_check.specs.declared.diagnostics.Diagnostic.{Diagnostic}
 use Rattle.model_check.specs.Diagnostics.{number_of_cause, is_told_before, noted, first_diagnostic}
-use Rattle.model_check.specs.FirstTold.{IsAmong, IsToldFirst}
+use Rattle.model_check.specs.FirstTold.{StandsAmong, IsToldFirst}
 
 -- ---- the order
 
@@ -91,7 +91,7 @@ with_last first last (other ∷ seen) all is = (all.0, with_last first last seen
 -- the first of those seen so far
 record IsFirst (seen : List Diagnostic) (first : Diagnostic) : Type 0 where
   behind : BehindIt first seen
-  among : IsAmong first seen
+  among : StandsAmong first seen
 
 module _ (seen : List Diagnostic) (old new : Diagnostic) (is : IsFirst seen old) where
   one_more : IsFirst (seen ++ new ∷ []) (if is_told_before new old then new else old)

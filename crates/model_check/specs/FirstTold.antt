@@ -5,9 +5,9 @@ use Rattle.model_check.specs.declared.diagnostics.Diagnostic.{Diagnostic}
 use Rattle.model_check.specs.Diagnostics.{is_told_before}
 
 -- one of these
-abbrev pub IsAmong : Diagnostic → List Diagnostic → Type 0
-IsAmong one all = (front behind : List Diagnostic) × (all ≡ front ++ (one ∷ behind))
+abbrev pub StandsAmong : Diagnostic → List Diagnostic → Type 0
+StandsAmong one all = (front behind : List Diagnostic) × (all ≡ front ++ (one ∷ behind))
 
 -- one of these, before which no other comes by place, nor at its place by number
 abbrev pub IsToldFirst : Diagnostic → List Diagnostic → Type 0
-IsToldFirst first all = AllByRecursion (λ other. is_told_before other first ≡ false) all × IsAmong first all
+IsToldFirst first all = AllByRecursion (λ other. is_told_before other first ≡ false) all × StandsAmong first all
