@@ -1,12 +1,11 @@
 -- The tasks after the frames of a batch: how many children they have made.
-use Rattle.std.proofs.Common.{◌≡◌, ℕ, zero, suc, ◌+◌, ◌<◌, ◌≤◌, ◌^◌, Bool, true, false, cond, List, [], ◌∷◌, length, drop, Option, Some, None, refl, sym, ap, ◌∙◌, arith, subst, get_or}
+use Rattle.std.proofs.Common.{◌≡◌, ℕ, ◌+◌, ◌<◌, ◌≤◌, ◌^◌, Bool, true, false, cond, List, [], ◌∷◌, length, drop, Some, refl, sym, ap, ◌∙◌, arith, subst, get_or}
 use Rattle.std.proofs.lemmas.List.{drop_more}
-use Rattle.std.specs.List.{slice_get}
 use Rattle.std.specs.Ordering.{is_eq}
 use Rattle.std.specs.BTreeMap.{is_at}
 use Rattle.aerie_base.specs.Paths.{path_cmp}
 use Rattle.run_data.specs.declared.frames.Frame.{Frame}
-use Rattle.run_data.specs.Tasks.{Task, Table, task_at, with_task, children_made, children_in, task_after, after_frame, after_frames}
+use Rattle.run_data.specs.Tasks.{Table, task_at, children_made, children_in, task_after, after_frame, after_frames}
 use Rattle.engine_core.specs.TasksByNumber.{MadeIsSmall}
 use Rattle.engine_core.proofs.PathTables.{path_itself, is_same, at_with}
 

@@ -152,7 +152,7 @@ all_changed change number first tasks most are =
 
 -- ---- going on in turn
 
-quiet_stays : (whole : Table) (now : ℕ) (path : List ℕ) (task : Task) → IsQuiet whole path task.phase → gone_on whole now path task ≡ task
+pub quiet_stays : (whole : Table) (now : ℕ) (path : List ℕ) (task : Task) → IsQuiet whole path task.phase → gone_on whole now path task ≡ task
 quiet_stays whole now path task quiet = ap (λ p. record task { phase = p }) (go task.phase quiet)
   where
     go : (phase : TaskPhase) → IsQuiet whole path phase → due_phase whole now (back whole path phase) ≡ phase
@@ -163,7 +163,7 @@ quiet_stays whole now path task quiet = ap (λ p. record task { phase = p }) (go
     go (waiting condition state) q = refl
     go (over result) q = refl
 
-same_as_whole : (whole tasks : Table) (now : ℕ) (path : List ℕ) (task : Task) → EndsAs whole tasks → gone_on (sorted_tasks tasks) now path task ≡ gone_on whole now path task
+pub same_as_whole : (whole tasks : Table) (now : ℕ) (path : List ℕ) (task : Task) → EndsAs whole tasks → gone_on (sorted_tasks tasks) now path task ≡ gone_on whole now path task
 same_as_whole whole tasks now path task ends = ap (λ p. record task { phase = p }) (go task.phase)
   where
     come : (to : ℕ) (edge : _) → has_come (sorted_tasks tasks) to edge ≡ has_come whole to edge

@@ -1,4 +1,6 @@
+mod AfterBatch
 mod AfterFrames
+mod AnchoredTasks
 mod BatchFaults
 mod BatchFilling
 mod BatchJudging
@@ -7,13 +9,18 @@ mod BatchOrder
 mod BatchRuns
 mod BatchTouched
 mod BatchTurns
+mod Candidates
+mod CellsRead
 mod ChildEffects
 mod ChildViews
 mod GoingOnTasks
+mod KeptWakes
 mod ListedTimes
+mod LongPaths
 mod MarkedPaths
 mod Pairs
 mod PathTables
+mod PathsAbove
 mod PutIndexes
 mod PutTasks
 mod ReadyIndex
@@ -21,3 +28,5 @@ mod RestingTasks
 mod TreeLookup
 mod TreeParts
 mod TreeSizes
+mod WakingTasks
+mod Watchers

@@ -1,5 +1,5 @@
 -- Times by number and the set of them.
-use Rattle.std.proofs.Common.{◌≡◌, ℕ, zero, suc, ◌+◌, ◌<◌, ◌≤◌, min, Bool, true, false, cond, not, ◌&&◌, ◌||◌, List, [], ◌∷◌, ◌++◌, length, Option, Some, None, refl, sym, ap, ◌∙◌, arith, subst, nat_eq, ltb, slice_set}
+use Rattle.std.proofs.Common.{◌≡◌, ℕ, zero, suc, ◌<◌, ◌≤◌, min, Bool, true, false, cond, not, ◌&&◌, ◌||◌, List, [], ◌∷◌, ◌++◌, length, Option, Some, None, refl, sym, ap, ◌∙◌, arith, subst, nat_eq, ltb, slice_set}
 use Rattle.std.proofs.lemmas.Bool.Decides.{nat_tests}
 use Rattle.std.specs.declared.cmp.Ordering.{Ordering}
 use Rattle.std.specs.declared.cmp.Ordering.TheVariants.{Less, Equal, Greater}
@@ -7,6 +7,8 @@ use Rattle.std.specs.Ordering.{nat_cmp, is_eq, is_gt, ordering_then}
 use Rattle.std.specs.BTreeMap.{is_at}
 use Rattle.std.specs.BTreeSet as set
 use Rattle.std.specs.BTreeSet.{BTreeSet}
+use Rattle.std.specs.BTreeMap.Range.{IsLeBy}
+use Rattle.std.specs.declared.ops.Bound.TheVariants.{Included, Unbounded}
 use Rattle.std.specs.List.{slice_get}
 use Rattle.aerie_base.specs.TimeOrder.{earlier}
 use Rattle.engine_core.specs.Times.{least_time, IsUpToTime, is_this_time, put_at, timed_cmp, has_time, stands_at, AreListed}
@@ -165,7 +167,7 @@ from_both t None b x y = y
 from_both t (Some a) None x y = x
 from_both t (Some a) (Some b) x y = omega (arith, x, y)
 
-all_from : (times : List (Option ℕ)) (t : ℕ) → ((i u : ℕ) → stands_at u (slice_get times i) ≡ true → t ≤ u) → IsUpToTime t (least_time times)
+pub all_from : (times : List (Option ℕ)) (t : ℕ) → ((i u : ℕ) → stands_at u (slice_get times i) ≡ true → t ≤ u) → IsUpToTime t (least_time times)
 all_from [] t h = tt
 all_from (time ∷ rest) t h = from_both t time (least_time rest) (first time refl) (all_from rest t (λ i u e. h (suc i) u e))
   where
@@ -228,3 +230,52 @@ none_is times listed are none = sym (go (least_time times) refl)
 pub empty_from_length : {X : Type 0} (xs : List X) → (0 < length xs → false ≡ true) → xs ≡ []
 empty_from_length [] h = refl
 empty_from_length (x ∷ xs) h = let k = h (omega arith) in absurd (cc)
+
+-- ---- a number at a time
+
+le_zero : (time n : ℕ) → IsLeBy timed_cmp (time, 0) (time, n)
+le_zero time n = go (nat_cmp time time) (eq_nat time time ∙ (let k : nat_eq time time ≡ true = grind (arith, nat_tests) in k)) (nat_cmp 0 n) (low n)
+  where
+    low : (n : ℕ) → is_gt (nat_cmp 0 n) ≡ false
+    low n = grind (arith, nat_tests)
+
+    go : (r : Ordering) → is_eq r ≡ true → (s : Ordering) → is_gt s ≡ false → is_gt (ordering_then r s) ≡ false
+    go Less e s l = absurd (cc)
+    go Equal e s l = l
+    go Greater e s l = absurd (cc)
+
+module _ (times : List (Option ℕ)) (listed : BTreeSet (ℕ × ℕ)) (are : AreListed times listed) (time : ℕ) where
+  listed_at : (n : ℕ) → slice_get times n ≡ Some (Some time) → has_time listed time n ≡ true
+  listed_at n at = are.exact time n ∙ ap (stands_at time) at ∙ is_this time (Some time) refl
+
+  pub first_at : (first number : ℕ) (rest : List (ℕ × ℕ)) → set.IsKeyRangeOf timed_cmp (Included (time, 0)) Unbounded listed ((first, number) ∷ rest) → nat_eq first time ≡ true →
+      slice_get times number ≡ Some (Some time)
+  first_at first number rest range same =
+      let k : first ≡ time = grind (arith, nat_tests) in
+      stands_there times listed are time number (subst (λ t. has_time listed t number ≡ true) k range.1.1)
+
+  pub none_at_other : (first number : ℕ) (rest : List (ℕ × ℕ)) → set.IsKeyRangeOf timed_cmp (Included (time, 0)) Unbounded listed ((first, number) ∷ rest) → nat_eq first time ≡ false →
+      (n : ℕ) → slice_get times n ≡ Some (Some time) → ⊥
+  none_at_other first number rest range apart n at =
+      let from : time ≤ first = not_above time first (nat_cmp 0 number) range.1.0.0 in
+      let most : first ≤ time = not_above first time (nat_cmp number n) (range.2 (time, n) (le_zero time n, tt) (listed_at n at)) in
+      let m : nat_eq first time ≡ true = grind (arith, nat_tests) in cc
+
+  pub none_at_all : set.IsKeyRangeOf timed_cmp (Included (time, 0)) Unbounded listed [] → (n : ℕ) → slice_get times n ≡ Some (Some time) → ⊥
+  none_at_all range n at = let k = range.5 refl (time, n) (le_zero time n, tt) in let m = listed_at n at in cc
+
+-- no number has a time that is not before the least and is not the least
+pub none_at_least : (times : List (Option ℕ)) (now time : ℕ) → Some time ≡ least_time times → nat_eq time now ≡ false → IsUpToTime now (least_time times) →
+    (n : ℕ) → slice_get times n ≡ Some (Some now) → ⊥
+none_at_least times now time is apart up n at =
+    let r = hit times n now (ap (stands_at now) at ∙ is_this now (Some now) refl) in
+    let k : Some time ≡ Some r.0 = is ∙ r.1 in
+    let m : time ≡ r.0 = cc in
+    let l = r.2 in
+    let u : now ≤ time = subst (λ o. IsUpToTime now o) (sym is) up in
+    let e : nat_eq time now ≡ true = grind (arith, nat_tests) in cc
+
+pub none_at_none : (times : List (Option ℕ)) (now : ℕ) → None ≡ least_time times → (n : ℕ) → slice_get times n ≡ Some (Some now) → ⊥
+none_at_none times now is n at =
+    let r = hit times n now (ap (stands_at now) at ∙ is_this now (Some now) refl) in
+    let k : None ≡ Some r.0 = is ∙ r.1 in cc

@@ -1,24 +1,25 @@
 -- The indexes and the kept wake times after one task was put.
-use Rattle.std.proofs.Common.{◌≡◌, ◌⊎◌, inl, inr, ℕ, zero, suc, ◌<◌, ◌≤◌, Bool, true, false, cond, List, [], ◌∷◌, ◌++◌, length, Option, Some, None, refl, sym, ap, ◌∙◌, arith, subst, nat_eq, if◌then◌else◌}
+use Rattle.std.proofs.Common.{◌≡◌, ◌⊎◌, inl, inr, ℕ, zero, suc, ◌≤◌, Bool, true, false, cond, ◌&&◌, ◌||◌, List, [], ◌∷◌, length, Option, Some, None, IsTrue, refl, sym, ap, ◌∙◌, arith, subst, nat_eq, if◌then◌else◌}
 use Rattle.std.proofs.lemmas.Bool.Decides.{nat_tests}
-use Rattle.std.proofs.lemmas.List.Elements.{Contains-push, Contains-append_left}
 use Rattle.std.specs.Cmp.Lexicographic.{pointwise}
 use Rattle.std.specs.BTreeMap.{BTreeMap, is_at}
 use Rattle.std.specs.BTreeMap as map_
 use Rattle.std.specs.BTreeSet as set
 use Rattle.std.specs.BTreeSet.{BTreeSet}
-use Rattle.std.specs.List.{slice_get, Contains}
-use Rattle.aerie_base.specs.Paths.{path_cmp}
+use Rattle.std.specs.List.{slice_get}
+use Rattle.aerie_base.specs.Paths.{path_cmp, is_path}
+use Rattle.aerie_base.specs.declared.plans.Edge.{Edge}
+use Rattle.aerie_base.specs.declared.plans.Edge.TheVariants.{Start, End}
 use Rattle.effect_cells.specs.declared.effects.CellState.{CellState}
 use Rattle.run_data.specs.Endings.{is_open}
 use Rattle.run_data.specs.Tasks.{TaskPhase, anchored, ready, delayed, waiting, calling, over, Task, Table, task_at}
 use Rattle.run_data.specs.laws.EndedTasks.{open_is}
-use Rattle.run_data.specs.laws.NextTimes.{delay_in, wake_in}
+use Rattle.run_data.specs.laws.NextTimes.{delay_in}
 use Rattle.run_data.specs.laws.NumberedTasks.{sorted_tasks, Distinct}
 use Rattle.run_data.specs.laws.ReadyTasks.{is_ready_phase, number_of_path}
-use Rattle.engine_core.specs.Phases.{is_waiting}
+use Rattle.engine_core.specs.Phases.{is_waiting, followed_id}
 use Rattle.engine_core.specs.Times.{put_at}
-use Rattle.engine_core.specs.TasksByNumber.{put_task, number_for, delays_of, has_path, AreIndexed, Tracked, IsWatched, IsKept, AreKept}
+use Rattle.engine_core.specs.TasksByNumber.{put_task, number_for, delays_of, anchors_of, has_path, AreFollowed, HavePaths, AreIndexed, Tracked, has_number, IsWatched, IsKept, AreKept}
 use Rattle.engine_core.proofs.PathTables.{is_same, at_with}
 use Rattle.engine_core.proofs.PutTasks.{flip, table_put, get_put, delays_put, number_at, number_same, number_most}
 
@@ -142,58 +143,86 @@ module _ (tasks : Table) (delays delays' : List (Option ℕ)) (opens opens' : BT
 
 -- ---- kept wake times
 
-pub kept_put : (old new : Tracked) (path : List ℕ) (task : Task) (number : ℕ) → Distinct old.tasks → length old.wakes ≡ length old.tasks → number ≡ number_for old.tasks path →
-    new.tasks ≡ put_task old.tasks path task → new.wakes ≡ put_at old.wakes number None →
-    new.stale ≡ (if is_waiting task.phase then old.stale ++ number ∷ [] else old.stale) → new.watchers ≡ old.watchers →
-    (now horizon : ℕ) (cells : List CellState) → AreKept now horizon cells old → AreKept now horizon cells new
-kept_put old new path task number distinct long is tasks_is wakes_is stale_is watchers_is now horizon cells kept n p one at =
-    by (nat_eq (number_for old.tasks path) n) refl (sym (get_put old.tasks path task n) ∙ sym (ap (λ (ts : Table). slice_get ts n) tasks_is) ∙ at)
+module _ (now horizon : ℕ) (cells : List CellState) (old new : Tracked) (path : List ℕ) (task : Task) (number : ℕ) (distinct : Distinct old.tasks) (long : length old.wakes ≡ length old.tasks)
+    (is : number ≡ number_for old.tasks path) (tasks_is : new.tasks ≡ put_task old.tasks path task) (wakes_is : new.wakes ≡ put_at old.wakes number None)
+    (stale_is : (n : ℕ) → has_number new.stale n ≡ (has_number old.stale n || (is_waiting task.phase && nat_eq number n))) (watchers_is : new.watchers ≡ old.watchers)
+    (kept : AreKept now horizon cells old) where
+  abbrev Kept : ℕ → TaskPhase → Type 0
+  Kept n phase = (has_number new.stale n ≡ true) ⊎ IsKept now horizon cells new.wakes new.watchers n phase
+
+  wakes_at : (n : ℕ) → slice_get new.wakes n ≡ cond (nat_eq number n) (Some None) (slice_get old.wakes n)
+  wakes_at n = ap (λ (ws : List (Option ℕ)). slice_get ws n) wakes_is ∙ get_put_at old.wakes number n None (let m = number_most old.tasks path in omega (arith, long, is, m))
+
+  stays : (n : ℕ) → has_number old.stale n ≡ true → has_number new.stale n ≡ true
+  stays n has = stale_is n ∙ ap (λ b. b || (is_waiting task.phase && nat_eq number n)) has
+
+  either : (a : Bool) → (a || true) ≡ true
+  either true = refl
+  either false = refl
+
+  fresh : (n : ℕ) → nat_eq number n ≡ true → Kept n task.phase
+  fresh n same = go task.phase refl
+    where
+      none : slice_get new.wakes n ≡ Some None
+      none = wakes_at n ∙ ap (λ b. cond b (Some None) (slice_get old.wakes n)) same
+
+      go : (phase : TaskPhase) → task.phase ≡ phase → Kept n phase
+      go (waiting condition state) e =
+          inl (stale_is n ∙ ap (λ p. has_number old.stale n || (is_waiting p && nat_eq number n)) e ∙ ap (λ b. has_number old.stale n || (true && b)) same ∙ either (has_number old.stale n))
+      go (anchored to edge start state) e = inr (record { wake = none; watched = tt })
+      go (ready state) e = inr (record { wake = none; watched = tt })
+      go (delayed until state) e = inr (record { wake = none; watched = tt })
+      go (calling child into state) e = inr (record { wake = none; watched = tt })
+      go (over result) e = inr (record { wake = none; watched = tt })
+
+  apart : (n : ℕ) (phase : TaskPhase) → nat_eq number n ≡ false → (has_number old.stale n ≡ true) ⊎ IsKept now horizon cells old.wakes old.watchers n phase → Kept n phase
+  apart n phase e (inl has) = inl (stays n has)
+  apart n phase e (inr right) = inr (record {
+    wake = wakes_at n ∙ ap (λ b. cond b (Some None) (slice_get old.wakes n)) e ∙ right.wake;
+    watched = subst (λ (ws : List (List ℕ)). IsWatched ws n phase) (sym watchers_is) right.watched;
+  })
+
+  each : (n : ℕ) (p : List ℕ) (one : Task) → slice_get new.tasks n ≡ Some (p, one) → Kept n one.phase
+  each n p one at =
+      by (nat_eq (number_for old.tasks path) n) refl (sym (get_put old.tasks path task n) ∙ sym (ap (λ (ts : Table). slice_get ts n) tasks_is) ∙ at)
+    where
+      by : (b : Bool) → nat_eq (number_for old.tasks path) n ≡ b → cond b (Some (path, task)) (slice_get old.tasks n) ≡ Some (p, one) → Kept n one.phase
+      by true e f =
+          let both : (path, task) ≡ (p, one) = cc in
+          let t : task ≡ one = ap (λ (z : List ℕ × Task). z.1) both in
+          let m : nat_eq number n ≡ true = (let i = is in grind (arith, nat_tests)) in
+          subst (λ (z : Task). Kept n z.phase) t (fresh n m)
+      by false e f = apart n one.phase (let i = is in grind (arith, nat_tests)) (kept.each n p one f)
+
+  pub kept_put : AreKept now horizon cells new
+  kept_put = record { each = each; by_cell = ap length watchers_is ∙ kept.by_cell }
+
+-- ---- anchors and paths
+
+pub anchors_put : (edge : Edge) (tasks : Table) (path : List ℕ) (task : Task) →
+    anchors_of edge (put_task tasks path task) ≡ put_at (anchors_of edge tasks) (number_for tasks path) (followed_id edge task.phase)
+anchors_put edge [] path task = refl
+anchors_put edge (entry ∷ rest) path task = by (pointwise nat_eq path entry.0) (anchors_put edge rest path task)
   where
-    Kept : TaskPhase → Type 0
-    Kept phase = Contains new.stale n ⊎ IsKept now horizon cells new.wakes new.watchers n phase
+    by : (b : Bool) → anchors_of edge (put_task rest path task) ≡ put_at (anchors_of edge rest) (number_for rest path) (followed_id edge task.phase) →
+        anchors_of edge (cond b ((entry.0, task) ∷ rest) (entry ∷ put_task rest path task)) ≡ put_at (anchors_of edge (entry ∷ rest)) (cond b zero (suc (number_for rest path))) (followed_id edge task.phase)
+    by true further = refl
+    by false further = ap (λ ds. followed_id edge entry.1.phase ∷ ds) further
 
-    wakes_at : slice_get new.wakes n ≡ cond (nat_eq number n) (Some None) (slice_get old.wakes n)
-    wakes_at = ap (λ (ws : List (Option ℕ)). slice_get ws n) wakes_is ∙ get_put_at old.wakes number n None (let m = number_most old.tasks path in omega (arith, long, is, m))
+pub anchors_long : (edge : Edge) (tasks : Table) → length (anchors_of edge tasks) ≡ length tasks
+anchors_long edge [] = refl
+anchors_long edge (entry ∷ rest) = ap suc (anchors_long edge rest)
 
-    stays : Contains old.stale n → Contains new.stale n
-    stays has = subst (λ (ns : List ℕ). Contains ns n) (sym stale_is) (go (is_waiting task.phase))
-      where
-        go : (b : Bool) → Contains (if b then old.stale ++ number ∷ [] else old.stale) n
-        go true = Contains-append_left old.stale (number ∷ []) n has
-        go false = has
+pub followed_put : (tasks : Table) (path : List ℕ) (task : Task) (number : ℕ) (starts ends starts_now ends_now : List (Option ℕ)) → number ≡ number_for tasks path → AreFollowed tasks starts ends →
+    starts_now ≡ put_at starts number (followed_id Start task.phase) → ends_now ≡ put_at ends number (followed_id End task.phase) → AreFollowed (put_task tasks path task) starts_now ends_now
+followed_put tasks path task number starts ends starts_now ends_now is followed starts_are ends_are = record {
+  at_start = starts_are ∙ (λ i. put_at (followed.at_start i) (is i) (followed_id Start task.phase)) ∙ sym (anchors_put Start tasks path task);
+  at_end = ends_are ∙ (λ i. put_at (followed.at_end i) (is i) (followed_id End task.phase)) ∙ sym (anchors_put End tasks path task);
+}
 
-    fresh : (phase : TaskPhase) → task.phase ≡ phase → nat_eq number n ≡ true → Kept phase
-    fresh phase e same = go phase e
-      where
-        none : slice_get new.wakes n ≡ Some None
-        none = wakes_at ∙ (let k = same in rw k refl)
-
-        go : (phase : TaskPhase) → task.phase ≡ phase → Kept phase
-        go (waiting condition state) e =
-            let m : number ≡ n = grind (arith, nat_tests) in
-            let w : is_waiting task.phase ≡ true = ap is_waiting e in
-            inl (subst (λ (ns : List ℕ). Contains ns n) (sym stale_is)
-            (let k = w in rw k (subst (λ i. Contains (old.stale ++ number ∷ []) i) m (Contains-push old.stale number))))
-        go (anchored to edge start state) e = inr (record { wake = none; watched = tt })
-        go (ready state) e = inr (record { wake = none; watched = tt })
-        go (delayed until state) e = inr (record { wake = none; watched = tt })
-        go (calling child into state) e = inr (record { wake = none; watched = tt })
-        go (over result) e = inr (record { wake = none; watched = tt })
-
-    by : (b : Bool) → nat_eq (number_for old.tasks path) n ≡ b → cond b (Some (path, task)) (slice_get old.tasks n) ≡ Some (p, one) → Kept one.phase
-    by true e f =
-        let both : (path, task) ≡ (p, one) = cc in
-        let t : task ≡ one = ap (λ (z : List ℕ × Task). z.1) both in
-        let m : nat_eq number n ≡ true = (let i = is in grind (arith, nat_tests)) in
-        subst (λ (z : Task). Kept z.phase) t (fresh task.phase refl m)
-    by false e f = go (kept n p one f)
-      where
-        apart : nat_eq number n ≡ false
-        apart = let i = is in grind (arith, nat_tests)
-
-        go : Contains old.stale n ⊎ IsKept now horizon cells old.wakes old.watchers n one.phase → Kept one.phase
-        go (inl has) = inl (stays has)
-        go (inr right) = inr (record {
-          wake = wakes_at ∙ (let k = apart in rw k right.wake);
-          watched = subst (λ (ws : List (List ℕ)). IsWatched ws n one.phase) (sym watchers_is) right.watched;
-        })
+pub paths_put : (tasks : Table) (path : List ℕ) (task : Task) → IsTrue (is_path path) → HavePaths tasks → HavePaths (put_task tasks path task)
+paths_put tasks path task is paths n p one at = by (nat_eq (number_for tasks path) n) (sym (get_put tasks path task n) ∙ at)
+  where
+    by : (b : Bool) → cond b (Some (path, task)) (slice_get tasks n) ≡ Some (p, one) → IsTrue (is_path p)
+    by true f = let both : (path, task) ≡ (p, one) = cc in subst (λ (q : List ℕ). IsTrue (is_path q)) (ap (λ (z : List ℕ × Task). z.0) both) is
+    by false f = paths n p one f

@@ -1,28 +1,18 @@
 -- One task put by its path, as it is by number.
-use Rattle.std.proofs.Common.{◌≡◌, ◌⊎◌, inl, inr, ℕ, zero, suc, ◌+◌, ◌<◌, ◌≤◌, Bool, true, false, cond, not, List, [], ◌∷◌, ◌++◌, map, length, Option, Some, None, refl, sym, ap, ◌∙◌, arith, subst, nat_eq, position, is_some, nat_lt, if◌then◌else◌}
+use Rattle.std.proofs.Common.{◌≡◌, ℕ, zero, suc, ◌+◌, ◌≤◌, Bool, true, false, cond, not, List, [], ◌∷◌, length, Option, Some, None, refl, sym, ap, ◌∙◌, arith, subst, nat_eq, position, is_some, nat_lt}
 use Rattle.std.proofs.lemmas.Bool.Decides.{nat_tests}
-use Rattle.std.proofs.lemmas.List.Elements.{Contains-append_right, Contains-push}
 use Rattle.std.specs.Cmp.Lexicographic.{pointwise, texts_ties}
 use Rattle.std.specs.Ordering.{is_eq}
-use Rattle.std.specs.BTreeMap.{BTreeMap, is_at}
-use Rattle.std.specs.BTreeMap as map_
-use Rattle.std.specs.BTreeSet as set
-use Rattle.std.specs.BTreeSet.{BTreeSet}
-use Rattle.std.specs.List.{slice_get, Contains, IsDistinct, AllByRecursion, position_or_len}
+use Rattle.std.specs.BTreeMap.{is_at}
+use Rattle.std.specs.List.{slice_get, IsDistinct, AllByRecursion, position_or_len}
 use Rattle.std.specs.Option.{IfSome}
 use Rattle.std.specs.Map.{keys_of, lookup}
 use Rattle.aerie_base.specs.Paths.{path_cmp}
-use Rattle.effect_cells.specs.declared.effects.CellState.{CellState}
-use Rattle.run_data.specs.Endings.{is_open}
-use Rattle.run_data.specs.Tasks.{TaskPhase, anchored, ready, delayed, waiting, calling, over, Task, Table, task_at, with_task}
-use Rattle.run_data.specs.laws.EndedTasks.{open_is}
-use Rattle.run_data.specs.laws.NextTimes.{delay_in, wake_in}
+use Rattle.run_data.specs.Tasks.{Task, Table, task_at, with_task}
+use Rattle.run_data.specs.laws.NextTimes.{delay_in}
 use Rattle.run_data.specs.laws.NumberedTasks.{sorted_tasks, Distinct}
-use Rattle.run_data.specs.laws.ReadyTasks.{is_ready_phase, number_of_path, HasReadyTasks}
-use Rattle.engine_core.specs.Phases.{is_waiting}
 use Rattle.engine_core.specs.Times.{put_at}
-use Rattle.engine_core.specs.TasksByNumber.{put_task, number_for, delays_of, has_path, AreIndexed, Tracked, IsWatched, IsKept, AreKept}
-use Rattle.engine_core.proofs.ListedTimes.{get_push}
+use Rattle.engine_core.specs.TasksByNumber.{put_task, number_for, delays_of}
 use Rattle.engine_core.proofs.PathTables.{path_itself, is_same, with_twice, with_with, at_with, at_number}
 
 -- ---- equal paths

@@ -1,5 +1,5 @@
 -- The tasks whose delay ends, one after another.
-use Rattle.std.proofs.Common.{◌≡◌, ℕ, zero, suc, ◌+◌, ◌<◌, ◌≤◌, min, Bool, true, false, cond, List, [], ◌∷◌, length, Option, Some, None, refl, sym, ap, ◌∙◌, arith, subst, nat_eq, slice_set, if◌then◌else◌}
+use Rattle.std.proofs.Common.{◌≡◌, ℕ, zero, suc, ◌+◌, ◌<◌, ◌≤◌, Bool, true, false, cond, List, [], ◌∷◌, length, Option, Some, None, refl, sym, ap, ◌∙◌, arith, subst, nat_eq, slice_set, if◌then◌else◌}
 use Rattle.std.proofs.lemmas.Bool.Decides.{nat_tests}
 use Rattle.std.specs.Cmp.Lexicographic.{pointwise}
 use Rattle.std.specs.List.{slice_get}
@@ -9,10 +9,12 @@ use Rattle.run_data.specs.Tasks.{TaskPhase, anchored, ready, delayed, waiting, c
 use Rattle.run_data.specs.laws.NextTimes.{delay_in, least_delay}
 use Rattle.run_data.specs.laws.NumberedTasks.{Distinct}
 use Rattle.engine_core.specs.Phases.{may_resume, gone_on_from}
-use Rattle.engine_core.specs.Times.{least_time, IsUpToTime, is_this_time, count_of_time}
+use Rattle.engine_core.specs.Times.{least_time, IsUpToTime, is_this_time, count_of_time, put_at}
 use Rattle.engine_core.specs.TasksByNumber.{put_task, number_for, delays_of, IsChange, resumed_task}
 use Rattle.engine_core.specs.declared.tasks.Changed.{Changed}
+use Rattle.engine_core.proofs.ListedTimes.{set_is_put}
 use Rattle.engine_core.proofs.PutTasks.{number_at}
+use Rattle.engine_core.proofs.Watchers.{set_past}
 
 pub least_of : (tasks : Table) → least_time (delays_of tasks) ≡ least_delay tasks
 least_of [] = refl
@@ -35,6 +37,11 @@ within [] n x at = absurd (cc)
 within (y ∷ ys) zero x at = omega arith
 within (y ∷ ys) (suc n) x at = let k = within ys n x at in omega (arith, k)
 
+none_past : (tasks : Table) (n : ℕ) → slice_get tasks n ≡ None → length tasks ≤ n
+none_past [] n e = omega arith
+none_past (entry ∷ rest) zero e = absurd (cc)
+none_past (entry ∷ rest) (suc n) e = let k = none_past rest n e in omega (arith, k)
+
 pub set_put : (tasks : Table) (n : ℕ) (path : List ℕ) (old task : Task) → Distinct tasks → slice_get tasks n ≡ Some (path, old) → put_task tasks path task ≡ slice_set tasks n (path, task)
 set_put tasks n path old task distinct at =
     let k = number_at tasks n path old distinct at in
@@ -48,6 +55,26 @@ pub change_put : (change : List ℕ → Task → Task) (tasks : Table) (n : ℕ)
 change_put change tasks n found changed path task distinct is found_is at =
     let both = subst (λ o. IsChange change o (Some changed)) at (subst (λ f. IsChange change (slice_get tasks n) f) found_is is) in
     (λ i. put_task tasks (both.0 i) (both.1 i)) ∙ set_put tasks n path task (change path task) distinct at
+
+-- its wake time is set to none
+pub wakes_put : (wakes : List (Option ℕ)) (tasks : Table) (n : ℕ) (found : Option Changed) (changed : Changed) → Distinct tasks → length wakes ≡ length tasks →
+    IsChange (λ path task. resumed_task task) (slice_get tasks n) found → found ≡ Some changed → put_at wakes (number_for tasks changed.path) None ≡ slice_set wakes n None
+wakes_put wakes tasks n found changed distinct long is found_is = go (slice_get tasks n) refl (subst (λ f. IsChange (λ path task. resumed_task task) (slice_get tasks n) f) found_is is)
+  where
+    go : (o : Option (List ℕ × Task)) → slice_get tasks n ≡ o → IsChange (λ path task. resumed_task task) o (Some changed) → put_at wakes (number_for tasks changed.path) None ≡ slice_set wakes n None
+    go None e i = absurd i
+    go (Some entry) e i =
+        let k : number_for tasks changed.path ≡ n = ap (number_for tasks) i.0 ∙ number_at tasks n entry.0 entry.1 distinct e in
+        let w : n < length wakes = (let l = within tasks n entry e in omega (arith, l, long)) in
+        ap (λ m. put_at wakes m None) k ∙ sym (set_is_put wakes n None w)
+
+pub wakes_not_put : (wakes : List (Option ℕ)) (tasks : Table) (n : ℕ) (found : Option Changed) → length wakes ≡ length tasks →
+    IsChange (λ path task. resumed_task task) (slice_get tasks n) found → found ≡ None → wakes ≡ slice_set wakes n None
+wakes_not_put wakes tasks n found long is found_is = go (slice_get tasks n) refl (subst (λ f. IsChange (λ path task. resumed_task task) (slice_get tasks n) f) found_is is)
+  where
+    go : (o : Option (List ℕ × Task)) → slice_get tasks n ≡ o → IsChange (λ path task. resumed_task task) o None → wakes ≡ slice_set wakes n None
+    go None e i = sym (set_past wakes n None (let l = none_past tasks n e in omega (arith, l, long)))
+    go (Some entry) e i = absurd i
 
 pub each_set : (change : List ℕ → Task → Task) (tasks : Table) (n : ℕ) (path : List ℕ) (old new : Task) → slice_get tasks n ≡ Some (path, old) → change path new ≡ change path old →
     on_each change (slice_set tasks n (path, new)) ≡ on_each change tasks

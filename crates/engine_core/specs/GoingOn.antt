@@ -1,9 +1,13 @@
 -- How the engine lets tasks go on, one after another.
-use Rattle.std.specs.Prelude.{◌≡◌, ℕ, ◌<◌, List, Option, Some, None, length, slice_get, if◌then◌else◌}
+use Rattle.std.specs.Prelude.{◌≡◌, ◌⊎◌, ℕ, ◌<◌, ◌≤◌, true, List, Option, Some, None, length, slice_get, if◌then◌else◌}
+use Rattle.aerie_base.specs.Paths.{is_prefix, root}
+use Rattle.run_data.specs.declared.frames.Frame.{Frame}
 use Rattle.aerie_base.specs.declared.plans.Edge.{Edge}
-use Rattle.run_data.specs.Endings.{has_ended, result_of, has_come}
-use Rattle.run_data.specs.Tasks.{Task, Table, task_at, on_each}
-use Rattle.engine_core.specs.Phases.{returned_to, due_from}
+use Rattle.aerie_base.specs.declared.plans.Edge.TheVariants.{Start, End}
+use Rattle.run_data.specs.Endings.{has_ended, result_of, has_come, gone_on}
+use Rattle.run_data.specs.Tasks.{TaskPhase, Task, Table, task_at, on_each}
+use Rattle.run_data.specs.laws.GoingOn.{EndsAs, HasFrame, MayGoOnBy}
+use Rattle.engine_core.specs.Phases.{anchor_in, returned_to, due_from}
 use Rattle.engine_core.specs.declared.tasks.Changed.{Changed}
 
 -- a change of what is found at a number; nothing where it stays as it is
@@ -30,3 +34,42 @@ pub record AreChangedBelow (change : List ℕ → Task → Task) (number : ℕ) 
   pub same : on_each change tasks ≡ on_each change first
   pub long : length tasks ≡ length first
   pub below : (n : ℕ) (path : List ℕ) (task : Task) → n < number → slice_get tasks n ≡ Some (path, task) → change path task ≡ task
+
+-- ---- who goes on by a frame
+
+-- Of these tasks those of a kind have gone on: each that may go on did, or it stayed as it was and is not of the kind. They
+-- end, result and begin as before, and what is left to change is the same.
+pub record HaveGoneOn (of : List ℕ → TaskPhase → Type 0) (whole : Table) (now : ℕ) (before after : Table) : Type 0 where
+  pub ends : EndsAs whole after
+  pub same : on_each (gone_on whole now) after ≡ on_each (gone_on whole now) before
+  pub each : (number : ℕ) (path : List ℕ) (task : Task) → slice_get after number ≡ Some (path, task) →
+      (gone_on whole now path task ≡ task) ⊎ ((slice_get before number ≡ Some (path, task)) × (of path task.phase → ⊥))
+
+-- so they have of tasks that end as those of any table
+abbrev pub GoOnOf : (List ℕ → TaskPhase → Type 0) → ℕ → Table → Table → Type 0
+GoOnOf of now before after = (whole : Table) → EndsAs whole before → HaveGoneOn of whole now before after
+
+-- the task of a path
+abbrev pub IsAt : List ℕ → List ℕ → TaskPhase → Type 0
+IsAt path other phase = path ≡ other
+
+-- the task of a path or one that it is under
+abbrev pub IsAbove : List ℕ → List ℕ → TaskPhase → Type 0
+IsAbove path other phase = (is_prefix other path ≡ true) × (2 ≤ length other)
+
+-- a directive that is anchored to that edge of the one with an id
+abbrev pub IsAnchoredTo : ℕ → Edge → List ℕ → TaskPhase → Type 0
+IsAnchoredTo to edge path phase = anchor_in phase ≡ Some (record { to = to; edge = edge })
+
+-- who may go on by some frames: whom they let go on, and the tasks of the frames themselves
+abbrev pub MayGoOnAfter : List Frame → List ℕ → TaskPhase → Type 0
+MayGoOnAfter frames path phase = MayGoOnBy frames path phase ⊎ HasFrame path frames
+
+-- who may go on by any step of the task of a path: that task, and where it is that of a directive, those anchored to its start
+abbrev pub IsBegunBy : List ℕ → List ℕ → TaskPhase → Type 0
+IsBegunBy path other phase = IsAt path other phase ⊎ ((to : ℕ) × (path ≡ root to) × IsAnchoredTo to Start other phase)
+
+-- who may go on by a step that ends the body of the task of a path: a task that it is under, and who is anchored to the end of
+-- the directive that it comes from
+abbrev pub IsOverBy : List ℕ → List ℕ → TaskPhase → Type 0
+IsOverBy path other phase = IsAbove path other phase ⊎ ((to : ℕ) × (is_prefix (root to) path ≡ true) × IsAnchoredTo to End other phase)

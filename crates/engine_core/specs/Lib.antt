@@ -10,3 +10,5 @@ pub mod GoingOn
 pub mod Phases
 pub mod TasksByNumber
 pub mod Times
+pub mod Waking
+pub mod Watching

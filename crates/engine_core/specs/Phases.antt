@@ -3,7 +3,8 @@ use Rattle.std.specs.Prelude.{ℕ, Bool, true, false, Option, Some, None}
 use Rattle.aerie_base.specs.declared.values.Value.{Value}
 use Rattle.aerie_base.specs.declared.conditions.Cond.{Cond}
 use Rattle.aerie_base.specs.declared.plans.Anchor.{Anchor}
-use Rattle.run_data.specs.declared.tasks.TaskState.{TaskState}
+use Rattle.aerie_base.specs.declared.plans.Edge.{Edge}
+use Rattle.aerie_base.specs.declared.plans.Edge.TheVariants.{Start, End}
 use Rattle.run_data.specs.declared.frames.Item.{Item}
 use Rattle.run_data.specs.declared.frames.Item.TheVariants as item
 use Rattle.run_data.specs.Tasks.{TaskPhase, anchored, ready, delayed, waiting, calling, over, after_delay}
@@ -54,6 +55,21 @@ anchor_in (delayed until state) = None
 anchor_in (waiting condition state) = None
 anchor_in (calling child into state) = None
 anchor_in (over result) = None
+
+-- the id that an anchor names, if it is at the edge that is wanted
+abbrev pub id_at_edge : Edge → Edge → ℕ → Option ℕ
+id_at_edge Start Start to = Some to
+id_at_edge End End to = Some to
+id_at_edge Start End to = None
+id_at_edge End Start to = None
+
+abbrev pub id_of_anchor : Edge → Option Anchor → Option ℕ
+id_of_anchor wanted None = None
+id_of_anchor wanted (Some anchor) = id_at_edge wanted anchor.edge anchor.to
+
+-- the id of the directive to which a task is anchored at that edge
+abbrev pub followed_id : Edge → TaskPhase → Option ℕ
+followed_id wanted phase = id_of_anchor wanted (anchor_in phase)
 
 -- whether a task is delayed or waits
 abbrev pub may_resume : TaskPhase → Bool

@@ -1,18 +1,21 @@
 -- Tasks by number, in the order in which they came, with the indexes that the engine keeps of them.
-use Rattle.std.specs.Prelude.{◌≡◌, ◌⊎◌, ℕ, zero, suc, ◌<◌, ◌^◌, Bool, true, List, [], ◌∷◌, map, Option, Some, None, cond, length, slice_get}
-use Rattle.std.specs.List.{Contains}
+use Rattle.std.specs.Prelude.{◌≡◌, ◌⊎◌, ℕ, zero, suc, ◌<◌, ◌^◌, Bool, true, false, IsTrue, List, [], ◌∷◌, map, Option, Some, None, cond, length, slice_get}
+use Rattle.std.specs.List.{list_any}
 use Rattle.std.specs.Cmp.Lexicographic.{pointwise}
 use Rattle.std.specs.Prelude.{nat_eq}
-use Rattle.std.specs.BTreeMap.{BTreeMap}
+use Rattle.std.specs.Ordering.{nat_cmp}
+use Rattle.std.specs.BTreeMap.{BTreeMap, is_at}
 use Rattle.std.specs.BTreeMap as map_
 use Rattle.std.specs.BTreeSet as set
 use Rattle.std.specs.BTreeSet.{BTreeSet}
 use Rattle.indexmap.specs.IndexMap.{insert_entry}
-use Rattle.aerie_base.specs.Paths.{path_cmp}
+use Rattle.aerie_base.specs.Paths.{path_cmp, is_path}
+use Rattle.aerie_base.specs.declared.plans.Edge.{Edge}
+use Rattle.aerie_base.specs.declared.plans.Edge.TheVariants.{Start, End}
 use Rattle.effect_cells.specs.declared.effects.CellState.{CellState}
 use Rattle.effect_cells.specs.ReadCells.{reads_cell}
-use Rattle.run_data.specs.Endings.{is_open}
-use Rattle.engine_core.specs.Phases.{gone_on_from}
+use Rattle.effect_cells.specs.TouchedCells.{is_cell_among}
+use Rattle.engine_core.specs.Phases.{gone_on_from, followed_id}
 use Rattle.engine_core.specs.declared.tasks.Changed.{Changed}
 use Rattle.run_data.specs.Tasks.{TaskPhase, anchored, ready, delayed, waiting, calling, over, Task, Table, task_at, children_made}
 use Rattle.run_data.specs.laws.EndedTasks.{open_is}
@@ -65,7 +68,25 @@ pub record AreIndexed (tasks : Table) (delays : List (Option ℕ)) (opens : BTre
   pub ready_all : (path : List ℕ) (number : ℕ) (task : Task) → slice_get tasks number ≡ Some (path, task) → is_ready_phase task.phase ≡ true →
       number_of_path readies path ≡ Some number
 
+-- ---- anchors and paths
+
+abbrev pub anchors_of : Edge → Table → List (Option ℕ)
+anchors_of edge tasks = map (λ entry. followed_id edge entry.1.phase) tasks
+
+-- by number the ids of the directives to whose start a task is anchored, and to whose end
+pub record AreFollowed (tasks : Table) (starts ends : List (Option ℕ)) : Type 0 where
+  pub at_start : starts ≡ anchors_of Start tasks
+  pub at_end : ends ≡ anchors_of End tasks
+
+-- each path is one
+abbrev pub HavePaths : Table → Type 0
+HavePaths tasks = (number : ℕ) (path : List ℕ) (task : Task) → slice_get tasks number ≡ Some (path, task) → IsTrue (is_path path)
+
 -- ---- kept wake times
+
+-- a number is among some
+abbrev pub has_number : List ℕ → ℕ → Bool
+has_number numbers number = list_any (is_at (nat_cmp number)) numbers
 
 -- The tasks; the wake times that are kept, by number; the numbers of those whose wake time is to be found anew; and by
 -- cell the numbers of tasks that may wait for what it has.
@@ -75,10 +96,18 @@ pub record Tracked : Type 0 where
   pub stale : List ℕ
   pub watchers : List (List ℕ)
 
+abbrev pub has_number_if_any : Option (List ℕ) → ℕ → Bool
+has_number_if_any None number = false
+has_number_if_any (Some numbers) number = has_number numbers number
+
+-- a number stands among those of a cell
+abbrev pub is_watching : List (List ℕ) → ℕ → ℕ → Bool
+is_watching watchers cell number = has_number_if_any (slice_get watchers cell) number
+
 -- a number stands among those of each cell that a condition reads
 abbrev pub IsWatched : List (List ℕ) → ℕ → TaskPhase → Type 0
 IsWatched watchers number (waiting condition state) =
-    (cell : ℕ) → reads_cell condition cell ≡ true → cell < length watchers → (numbers : List ℕ) × (slice_get watchers cell ≡ Some numbers) × Contains numbers number
+    (cell : ℕ) → reads_cell condition cell ≡ true → cell < length watchers → is_watching watchers cell number ≡ true
 IsWatched watchers number (anchored to edge start state) = Unit {0}
 IsWatched watchers number (ready state) = Unit {0}
 IsWatched watchers number (delayed until state) = Unit {0}
@@ -90,8 +119,17 @@ pub record IsKept (now horizon : ℕ) (cells : List CellState) (wakes : List (Op
   pub wake : slice_get wakes number ≡ Some (wake_in now horizon cells phase)
   pub watched : IsWatched watchers number phase
 
--- the wake time of each task is right, unless it is to be found anew
-abbrev pub AreKept : ℕ → ℕ → List CellState → Tracked → Type 0
-AreKept now horizon cells tracked =
-    (number : ℕ) (path : List ℕ) (task : Task) → slice_get tracked.tasks number ≡ Some (path, task) →
-    Contains tracked.stale number ⊎ IsKept now horizon cells tracked.wakes tracked.watchers number task.phase
+-- the wake time of each task is right, unless it is to be found anew; there are watchers for each cell
+pub record AreKept (now horizon : ℕ) (cells : List CellState) (tracked : Tracked) : Type 0 where
+  pub each : (number : ℕ) (path : List ℕ) (task : Task) → slice_get tracked.tasks number ≡ Some (path, task) →
+      (has_number tracked.stale number ≡ true) ⊎ IsKept now horizon cells tracked.wakes tracked.watchers number task.phase
+  pub by_cell : length tracked.watchers ≡ length cells
+
+-- and none is to be found anew
+abbrev pub AreFound : ℕ → ℕ → List CellState → Tracked → Type 0
+AreFound now horizon cells tracked = AreKept now horizon cells tracked × (tracked.stale ≡ [])
+
+-- cells that are not among these have the same state in both
+pub record AgreeBut (touched : List ℕ) (cells others : List CellState) : Type 0 where
+  pub same : (cell : ℕ) → is_cell_among cell touched ≡ false → slice_get cells cell ≡ slice_get others cell
+  pub long : length others ≡ length cells

@@ -1,19 +1,46 @@
 //! Callers and anchored directives after a batch.
 
-ghost use Rattle.std.specs.Prelude.{◌≡◌, ℕ, List, Some, None, slice_get, slice_set, IfOk};
-ghost use Rattle.aerie_base.specs.Paths.{child_path};
+ghost use Rattle.std.specs.Prelude.{◌≡◌, ℕ, List, [], ◌∷◌, true, false, is_some, Some, None, slice_get, slice_set, IfOk};
+ghost use Rattle.aerie_base.specs.Paths.{child_path, comes_from_daemon, id_of, may_have_children, path_of};
 ghost use Rattle.effect_cells.specs.declared.effects.CellState.{CellState};
-ghost use Rattle.run_data.specs.Endings.{result_of, has_begun, has_come, gone_on};
-ghost use Rattle.run_data.specs.Tasks.{Task, task_at, on_each};
+ghost use Rattle.run_data.specs.Endings.{result_of, has_begun, has_come, gone_on, after_batch};
+ghost use Rattle.run_data.specs.Tasks.{Task, task_at, after_frames};
+ghost use Rattle.run_data.specs.laws.EndedTasks.{is_open_status};
+ghost use Rattle.run_data.specs.laws.GoingOn.{AllQuiet};
 ghost use Rattle.run_data.specs.laws.NumberedTasks.{sorted_tasks};
-ghost use Rattle.engine_core.specs.TasksByNumber.{AreKept};
-ghost use Rattle.engine_core.specs.GoingOn.{GoesOnAs, returning, falling_due};
+ghost use Rattle.engine_core.specs.TasksByNumber.{AreKept, AgreeBut, MadeIsSmall};
+ghost use Rattle.engine_core.specs.Phases.{anchor_in, callee_in};
+ghost use Rattle.engine_core.specs.GoingOn.{GoesOnAs, GoOnOf, IsAbove, IsAnchoredTo, IsAt, IsBegunBy, IsOverBy, MayGoOnAfter, returning, falling_due};
 
 use crate::phases::TrackedTask;
 use crate::tasks::{Changed, IndexedTasks};
 use aerie_base::{Anchor, Edge, OutOfMemory, Path, Time, Value};
-use run_data::laws::{tasks_go_on_in_turn, tasks_stand_by_number};
+use run_data::laws::{endings_go_by_open_bodies, tasks_go_on_in_turn, tasks_stand_by_number};
+use run_data::{Frame, Status};
 use std::alloc::Global;
+
+/// The directive or daemon that a task comes from.
+fn root_of(alloc: Global, path: &Path) -> Result<Path, OutOfMemory>
+    ensures { IfOk result (λ root. root ≡ path_of (comes_from_daemon path.now) (id_of path.now) []) }
+{
+    if path.daemon() {
+        return Path::of_daemon(alloc, path.id());
+    }
+    Path::of_directive(alloc, path.id())
+}
+
+/// Whether a body is open after a step that ended so.
+fn is_open_status(status: &Status) -> bool
+    ensures { result ≡ is_open_status status.now }
+{
+    match status {
+        Status::Delayed { .. } => true,
+        Status::Waiting { .. } => true,
+        Status::Calling { .. } => true,
+        Status::Done(_) => false,
+        Status::Faulted(_) => false,
+    }
+}
 
 impl IndexedTasks {
     /// What the task of a path returned, where it has ended.
@@ -55,6 +82,7 @@ impl IndexedTasks {
         task: &TrackedTask,
         callee: &Path,
     ) -> Result<Option<Changed>, OutOfMemory>
+        requires { is_some (callee_in task.now.phase) ≡ true }
         ensures { IfOk result (λ changed. changed ≡ returning (sorted_tasks self.now.tasks) path.now task.now callee.now) }
     {
         if !self.has_ended(callee) {
@@ -66,7 +94,7 @@ impl IndexedTasks {
         }))
     }
 
-    /// The same by the number of the callee. A caller has made it, so that its path is not too long.
+    /// The same by the number of the callee.
     fn caller_gone_on(
         &self,
         alloc: Global,
@@ -74,12 +102,33 @@ impl IndexedTasks {
         task: &TrackedTask,
         child: u32,
     ) -> Result<Option<Changed>, OutOfMemory>
+        requires { is_some (callee_in task.now.phase) ≡ true }
         ensures { IfOk result (λ changed. changed ≡ returning (sorted_tasks self.now.tasks) path.now task.now (child_path path.now child)) }
     {
         match path.child(alloc, child)? {
             Some(callee) => self.returned(alloc, path, task, &callee),
-            None => Err(OutOfMemory),
+            None => self.returned_nothing(alloc, path, task),
         }
+    }
+
+    /// A caller as it goes on whose path has no room for a child, so that there is no callee.
+    fn returned_nothing(
+        &self,
+        alloc: Global,
+        path: &Path,
+        task: &TrackedTask,
+    ) -> Result<Option<Changed>, OutOfMemory>
+        requires calls { is_some (callee_in task.now.phase) ≡ true }
+        requires full { may_have_children path.now ≡ false }
+        ensures { IfOk result (λ changed. (child : ℕ) → changed ≡ returning (sorted_tasks self.now.tasks) path.now task.now (child_path path.now child)) }
+    {
+        endings_go_by_open_bodies();
+        self.note_distinct();
+        let _ = path.children();
+        Ok(Some(Changed {
+            path: path.copy(alloc)?,
+            task: task.returned(alloc, None)?,
+        }))
     }
 
     /// An anchored directive with its due time, if its anchor has come.
@@ -91,6 +140,7 @@ impl IndexedTasks {
         task: &TrackedTask,
         anchor: Anchor,
     ) -> Result<Option<Changed>, OutOfMemory>
+        requires { is_some (anchor_in task.now.phase) ≡ true }
         ensures { IfOk result (λ changed. changed ≡ falling_due (sorted_tasks self.now.tasks) now path.now task.now anchor.to anchor.edge) }
     {
         if !self.has_come(alloc, anchor.to, anchor.edge)? {
@@ -149,18 +199,171 @@ impl IndexedTasks {
         }
     }
 
-    /// Lets all callers go on whose callee has ended, and all anchored directives whose anchor has come.
-    pub(crate) fn go_on_all(self, alloc: Global, now: Time) -> Result<IndexedTasks, OutOfMemory>
-        ensures table { IfOk result (λ all. sorted_tasks all.tasks ≡ on_each (gone_on (sorted_tasks self.tasks) now) (sorted_tasks self.tasks)) }
+    /// Lets the task of a path go on, if it does.
+    fn go_on_at(self, alloc: Global, now: Time, path: &Path) -> Result<IndexedTasks, OutOfMemory>
+        ensures goes { IfOk result (λ all. GoOnOf (IsAt path.now) now self.tasks all.tasks) }
         ensures kept { IfOk result (λ all. (now horizon : ℕ) (cells : List CellState) → AreKept now horizon cells self → AreKept now horizon cells all) }
     {
         tasks_go_on_in_turn();
-        tasks_stand_by_number();
+        self.note_distinct();
+        match self.number(path) {
+            Some(number) => {
+                let all = self.go_on(alloc, now, number)?;
+                Ok(all)
+            }
+            None => Ok(self),
+        }
+    }
+
+    /// Lets the task of a path go on and each that it is under, if they do.
+    fn go_on_above(self, alloc: Global, now: Time, path: &Path) -> Result<IndexedTasks, OutOfMemory>
+        ensures goes { IfOk result (λ all. GoOnOf (IsAbove path.now) now self.tasks all.tasks) }
+        ensures kept { IfOk result (λ all. (now horizon : ℕ) (cells : List CellState) → AreKept now horizon cells self → AreKept now horizon cells all) }
+    {
+        let root = root_of(alloc, path)?;
+        let begun = self.go_on_at(alloc, now, &root)?;
+        let mut above = root;
+        let mut all = begun;
+        for number in path.children() {
+            let Some(below) = above.child(alloc, *number)? else {
+                unreachable!();
+            };
+            all = all.go_on_at(alloc, now, &below)?;
+            above = below;
+        }
+        Ok(all)
+    }
+
+    /// Lets the directives go on that are anchored to that edge of the one with an id, which has come.
+    fn go_on_anchored(
+        self,
+        alloc: Global,
+        now: Time,
+        to: u32,
+        edge: Edge,
+    ) -> Result<IndexedTasks, OutOfMemory>
+        requires come { has_come (sorted_tasks self.tasks) to edge ≡ true }
+        ensures goes { IfOk result (λ all. GoOnOf (IsAnchoredTo to edge) now self.tasks all.tasks) }
+        ensures kept { IfOk result (λ all. (now horizon : ℕ) (cells : List CellState) → AreKept now horizon cells self → AreKept now horizon cells all) }
+    {
+        tasks_go_on_in_turn();
         let mut all = self;
-        for number in 0..all.len() {
+        while let Some(number) = all.follower(to, edge) {
             all.note_distinct();
             all = all.go_on(alloc, now, number)?;
         }
+        Ok(all)
+    }
+
+    /// Lets the directives go on that are anchored to that edge of the one with an id, if it has come.
+    fn go_on_edge(
+        self,
+        alloc: Global,
+        now: Time,
+        to: u32,
+        edge: Edge,
+    ) -> Result<IndexedTasks, OutOfMemory>
+        ensures goes { IfOk result (λ all. GoOnOf (IsAnchoredTo to edge) now self.tasks all.tasks) }
+        ensures kept { IfOk result (λ all. (now horizon : ℕ) (cells : List CellState) → AreKept now horizon cells self → AreKept now horizon cells all) }
+    {
+        if !self.has_come(alloc, to, edge)? {
+            return Ok(self);
+        }
+        self.go_on_anchored(alloc, now, to, edge)
+    }
+
+    /// Lets those go on whom a step that ends its body may let go on: the tasks above it, and those that are anchored to the end
+    /// of its directive.
+    fn go_on_by_over(
+        self,
+        alloc: Global,
+        now: Time,
+        path: &Path,
+    ) -> Result<IndexedTasks, OutOfMemory>
+        ensures goes { IfOk result (λ all. GoOnOf (IsOverBy path.now) now self.tasks all.tasks) }
+        ensures kept { IfOk result (λ all. (now horizon : ℕ) (cells : List CellState) → AreKept now horizon cells self → AreKept now horizon cells all) }
+    {
+        let above = self.go_on_above(alloc, now, path)?;
+        if path.daemon() {
+            return Ok(above);
+        }
+        let all = above.go_on_edge(alloc, now, path.id(), Edge::End)?;
+        Ok(all)
+    }
+
+    /// Lets those go on whom any step may let go on: its own task, and those that are anchored to the start of its directive.
+    fn go_on_by_any(
+        self,
+        alloc: Global,
+        now: Time,
+        path: &Path,
+    ) -> Result<IndexedTasks, OutOfMemory>
+        ensures goes { IfOk result (λ all. GoOnOf (IsBegunBy path.now) now self.tasks all.tasks) }
+        ensures kept { IfOk result (λ all. (now horizon : ℕ) (cells : List CellState) → AreKept now horizon cells self → AreKept now horizon cells all) }
+    {
+        let own = self.go_on_at(alloc, now, path)?;
+        if path.daemon() {
+            return Ok(own);
+        }
+        let children = path.children();
+        if children.len() > 0 {
+            return Ok(own);
+        }
+        let all = own.go_on_edge(alloc, now, path.id(), Edge::Start)?;
+        Ok(all)
+    }
+
+    /// Lets those go on whom a frame lets go on.
+    fn go_on_by(self, alloc: Global, now: Time, frame: &Frame) -> Result<IndexedTasks, OutOfMemory>
+        ensures goes { IfOk result (λ all. GoOnOf (MayGoOnAfter (frame.now ∷ [])) now self.tasks all.tasks) }
+        ensures kept { IfOk result (λ all. (now horizon : ℕ) (cells : List CellState) → AreKept now horizon cells self → AreKept now horizon cells all) }
+    {
+        self.note_distinct();
+        let begun = self.go_on_by_any(alloc, now, &frame.path)?;
+        if is_open_status(&frame.status) {
+            return Ok(begun);
+        }
+        let all = begun.go_on_by_over(alloc, now, &frame.path)?;
+        Ok(all)
+    }
+
+    /// Lets those go on whom the frames of a batch let go on, each of which is looked at once: its own task and, where its body
+    /// has ended, those above it; and who is anchored to its directive is found by an index.
+    fn go_on_after(
+        self,
+        alloc: Global,
+        now: Time,
+        frames: &[Frame],
+    ) -> Result<IndexedTasks, OutOfMemory>
+        ensures goes { IfOk result (λ all. GoOnOf (MayGoOnAfter frames.now) now self.tasks all.tasks) }
+        ensures kept { IfOk result (λ all. (now horizon : ℕ) (cells : List CellState) → AreKept now horizon cells self → AreKept now horizon cells all) }
+    {
+        let mut all = self;
+        for frame in frames {
+            all = all.go_on_by(alloc, now, frame)?;
+        }
+        Ok(all)
+    }
+
+    /// The tasks after a committed batch: its frames, then callers and anchored directives, and the cells that it touched.
+    pub(crate) fn after_batch(
+        self,
+        alloc: Global,
+        now: Time,
+        frames: &[Frame],
+        touched: &[u16],
+    ) -> Result<IndexedTasks, OutOfMemory>
+        requires made { MadeIsSmall (after_frames now frames.now (sorted_tasks self.tasks)) }
+        requires quiet { AllQuiet (sorted_tasks self.tasks) (sorted_tasks self.tasks) }
+        ensures table { IfOk result (λ all. sorted_tasks all.tasks ≡ after_batch now frames.now (sorted_tasks self.tasks)) }
+        ensures kept { IfOk result (λ all. (now horizon : ℕ) (cells others : List CellState) → AreKept now horizon cells self → AgreeBut touched.now cells others → AreKept now horizon others all) }
+    {
+        tasks_go_on_in_turn();
+        tasks_stand_by_number();
+        let stepped = self.after_frames(alloc, now, frames)?;
+        stepped.note_distinct();
+        let gone_on = stepped.go_on_after(alloc, now, frames)?;
+        let all = gone_on.touch(alloc, touched)?;
         Ok(all)
     }
 }

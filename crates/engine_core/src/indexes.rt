@@ -1,17 +1,20 @@
-ghost use Rattle.std.specs.Prelude.{◌≡◌, ◌≤◌, ℕ, List, Some, None, cond, length, IfOk, if◌then◌else◌};
+ghost use Rattle.std.specs.Prelude.{◌≡◌, ◌≤◌, ℕ, List, [], false, Some, None, cond, length, IfOk, if◌then◌else◌};
 ghost use Rattle.std.specs.BTreeMap.{is_at};
 ghost use Rattle.std.specs.BTreeMap as map_;
 ghost use Rattle.std.specs.BTreeSet as set;
 ghost use Rattle.aerie_base.specs.Paths.{path_cmp};
+ghost use Rattle.aerie_base.specs.declared.plans.Edge.TheVariants as edge_;
 ghost use Rattle.run_data.specs.Endings.{is_open};
 ghost use Rattle.run_data.specs.laws.NextTimes.{delay_in};
 ghost use Rattle.run_data.specs.laws.ReadyTasks.{is_ready_phase, number_of_path};
+ghost use Rattle.engine_core.specs.Phases.{anchor_in, id_of_anchor};
 ghost use Rattle.engine_core.specs.TasksByNumber.{has_path};
 ghost use Rattle.engine_core.specs.Times.{put_at};
 
+use crate::followers::Followers;
 use crate::phases::TrackedTask;
 use crate::times::Times;
-use aerie_base::{OutOfMemory, Path};
+use aerie_base::{Anchor, OutOfMemory, Path};
 use std::alloc::Global;
 use std::collections::{BTreeMap, BTreeSet};
 
@@ -21,14 +24,16 @@ pub(crate) struct Standing {
     delay: Option<u64>,
     is_open: bool,
     is_ready: bool,
+    anchor: Option<Anchor>,
 }
 
-/// The ends of delays by number, the paths of all open bodies, and the number of each ready task by its path.
+/// The ends of delays and the anchors by number, the paths of all open bodies, and the number of each ready task by its path.
 #[derive(Drop)]
 pub(crate) struct Indexes {
     pub(crate) delays: Times,
     pub(crate) opens: BTreeSet<Path>,
     pub(crate) readies: BTreeMap<Path, usize>,
+    pub(crate) followers: Followers,
 }
 
 /// The set with a path, or without it.
@@ -89,17 +94,36 @@ fn numbered(
 impl Standing {
     /// What they say of this one.
     pub(crate) fn of(task: &TrackedTask) -> Standing
-        ensures { result ≡ record { delay = delay_in task.now.phase; is_open = is_open task.now.phase; is_ready = is_ready_phase task.now.phase } }
+        ensures { result ≡ record { delay = delay_in task.now.phase; is_open = is_open task.now.phase; is_ready = is_ready_phase task.now.phase; anchor = anchor_in task.now.phase } }
     {
         Standing {
             delay: task.delay(),
             is_open: task.is_open(),
             is_ready: task.is_ready(),
+            anchor: task.anchor(),
         }
     }
 }
 
 impl Indexes {
+    /// Those of no task.
+    pub(crate) fn new(alloc: Global) -> Indexes
+        ensures delays { result.delays ≡ [] }
+        ensures opens { (p : List ℕ) → has_path result.opens p ≡ false }
+        ensures opens_sorted { set.IsOrdered path_cmp result.opens }
+        ensures readies { (p : List ℕ) → number_of_path result.readies p ≡ None }
+        ensures readies_sorted { map_.IsOrdered path_cmp result.readies }
+        ensures starts { result.followers.starts ≡ [] }
+        ensures ends { result.followers.ends ≡ [] }
+    {
+        Indexes {
+            delays: Times::new(alloc),
+            opens: BTreeSet::new(alloc),
+            readies: BTreeMap::new(alloc),
+            followers: Followers::new(alloc),
+        }
+    }
+
     /// Indexes with a task at a number and a path where an open body stood or none.
     pub(crate) fn put(
         self,
@@ -111,6 +135,10 @@ impl Indexes {
     ) -> Result<Indexes, OutOfMemory>
         requires number { number ≤ length self.delays }
         requires stood { has_path self.opens path ≡ stood }
+        requires starts { number ≤ length self.followers.starts }
+        requires ends { number ≤ length self.followers.ends }
+        ensures starts { IfOk result (λ done. done.followers.starts ≡ put_at self.followers.starts number (id_of_anchor edge_.Start standing.anchor)) }
+        ensures ends { IfOk result (λ done. done.followers.ends ≡ put_at self.followers.ends number (id_of_anchor edge_.End standing.anchor)) }
         ensures delays { IfOk result (λ done. done.delays ≡ put_at self.delays number standing.delay) }
         ensures opens { IfOk result (λ done. (p : List ℕ) → has_path done.opens p ≡ cond (is_at (path_cmp path) p) standing.is_open (has_path self.opens p)) }
         ensures opens_sorted { IfOk result (λ done. set.IsOrdered path_cmp done.opens) }
@@ -121,14 +149,17 @@ impl Indexes {
             delays,
             opens,
             readies,
+            followers,
         } = self;
         let delays = delays.put(number, standing.delay)?;
         let opens = marked_anew(alloc, opens, &path, stood, standing.is_open)?;
         let readies = numbered(readies, path, number, standing.is_ready)?;
+        let followers = followers.put(number, standing.anchor)?;
         Ok(Indexes {
             delays,
             opens,
             readies,
+            followers,
         })
     }
 }

@@ -1,4 +1,4 @@
-ghost use Rattle.std.specs.Prelude.{◌≡◌, ◌<◌, ◌^◌, [], ◌++◌, IfOk, true, nat_abs};
+ghost use Rattle.std.specs.Prelude.{◌≡◌, ◌<◌, ◌^◌, [], ◌++◌, IfOk, true, is_some, nat_abs};
 ghost use Rattle.std.specs.Option.{option_copied};
 ghost use Rattle.run_data.specs.Endings.{is_open, result_of_phase, with_result};
 ghost use Rattle.run_data.specs.Tasks.{ready, children_in, after_delay, task_after, job_if_ready};
@@ -312,7 +312,7 @@ impl TrackedTask {
         match &self.phase {
             Phase::Delayed { state, .. } => Ok(self.ready_from(state.copy(alloc)?)),
             Phase::Waiting { state, .. } => Ok(self.ready_from(state.copy(alloc)?)),
-            _ => Err(OutOfMemory),
+            _ => unreachable!(),
         }
     }
 
@@ -322,6 +322,7 @@ impl TrackedTask {
         alloc: Global,
         returned: Option<Value>,
     ) -> Result<TrackedTask, OutOfMemory>
+        requires { is_some (callee_in self.now.phase) ≡ true }
         ensures { IfOk result (λ task. task ≡ record self.now { phase = returned_to returned self.now.phase }) }
     {
         match &self.phase {
@@ -329,12 +330,13 @@ impl TrackedTask {
                 let state = with_result(state.copy(alloc)?, *into, returned);
                 Ok(self.ready_from(state))
             }
-            _ => Err(OutOfMemory),
+            _ => unreachable!(),
         }
     }
 
     /// The task, which was anchored, at the time from which its start is counted.
     pub(crate) fn due(&self, alloc: Global, now: Time) -> Result<TrackedTask, OutOfMemory>
+        requires { is_some (anchor_in self.now.phase) ≡ true }
         ensures { IfOk result (λ task. task ≡ record self.now { phase = due_from now self.now.phase }) }
     {
         match &self.phase {
@@ -343,7 +345,7 @@ impl TrackedTask {
                 made: self.made,
                 begun: self.begun,
             }),
-            _ => Err(OutOfMemory),
+            _ => unreachable!(),
         }
     }
 

@@ -1,4 +1,4 @@
-ghost use Rattle.std.specs.Prelude.{◌≡◌, ◌<◌, ◌+◌, ◌^◌, ◌++◌, ℕ, List, [], Some, None, true, option_map, length, slice_get, slice_set, IfOk, IfSome};
+ghost use Rattle.std.specs.Prelude.{◌≡◌, ◌<◌, ◌+◌, ◌^◌, ◌++◌, ℕ, List, [], Some, None, true, false, option_map, length, nat_eq, slice_get, slice_set, IfOk, IfSome};
 ghost use Rattle.std.specs.Map.Iter.{deref_pair};
 ghost use Rattle.std.specs.Option.{option_copied};
 ghost use Rattle.effect_cells.specs.declared.effects.CellState.{CellState};
@@ -6,17 +6,18 @@ ghost use Rattle.run_data.specs.Endings.{has_ended};
 ghost use Rattle.run_data.specs.Tasks.{Task, task_at, ready_jobs, children_made, children_in, after_frame, after_frames, on_each, rested};
 ghost use Rattle.run_data.specs.laws.NextTimes.{least_delay};
 ghost use Rattle.run_data.specs.laws.ReadyTasks.{job_of};
-ghost use Rattle.engine_core.specs.Phases.{may_resume};
-ghost use Rattle.engine_core.specs.Times.{IsUpToTime};
+ghost use Rattle.engine_core.specs.Phases.{may_resume, is_waiting};
+ghost use Rattle.engine_core.specs.Times.{IsUpToTime, least_time, put_at};
 ghost use Rattle.run_data.specs.laws.EndedTasks.{open_is};
 ghost use Rattle.run_data.specs.laws.NumberedTasks.{sorted_tasks, Distinct};
-ghost use Rattle.engine_core.specs.TasksByNumber.{put_task, number_for, delays_of, MadeIsSmall, IsChange, resumed_task, AreKept};
+ghost use Rattle.engine_core.specs.TasksByNumber.{put_task, number_for, delays_of, MadeIsSmall, IsChange, resumed_task, AreKept, has_number, anchors_of, HavePaths};
+ghost use Rattle.engine_core.specs.Watching.{Drains, Watches};
 
 use crate::indexes::{Indexes, Standing};
 use crate::phases::{TrackedTask, count_children, micros};
 use crate::ready_jobs::ReadyJobs;
 use crate::waits::Waits;
-use aerie_base::{OutOfMemory, Path, Shared, Time};
+use aerie_base::{Edge, OutOfMemory, Path, Shared, Time};
 use effect_cells::Cells;
 use indexmap::IndexMap;
 use run_data::Frame;
@@ -35,18 +36,20 @@ pub(crate) struct IndexedTasks {
 }
 
 impl Model for IndexedTasks {
-    ghost use Rattle.std.specs.Prelude.{◌≡◌, map, length};
+    ghost use Rattle.std.specs.Prelude.{◌≡◌, length};
     ghost use Rattle.std.specs.Coded.{codes};
     ghost use Rattle.aerie_base.specs.contracts.conditions.Cond as cond_;
-    ghost use Rattle.engine_core.specs.TasksByNumber.{Tracked, AreIndexed};
+    ghost use Rattle.engine_core.specs.TasksByNumber.{Tracked, AreIndexed, AreFollowed, HavePaths};
+    ghost use Rattle.engine_core.specs.Watching.{numbers_by_cell};
 
     ghost Value = { Tracked };
 
     ghost coded = { Prim.hlevel (codes, cond_.the_row.coded) };
 
-    ghost view = { λ all. record { tasks = all.tasks.entries; wakes = all.waits.wakes; stale = all.waits.stale.items; watchers = map (λ numbers. numbers.items) all.waits.watchers.items } };
+    ghost view = { λ all. record { tasks = all.tasks.entries; wakes = all.waits.wakes; stale = all.waits.stale.keys; watchers = numbers_by_cell all.waits.watchers.items } };
 
-    ghost invariant = { λ all. AreIndexed all.tasks.entries all.indexes.delays all.indexes.opens all.indexes.readies × (length all.waits.wakes ≡ length all.tasks.entries) };
+    ghost invariant = { λ all. AreIndexed all.tasks.entries all.indexes.delays all.indexes.opens all.indexes.readies × (length all.waits.wakes ≡ length all.tasks.entries)
+        × AreFollowed all.tasks.entries all.indexes.followers.starts all.indexes.followers.ends × HavePaths all.tasks.entries };
 }
 
 /// A task with its path.
@@ -96,6 +99,27 @@ fn insert(
 }
 
 impl IndexedTasks {
+    /// No task; so many cells may be waited for.
+    pub(crate) fn new(alloc: Global, cells: usize) -> Result<IndexedTasks, OutOfMemory>
+        ensures tasks { IfOk result (λ all. all.tasks ≡ []) }
+        ensures kept { IfOk result (λ all. (now horizon : ℕ) (states : List CellState) → length states ≡ cells → AreKept now horizon states all) }
+    {
+        Ok(IndexedTasks {
+            tasks: IndexMap::new(alloc),
+            indexes: Indexes::new(alloc),
+            waits: Waits::new(alloc, cells)?,
+        })
+    }
+
+    /// Whether a task is ready.
+    pub(crate) fn is_ready(&self) -> bool
+        ensures none { result ≡ false → (cells : List CellState) → ready_jobs cells (sorted_tasks self.now.tasks) ≡ [] }
+        ensures some { result ≡ true → (cells : List CellState) → ready_jobs cells (sorted_tasks self.now.tasks) ≡ [] → ⊥ }
+    {
+        ready_by_index();
+        !self.indexes.readies.is_empty()
+    }
+
     /// How many tasks there are.
     pub(crate) fn len(&self) -> usize
         ensures { result ≡ length self.now.tasks }
@@ -103,9 +127,11 @@ impl IndexedTasks {
         self.tasks.len()
     }
 
-    /// A fact for callers: no two tasks have one path.
+    /// A fact for callers: no two tasks have one path, and each has a kept wake time or none.
     pub(crate) fn note_distinct(&self)
-        ensures { Distinct self.now.tasks }
+        ensures distinct { Distinct self.now.tasks }
+        ensures long { length self.now.wakes ≡ length self.now.tasks }
+        ensures paths { HavePaths self.now.tasks }
     {
         let _tasks = &self.tasks;
     }
@@ -143,6 +169,8 @@ impl IndexedTasks {
         task: TrackedTask,
     ) -> Result<IndexedTasks, OutOfMemory>
         ensures tasks { IfOk result (λ all. all.tasks ≡ put_task self.tasks path task) }
+        ensures wakes { IfOk result (λ all. all.wakes ≡ put_at self.wakes (number_for self.tasks path) None) }
+        ensures stale { IfOk result (λ all. is_waiting task.phase ≡ false → all.stale ≡ self.stale) }
         ensures kept { IfOk result (λ all. (now horizon : ℕ) (cells : List CellState) → AreKept now horizon cells self → AreKept now horizon cells all) }
     {
         let IndexedTasks {
@@ -150,6 +178,7 @@ impl IndexedTasks {
             indexes,
             waits,
         } = self;
+        let _ = path.children();
         let standing = Standing::of(&task);
         let waiting = task.is_waiting();
         let inserted = insert(alloc, tasks, &path, task)?;
@@ -157,6 +186,89 @@ impl IndexedTasks {
         let indexes = indexes.put(alloc, path, inserted.number, inserted.stood, standing)?;
         Ok(IndexedTasks {
             tasks: inserted.tasks,
+            indexes,
+            waits,
+        })
+    }
+
+    /// A task that is anchored to that edge of the directive with an id.
+    pub(crate) fn follower(&self, to: u32, edge: Edge) -> Option<usize>
+        ensures found { IfSome result (λ number. slice_get (anchors_of edge self.now.tasks) number ≡ Some (Some to)) }
+        ensures none { result ≡ None → (number : ℕ) → slice_get (anchors_of edge self.now.tasks) number ≡ Some (Some to) → ⊥ }
+    {
+        let id = u64::from(to);
+        match edge {
+            Edge::Start => self.indexes.followers.starts.number_at(id),
+            Edge::End => self.indexes.followers.ends.number_at(id),
+        }
+    }
+
+    /// A number whose wake time is to be found anew.
+    pub(crate) fn first_stale(&self) -> Option<usize>
+        ensures some { IfSome result (λ number. has_number self.now.stale number ≡ true) }
+        ensures none { result ≡ None → self.now.stale ≡ [] }
+    {
+        match self.waits.stale.first() {
+            Some(number) => Some(*number),
+            None => None,
+        }
+    }
+
+    /// The least kept wake time, with a number that has it.
+    pub(crate) fn first_wake(&self) -> Option<(u64, usize)>
+        ensures least { option_map (λ first. first.0) result ≡ least_time self.now.wakes }
+        ensures there { IfSome result (λ first. slice_get self.now.wakes first.1 ≡ Some (Some first.0)) }
+        ensures by_number { length self.now.wakes ≡ length self.now.tasks }
+    {
+        self.waits.wakes.first()
+    }
+
+    /// The wake time of a number is found: it is this, and it depends on these cells.
+    pub(crate) fn with_wake(
+        self,
+        alloc: Global,
+        number: usize,
+        wake: Option<u64>,
+        reads: &[u16],
+    ) -> Result<IndexedTasks, OutOfMemory>
+        ensures tasks { IfOk result (λ all. all.tasks ≡ self.tasks) }
+        ensures wakes { IfOk result (λ all. all.wakes ≡ slice_set self.wakes number wake) }
+        ensures long { length self.wakes ≡ length self.tasks }
+        ensures stale { IfOk result (λ all. (n : ℕ) → nat_eq number n ≡ false → has_number all.stale n ≡ has_number self.stale n) }
+        ensures fewer { IfOk result (λ all. has_number self.stale number ≡ true → length all.stale < length self.stale) }
+        ensures watches { IfOk result (λ all. Watches number reads.now self.watchers all.watchers) }
+    {
+        let IndexedTasks {
+            tasks,
+            indexes,
+            waits,
+        } = self;
+        let waits = waits.found(alloc, number, wake, reads)?;
+        Ok(IndexedTasks {
+            tasks,
+            indexes,
+            waits,
+        })
+    }
+
+    /// Who watches one of these cells has a wake time that is to be found anew.
+    pub(crate) fn with_touched(
+        self,
+        alloc: Global,
+        touched: &[u16],
+    ) -> Result<IndexedTasks, OutOfMemory>
+        ensures tasks { IfOk result (λ all. all.tasks ≡ self.tasks) }
+        ensures wakes { IfOk result (λ all. all.wakes ≡ self.wakes) }
+        ensures drains { IfOk result (λ all. Drains touched.now [] self.stale self.watchers all.stale all.watchers) }
+    {
+        let IndexedTasks {
+            tasks,
+            indexes,
+            waits,
+        } = self;
+        let waits = waits.touch(alloc, touched)?;
+        Ok(IndexedTasks {
+            tasks,
             indexes,
             waits,
         })
@@ -292,6 +404,8 @@ impl IndexedTasks {
         requires { IfSome (slice_get self.tasks number) (λ entry. may_resume entry.1.phase ≡ true) }
         ensures tasks { IfOk result (λ all. (path : List ℕ) (task : Task) → slice_get self.tasks number ≡ Some (path, task) →
             all.tasks ≡ slice_set self.tasks number (path, resumed_task task)) }
+        ensures wakes { IfOk result (λ all. all.wakes ≡ slice_set self.wakes number None) }
+        ensures stale { IfOk result (λ all. all.stale ≡ self.stale) }
         ensures kept { IfOk result (λ all. (now horizon : ℕ) (cells : List CellState) → AreKept now horizon cells self → AreKept now horizon cells all) }
     {
         self.note_distinct();

@@ -120,4 +120,15 @@ impl Times {
             None => None,
         }
     }
+
+    /// A number that has this time.
+    pub(crate) fn number_at(&self, time: u64) -> Option<usize>
+        ensures found { IfSome result (λ number. slice_get self.now number ≡ Some (Some time)) }
+        ensures none { result ≡ None → (number : ℕ) → slice_get self.now number ≡ Some (Some time) → ⊥ }
+    {
+        match self.listed.range((time, 0)..).next() {
+            Some((first, number)) => { if *first == time { Some(*number) } else { None } }
+            None => None,
+        }
+    }
 }

@@ -1,4 +1,3 @@
-use Rattle.std.proofs.lemmas.Result.{IfOk-weaker}
 use Rattle.engine_core.proofs.MarkedPaths.{marked_already, same_flags}
 use Rattle.engine_core.proofs.indexes.marked_anew.Goals as goal
 

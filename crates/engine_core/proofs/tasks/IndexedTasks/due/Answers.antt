@@ -1,4 +1,4 @@
-use Rattle.std.proofs.Common.{◌≡◌, ◌∙◌, ap, List, ℕ, Option, nat_eq, false, arith}
+use Rattle.std.proofs.Common.{◌∙◌, ap, List, ℕ, Option, arith}
 use Rattle.std.proofs.lemmas.Bool.Decides.{nat_tests}
 use Rattle.run_data.specs.laws.NextTimes.{least_delay}
 use Rattle.engine_core.specs.Times.{least_time}

@@ -8,7 +8,7 @@ use Rattle.engine_core.proofs.tasks.IndexedTasks.go_on.Goals as goal
 pub returns-in-Some-clause-tasks : goal.returns-in-Some-clause-tasks
 returns-in-Some-clause-tasks c =
     IfOk-weaker c.put.result _ _ (λ all h path task at.
-    h ∙ goes_put (gone_on (sorted_tasks c.args.self.tasks) c.args.now) c.args.self.tasks c.args.number c.in_ok-changed.field-0 c.in-Some.changed path task c.note_distinct.ensures c.in_ok-changed.ensures c.in-Some.is at)
+    h ∙ goes_put (gone_on (sorted_tasks c.args.self.tasks) c.args.now) c.args.self.tasks c.args.number c.in_ok-changed.field-0 c.in-Some.changed path task c.note_distinct.ensures.distinct c.in_ok-changed.ensures c.in-Some.is at)
     c.put.ensures.tasks
 
 pub returns-in-None-clause-tasks : goal.returns-in-None-clause-tasks

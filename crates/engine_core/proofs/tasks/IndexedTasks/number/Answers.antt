@@ -1,4 +1,4 @@
-use Rattle.std.proofs.Common.{◌≡◌, subst, sym, None}
+use Rattle.std.proofs.Common.{◌≡◌, subst, None}
 use Rattle.std.specs.Option.{IfSome}
 use Rattle.run_data.specs.Tasks.{task_at}
 use Rattle.run_data.specs.laws.NumberedTasks.{sorted_tasks}

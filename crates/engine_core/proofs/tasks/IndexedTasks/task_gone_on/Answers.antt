@@ -1,6 +1,6 @@
 use Rattle.std.proofs.lemmas.Result.{IfOk-weaker}
 use Rattle.run_data.specs.laws.NumberedTasks.{sorted_tasks}
-use Rattle.engine_core.proofs.GoingOnTasks.{caller_goes_on, anchored_goes_on, other_stays}
+use Rattle.engine_core.proofs.GoingOnTasks.{caller_goes_on}
 use Rattle.engine_core.proofs.tasks.IndexedTasks.task_gone_on.Goals as goal
 
 pub returns-in-Some : goal.returns-in-Some

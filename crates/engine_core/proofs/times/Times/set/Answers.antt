@@ -1,4 +1,4 @@
-use Rattle.std.proofs.Common.{◌≡◌, ◌∙◌, ◌<◌, refl, sym, subst, ap, length, List, ℕ, Option}
+use Rattle.std.proofs.Common.{◌<◌, refl, sym, subst, length, List, ℕ, Option}
 use Rattle.std.proofs.lemmas.Option.{slice_get_read}
 use Rattle.engine_core.proofs.ListedTimes.{listed_set}
 use Rattle.engine_core.proofs.times.Times.set.Goals as goal

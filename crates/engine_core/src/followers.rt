@@ -1,0 +1,54 @@
+ghost use Rattle.std.specs.Prelude.{◌≡◌, ◌≤◌, ℕ, [], None, Some, length, slice_get, IfOk, IfSome};
+ghost use Rattle.aerie_base.specs.declared.plans.Edge.TheVariants as edge_;
+ghost use Rattle.engine_core.specs.Phases.{id_of_anchor};
+ghost use Rattle.engine_core.specs.Times.{put_at};
+
+use crate::times::Times;
+use aerie_base::{Anchor, Edge, OutOfMemory};
+use std::alloc::Global;
+
+/// By the number of a task the id of the directive to whose start it is anchored, or to whose end.
+#[derive(Drop)]
+pub(crate) struct Followers {
+    pub(crate) starts: Times,
+    pub(crate) ends: Times,
+}
+
+/// The id that an anchor names, if it is at that edge.
+fn id_of(wanted: Edge, anchor: Option<Anchor>) -> Option<u64>
+    ensures { result ≡ id_of_anchor wanted anchor }
+{
+    let anchor = anchor?;
+    match (wanted, anchor.edge) {
+        (Edge::Start, Edge::Start) => Some(u64::from(anchor.to)),
+        (Edge::End, Edge::End) => Some(u64::from(anchor.to)),
+        (Edge::Start, Edge::End) => None,
+        (Edge::End, Edge::Start) => None,
+    }
+}
+
+impl Followers {
+    /// Those of no task.
+    pub(crate) fn new(alloc: Global) -> Followers
+        ensures starts { result.starts ≡ [] }
+        ensures ends { result.ends ≡ [] }
+    {
+        Followers {
+            starts: Times::new(alloc),
+            ends: Times::new(alloc),
+        }
+    }
+
+    /// A task with this number has this anchor or none.
+    pub(crate) fn put(self, number: usize, anchor: Option<Anchor>) -> Result<Followers, OutOfMemory>
+        requires starts { number ≤ length self.starts }
+        requires ends { number ≤ length self.ends }
+        ensures starts { IfOk result (λ done. done.starts ≡ put_at self.starts number (id_of_anchor edge_.Start anchor)) }
+        ensures ends { IfOk result (λ done. done.ends ≡ put_at self.ends number (id_of_anchor edge_.End anchor)) }
+    {
+        let Followers { starts, ends } = self;
+        let starts = starts.put(number, id_of(Edge::Start, anchor))?;
+        let ends = ends.put(number, id_of(Edge::End, anchor))?;
+        Ok(Followers { starts, ends })
+    }
+}
