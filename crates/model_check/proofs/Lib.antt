@@ -7,5 +7,13 @@ pub mod MadeExpressions
 pub mod Turns
 pub mod Arguments
 pub mod LeafForms
+pub mod ConditionForms
+pub mod StatementForms
+pub mod LastReturns
+pub mod RepeatedNames
+pub mod PartsInTurn
+pub mod MadeActivities
+pub mod MadeParts
 pub mod Sound
+pub mod Checked
 pub mod FirstTold

@@ -18,4 +18,10 @@ pub mod ModelDiagnostics
 pub mod ModelMeaning
 pub mod GivenArguments
 pub mod MadeStatements
+pub mod CheckedBodies
+pub mod NameGroups
+pub mod DeclaredParts
+pub mod CheckedParameters
+pub mod CheckedParts
+pub mod CheckAnswers
 pub mod ModelCases

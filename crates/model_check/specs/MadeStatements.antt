@@ -10,7 +10,7 @@ use Rattle.model_check.specs.declared.symbols.ResultSymbol.{ResultSymbol}
 use Rattle.model_check.specs.declared.symbols.Symbols.{Symbols}
 use Rattle.model_check.specs.Diagnostics.{Makes}
 use Rattle.model_check.specs.RawStatements.{raw_stmt_gives}
-use Rattle.model_check.specs.StatementScopes.{Scoping, scope_step, scope_behind, scope_behind_all, scope_behind_block}
+use Rattle.model_check.specs.StatementScopes.{Scoping, scope_step, scope_behind, scope_behind_block}
 use Rattle.model_check.specs.Statements.{Judging, stmt_diagnostics_step, stmt_diagnostics, block_diagnostics, RawMaking, stmt_step, stmt_of, block_of}
 
 -- this was made, what is wrong with it was noted, and this is the scope behind it
@@ -29,12 +29,7 @@ abbrev pub IsStatement : Symbols → Option ResultSymbol → RawStmt → BodySco
 IsStatement symbols result stmt scope =
     MakesBehind (stmt_of symbols stmt scope) (stmt_diagnostics symbols result stmt scope) (scope_behind symbols stmt scope)
 
--- the statements of a block
+-- the statements of a block, behind which its locals are no longer known
 abbrev pub IsBlock : Symbols → Option ResultSymbol → List RawStmt → BodyScope → BodyScope → Option Diagnostic → Option Diagnostic → List Stmt → Type 0
 IsBlock symbols result block scope =
-    MakesBehind (block_of symbols block scope) (block_diagnostics symbols result block scope) (scope_behind_all symbols block scope)
-
--- the same in braces
-abbrev pub IsBraces : Symbols → Option ResultSymbol → List RawStmt → BodyScope → BodyScope → Option Diagnostic → Option Diagnostic → List Stmt → Type 0
-IsBraces symbols result block scope =
     MakesBehind (block_of symbols block scope) (block_diagnostics symbols result block scope) (scope_behind_block symbols block scope)

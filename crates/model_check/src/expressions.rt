@@ -2,6 +2,7 @@
 
 ghost use Rattle.std.specs.Prelude.{◌≡◌, IfOk};
 ghost use Rattle.model_check.specs.Diagnostics.{noted, Makes};
+ghost use Rattle.model_check.specs.Statements.{valued_diagnostics};
 ghost use Rattle.model_check.specs.Expressions.{kind_of_operator, side_kind_of, raw_kind, is_wanted, sides_diagnostics, expr_diagnostics, typed_diagnostics, expr_of};
 
 use crate::cell_reads::{note_read, raw_read_kind, read_operand};
@@ -142,4 +143,40 @@ pub(crate) fn expression(
             Ok(Expr::Binary(*operator, made_left, made_right))
         }
     }
+}
+
+// ---- values of a type
+
+/// Makes a value of this type, and notes what is wrong with it.
+#[tactic(auto, using(crate::proofs::NotedInTurn::noted_appended))]
+pub(crate) fn typed(
+    alloc: Global,
+    symbols: &Symbols,
+    scope: &BodyScope,
+    wanted: Kind,
+    raw: &RawExpr,
+    found: &mut Option<Diagnostic>,
+) -> Result<Expr, OutOfMemory>
+    ensures { IfOk result (Makes (expr_of symbols.now scope.now raw.now) (typed_diagnostics symbols.now scope.now wanted raw.now) found.old found.new) }
+{
+    let made = expression(alloc, symbols, scope, raw, found)?;
+    note_unless_wanted(symbols, scope, wanted, raw, found);
+    Ok(made)
+}
+
+/// Makes a value of a type, where one is wanted, and notes what is wrong with it.
+#[tactic(auto, using(crate::proofs::NotedInTurn::noted_appended))]
+pub(crate) fn valued(
+    alloc: Global,
+    symbols: &Symbols,
+    scope: &BodyScope,
+    wanted: Option<Kind>,
+    raw: &RawExpr,
+    found: &mut Option<Diagnostic>,
+) -> Result<Expr, OutOfMemory>
+    ensures { IfOk result (Makes (expr_of symbols.now scope.now raw.now) (valued_diagnostics symbols.now scope.now wanted raw.now) found.old found.new) }
+{
+    let made = expression(alloc, symbols, scope, raw, found)?;
+    note_mismatch(found, raw.at, wanted, raw_kind(symbols, scope, &raw.what));
+    Ok(made)
 }

@@ -1,16 +1,28 @@
 //! Checks of a model as it is written: its names are looked up, its types are checked, and what it means is made of it.
 #![tactic(auto)]
 
+mod activities;
+mod bodies;
 mod cell_reads;
+mod check_error;
+mod checking;
+mod declarations;
 mod diagnostics;
 mod expressions;
 mod forms;
 mod invokes;
+mod items;
 mod laws;
 mod leaves;
 mod literals;
 mod names;
+mod parts;
+mod repeats;
 mod scopes;
+mod statements;
 mod symbols;
 mod tables;
 mod waits;
+
+pub use check_error::CheckError;
+pub use checking::check;

@@ -1,19 +1,20 @@
 //! Conditions of `wait until` are judged and made.
 
 ghost use Rattle.std.specs.Prelude.{◌≡◌, true, false, IfOk};
-ghost use Rattle.model_check.specs.Diagnostics.{noted, refused_unless, Makes};
+ghost use Rattle.aerie_base.specs.declared.conditions.Cond.{Literal};
+ghost use Rattle.model_check.specs.Diagnostics.{noted, at_place, refused_unless, Makes};
 ghost use Rattle.model_check.specs.declared.diagnostics.Cause.TheVariants.{NotLinear};
-ghost use Rattle.model_check.specs.Waits.{is_side_part, is_side, side_diagnostics, side_of, is_int, are_numbers, compares_forms, is_equal, compared_diagnostics, forms_compared, compared_of, is_truth, literal_truth};
+ghost use Rattle.model_check.specs.Waits.{is_side_part, is_side, side_diagnostics, side_of, is_int, are_numbers, compares_forms, is_equal, compared_diagnostics, forms_compared, compared_of, is_truth, literal_truth, junction, joint_of, plain_operator_of, plain_operator_diagnostics, cond_of, cond_diagnostics, wait_diagnostics};
 
 use crate::cell_reads::{raw_read_kind, read_operand};
 use crate::diagnostics::{Cause, Diagnostic, note};
-use crate::expressions::raw_kind;
+use crate::expressions::{expression, note_unless_wanted, raw_kind};
 use crate::forms::linear;
 use crate::leaves::FormUse;
 use crate::literals::{literal_kind, literal_value};
 use crate::scopes::BodyScope;
 use crate::symbols::Symbols;
-use aerie_base::{Comparison, Cond, Kind, OutOfMemory, Place, Simple, Value};
+use aerie_base::{Boxed, Comparison, Cond, Kind, Operator, OutOfMemory, Place, Simple, Value};
 use model_reader::{RawExpr, RawExprKind, RawLiteralKind, RawPart};
 use std::alloc::Global;
 
@@ -214,4 +215,126 @@ fn literal_truth(literal: &RawLiteralKind) -> bool
         RawLiteralKind::Truth(truth) => *truth,
         _ => false,
     }
+}
+// ---- conditions
+
+/// Notes an expression that is no part of a condition, which then means nothing.
+fn no_condition(at: Place, found: &mut Option<Diagnostic>) -> Cond
+    ensures { Makes (Literal false) (at_place NotLinear at) found.old found.new result }
+{
+    note(found, at, Cause::NotLinear);
+    Cond::Literal(false)
+}
+
+/// Whether an operator joins two conditions, and then whether one of them is enough.
+fn junction(operator: Operator) -> Option<bool>
+    ensures { result ≡ junction operator }
+{
+    match operator {
+        Operator::Or => Some(true),
+        Operator::And => Some(false),
+        Operator::Compare(_)
+        | Operator::Plus
+        | Operator::Minus
+        | Operator::Times
+        | Operator::Divide
+        | Operator::Remainder => None,
+    }
+}
+
+/// Two conditions, of which one or both have to hold.
+fn joint(alloc: Global, is_or: bool, left: Cond, right: Cond) -> Result<Cond, OutOfMemory>
+    ensures { IfOk result (λ made. made ≡ joint_of is_or left right) }
+{
+    let left = Boxed::new(alloc, left)?;
+    let right = Boxed::new(alloc, right)?;
+    if is_or {
+        Ok(Cond::Or(left, right))
+    } else {
+        Ok(Cond::And(left, right))
+    }
+}
+
+/// Makes the condition of an operator that joins no conditions.
+fn no_junction(
+    alloc: Global,
+    symbols: &Symbols,
+    scope: &BodyScope,
+    at: Place,
+    operator: Operator,
+    left: &RawExpr,
+    right: &RawExpr,
+    found: &mut Option<Diagnostic>,
+) -> Result<Cond, OutOfMemory>
+    ensures { IfOk result (Makes (plain_operator_of symbols.now scope.now operator left.now right.now) (plain_operator_diagnostics symbols.now scope.now at operator left.now right.now) found.old found.new) }
+{
+    match operator {
+        Operator::Compare(how) => comparison(alloc, symbols, scope, how, left, right, found),
+        Operator::Or
+        | Operator::And
+        | Operator::Plus
+        | Operator::Minus
+        | Operator::Times
+        | Operator::Divide
+        | Operator::Remainder => Ok(no_condition(at, found)),
+    }
+}
+
+/// Makes a condition, and notes the parts that are not of its form. It goes over the condition once.
+fn condition(
+    alloc: Global,
+    symbols: &Symbols,
+    scope: &BodyScope,
+    raw: &RawExpr,
+    found: &mut Option<Diagnostic>,
+) -> Result<Cond, OutOfMemory>
+    ensures { IfOk result (Makes (cond_of symbols.now scope.now raw.now) (cond_diagnostics symbols.now scope.now raw.now) found.old found.new) }
+{
+    match &raw.what {
+        RawExprKind::Literal(literal) => {
+            note_truth(literal_kind(&symbols.enums, literal), raw.at, found);
+            Ok(Cond::Literal(literal_truth(literal)))
+        }
+        RawExprKind::Read(read) => {
+            note_truth(raw_read_kind(symbols, scope, read), raw.at, found);
+            Ok(Cond::Flag(read_operand(symbols, scope, read)))
+        }
+        RawExprKind::Not(inner) => {
+            let inner = inner.get();
+            let made = condition(alloc, symbols, scope, inner, found)?;
+            Ok(Cond::Not(Boxed::new(alloc, made)?))
+        }
+        RawExprKind::Negate(_) => Ok(no_condition(raw.at, found)),
+        RawExprKind::Binary {
+            operator,
+            left,
+            right,
+        } => {
+            let left = left.get();
+            let right = right.get();
+            match junction(*operator) {
+                Some(is_or) => {
+                    let made_left = condition(alloc, symbols, scope, left, found)?;
+                    let made_right = condition(alloc, symbols, scope, right, found)?;
+                    joint(alloc, is_or, made_left, made_right)
+                }
+                None => no_junction(alloc, symbols, scope, raw.at, *operator, left, right, found),
+            }
+        }
+    }
+}
+/// Makes the condition of a `wait until`, and notes what is wrong with it.
+#[tactic(auto, using(crate::proofs::NotedInTurn::noted_appended))]
+pub(crate) fn wait(
+    alloc: Global,
+    symbols: &Symbols,
+    scope: &BodyScope,
+    raw: &RawExpr,
+    found: &mut Option<Diagnostic>,
+) -> Result<Cond, OutOfMemory>
+    ensures { IfOk result (Makes (cond_of symbols.now scope.now raw.now) (wait_diagnostics symbols.now scope.now raw.now) found.old found.new) }
+{
+    let _as_expression = expression(alloc, symbols, scope, raw, found)?;
+    note_unless_wanted(symbols, scope, Kind::Truth, raw, found);
+    condition(alloc, symbols, scope, raw, found)
 }

@@ -1,0 +1,146 @@
+//! Activity types are judged and made.
+
+ghost use Rattle.std.specs.Prelude.{◌≡◌, IfOk};
+ghost use Rattle.model_check.specs.BodyScopes.{empty_scope, with_new_local};
+ghost use Rattle.model_check.specs.Diagnostics.{noted, Makes};
+ghost use Rattle.model_check.specs.ModelDiagnostics.{default_diagnostics, parameter_diagnostics, parameter_scope, parameters_diagnostics, result_type_diagnostics, activity_diagnostics_in};
+ghost use Rattle.model_check.specs.MadeStatements.{MakesBehind};
+ghost use Rattle.model_check.specs.ModelMeaning.{model_parameters, result_written, activity_in};
+ghost use Rattle.model_check.specs.ModelSymbols.{type_kind, bare_symbols};
+ghost use Rattle.model_check.specs.CheckedParameters.{parameter_of, with_parameter};
+
+use crate::bodies::{body, note_end, requirements};
+use crate::declarations::{default_value, note_type, result_symbol, type_kind};
+use crate::diagnostics::Diagnostic;
+use crate::items::{kind_written, note_typed_literal};
+use crate::scopes::{BodyScope, note_local};
+use crate::symbols::Symbols;
+use aerie_base::{Activity, Kind, List, OutOfMemory, Parameter};
+use model_reader::{RawExpr, RawLiteral, RawName, RawParameter, RawStmt, RawType};
+use std::alloc::Global;
+
+// ---- parameters
+
+/// Notes a default of another type.
+fn note_default(
+    symbols: &Symbols,
+    written: &RawType,
+    default: &Option<RawLiteral>,
+    found: &mut Option<Diagnostic>,
+)
+    ensures { found.new ≡ noted found.old (default_diagnostics symbols.now written.now default.now) }
+{
+    match default {
+        None => {}
+        Some(literal) => note_typed_literal(symbols, written, literal, found),
+    }
+}
+
+/// Notes what is wrong with a parameter.
+#[tactic(auto, using(crate::proofs::NotedInTurn::noted_appended))]
+fn note_parameter(
+    symbols: &Symbols,
+    scope: &BodyScope,
+    parameter: &RawParameter,
+    found: &mut Option<Diagnostic>,
+)
+    ensures { found.new ≡ noted found.old (parameter_diagnostics symbols.now scope.now parameter.now) }
+{
+    note_local(symbols, scope, &parameter.name, found);
+    note_type(&symbols.enums, &parameter.kind, found);
+    note_default(symbols, &parameter.kind, &parameter.default, found);
+}
+
+/// Makes a parameter, notes what is wrong with it, and goes on to the scope behind it.
+fn parameter(
+    alloc: Global,
+    symbols: &Symbols,
+    written: &RawParameter,
+    scope: &mut BodyScope,
+    found: &mut Option<Diagnostic>,
+) -> Result<Parameter, OutOfMemory>
+    ensures { IfOk result (MakesBehind (parameter_of symbols.now written.now) (parameter_diagnostics symbols.now scope.old written.now) (with_parameter symbols.now scope.old written.now) scope.new found.old found.new) }
+{
+    note_parameter(symbols, scope, written, found);
+    let name = written.name.name.copy(alloc)?;
+    let kind = type_kind(&symbols.enums, &written.kind);
+    scope.declare(alloc, &written.name.name, kind, true)?;
+    Ok(Parameter {
+        name,
+        kind: kind_written(symbols, &written.kind),
+        default: default_value(&symbols.enums, &written.default),
+    })
+}
+
+/// Makes parameters, and goes on to the scope behind them.
+fn parameters(
+    alloc: Global,
+    symbols: &Symbols,
+    written: &[RawParameter],
+    scope: &mut BodyScope,
+    found: &mut Option<Diagnostic>,
+) -> Result<List<Parameter>, OutOfMemory>
+    ensures { IfOk result (MakesBehind (model_parameters symbols.now written.now) (parameters_diagnostics symbols.now scope.old written.now) (parameter_scope symbols.now scope.old written.now) scope.new found.old found.new) }
+{
+    let mut made = List::with_capacity(alloc, written.len())?;
+    for raw in written {
+        made.push(parameter(alloc, symbols, raw, scope, found)?)?;
+    }
+    Ok(made)
+}
+
+// ---- results
+
+/// Notes the type of a result that names no enumeration.
+fn note_result_type(symbols: &Symbols, written: &Option<RawType>, found: &mut Option<Diagnostic>)
+    ensures { found.new ≡ noted found.old (result_type_diagnostics symbols.now written.now) }
+{
+    match written {
+        None => {}
+        Some(written) => note_type(&symbols.enums, written, found),
+    }
+}
+
+/// The type of a result, where there is one.
+fn result_written(symbols: &Symbols, written: &Option<RawType>) -> Option<Kind>
+    ensures { result ≡ result_written symbols.now written.now }
+{
+    match written {
+        None => None,
+        Some(written) => Some(kind_written(symbols, written)),
+    }
+}
+
+// ---- activity types
+
+/// Makes an activity type, and notes what is wrong with it. The bare symbols have its model's enumerations alone.
+pub(crate) fn activity(
+    alloc: Global,
+    symbols: &Symbols,
+    bare: &Symbols,
+    name: &RawName,
+    written: &[RawParameter],
+    returns: &Option<RawType>,
+    truths: &[RawExpr],
+    raw: &List<RawStmt>,
+    found: &mut Option<Diagnostic>,
+) -> Result<Activity, OutOfMemory>
+    requires { bare.now ≡ bare_symbols symbols.now.enums }
+    ensures { IfOk result (Makes (activity_in symbols.now (parameter_scope symbols.now empty_scope written.now) name.now written.now returns.now truths.now raw.now) (activity_diagnostics_in symbols.now (parameter_scope symbols.now empty_scope written.now) name.now written.now returns.now truths.now raw.now) found.old found.new) }
+{
+    let mut scope = BodyScope::new(alloc);
+    let parameters = parameters(alloc, symbols, written, &mut scope, found)?;
+    note_result_type(symbols, returns, found);
+    let requires_ = requirements(alloc, bare, &scope, truths, found)?;
+    let result = result_symbol(&symbols.enums, returns);
+    let made = body(alloc, symbols, result, raw, scope, found)?;
+    note_end(name.at, returns, raw.as_slice(), found);
+    Ok(Activity {
+        name: name.name.copy(alloc)?,
+        parameters,
+        result: result_written(symbols, returns),
+        requires_,
+        slots: made.slots,
+        body: made.statements,
+    })
+}
