@@ -71,8 +71,8 @@ module _ (symbols bare : Symbols) (bare_is : bare ≡ bare_symbols symbols.enums
       ∙ ap (λ (s : BodyScope). noted two (requires_diagnostics symbols s truths)) scope_is)) in
       let e4 : four ≡ noted three d4 = b.1 ∙ (λ j. noted three (block_diagnostics symbols (result_is j) raw (scope_is j))) in (
         (λ j. record { name = copied_is j; parameters = p.0.0 j; result = kind_is j; requires_ = requires_is j; slots = (body_is j).slots; body = (body_is j).statements }),
-        noted_in_turn d1 (d2 ++ d3 ++ d4 ++ d5) before one after e1
-            (noted_in_turn d2 (d3 ++ d4 ++ d5) one two after second
-            (noted_in_turn d3 (d4 ++ d5) two three after e3
-            (noted_in_turn d4 d5 three four after e4 last))),
+        noted_in_turn (d1 ++ d2 ++ d3 ++ d4) d5 before four after
+            (noted_in_turn (d1 ++ d2 ++ d3) d4 before three four
+            (noted_in_turn (d1 ++ d2) d3 before two three
+            (noted_in_turn d1 d2 before one two e1 second) e3) e4) last,
       )

@@ -8,7 +8,7 @@ use Rattle.model_check.specs.declared.symbols.Symbols.{Symbols}
 use Rattle.model_check.specs.CheckedParts.{no_parts, with_checked_item, with_checked_items, checked_parts_by, checked_parts}
 use Rattle.model_check.specs.Diagnostics.{noted, Makes}
 use Rattle.model_check.specs.ModelDiagnostics.{repeated_diagnostics, shared_name, resource_name, names_in, item_diagnostics, items_diagnostics, model_diagnostics}
-use Rattle.model_check.specs.ModelSymbols.{Enums, enum_symbols_from, symbols_of}
+use Rattle.model_check.specs.ModelSymbols.{Enums, enum_symbols_from, cell_symbols_from, type_symbols_from, symbols_of}
 use Rattle.model_check.specs.NameTables.{no_entries}
 use Rattle.model_check.proofs.NotedInTurn.{noted_in_turn}
 use Rattle.model_check.proofs.PartsInTurn.{parts_in_turn}
@@ -39,8 +39,18 @@ pub made_parts : (raw : RawModel) (items : List RawItem) → items ≡ raw.items
 unfolding model_diagnostics
 made_parts raw items items_are symbols symbols_are before one two after first second made third = (
   third.0 ∙ (parts_in_turn symbols items ∙ ((λ j. checked_parts_by (symbols_are j) items) ∙ ap (λ (xs : List RawItem). checked_parts_by (symbols_of xs) xs) items_are)),
-  noted_in_turn (repeated_diagnostics [] (names_in shared_name items)) (repeated_diagnostics [] (names_in resource_name items) ++ items_diagnostics (symbols_of items) items) before one after first
-      (noted_in_turn (repeated_diagnostics [] (names_in resource_name items)) (items_diagnostics (symbols_of items) items) one two after second
-      (third.1 ∙ ap (λ (s : Symbols). noted two (items_diagnostics s items)) symbols_are))
+  noted_in_turn (repeated_diagnostics [] (names_in shared_name items) ++ repeated_diagnostics [] (names_in resource_name items)) (items_diagnostics (symbols_of items) items) before two after
+      (noted_in_turn (repeated_diagnostics [] (names_in shared_name items)) (repeated_diagnostics [] (names_in resource_name items)) before one two first second)
+      (third.1 ∙ ap (λ (s : Symbols). noted two (items_diagnostics s items)) symbols_are)
       ∙ ap (λ (xs : List RawItem). noted before (wrong_in xs)) items_are,
 )
+
+-- what names stand for, made table by table
+pub made_symbols : (items : List RawItem) (symbols : Symbols) → symbols.enums ≡ enum_symbols_from no_entries items →
+    symbols.cells ≡ cell_symbols_from symbols.enums no_entries items → symbols.types ≡ type_symbols_from symbols.enums no_entries items → symbols ≡ symbols_of items
+unfolding symbols_of
+made_symbols items symbols enums cells types = λ j. record {
+  enums = enums j;
+  cells = (cells ∙ ap (λ (e : Enums). cell_symbols_from e no_entries items) enums) j;
+  types = (types ∙ ap (λ (e : Enums). type_symbols_from e no_entries items) enums) j;
+}

@@ -58,51 +58,51 @@ module _ (symbols : Symbols) (result : Option ResultSymbol) where
 
   -- ---- `if`
 
-  meant_if : (raw : RawStmt) (test : RawExpr) (yes no : List RawStmt) → raw.what ≡ If test yes no → (scope : BodyScope) →
-      stmt_of symbols raw scope ≡ stmt.If (expr_of symbols scope test) (block_of symbols yes scope) (block_of symbols no (scope_behind_block symbols yes scope))
+  meant_if : (raw : RawStmt) (test : RawExpr) (block other : List RawStmt) → raw.what ≡ If test block other → (scope : BodyScope) →
+      stmt_of symbols raw scope ≡ stmt.If (expr_of symbols scope test) (block_of symbols block scope) (block_of symbols other (scope_behind_block symbols block scope))
   unfolding stmt_of
-  meant_if raw test yes no e scope =
+  meant_if raw test block other e scope =
       ap (λ (what : RawStmtKind). raw_stmt_gives RawMaking (stmt_step symbols) raw.at what scope) e
-      ∙ ((λ i. gives_If RawMaking (stmt_step symbols) raw.at test yes no i scope)
-      ∙ ((λ i. stmt.If (expr_of symbols scope test) (made_turns yes scope i)
-      (made_in_turn symbols (map (given_stmt RawMaking (stmt_step symbols)) no) (scope_behind_block symbols (statements_are (λ s. raw_stmt_gives RawMaking (stmt_step symbols) s.at s.what) yes i) scope)))
-      ∙ ap (λ (xs : List Stmt). stmt.If (expr_of symbols scope test) (block_of symbols yes scope) xs) (made_turns no (scope_behind_block symbols yes scope))))
+      ∙ ((λ i. gives_If RawMaking (stmt_step symbols) raw.at test block other i scope)
+      ∙ ((λ i. stmt.If (expr_of symbols scope test) (made_turns block scope i)
+      (made_in_turn symbols (map (given_stmt RawMaking (stmt_step symbols)) other) (scope_behind_block symbols (statements_are (λ s. raw_stmt_gives RawMaking (stmt_step symbols) s.at s.what) block i) scope)))
+      ∙ ap (λ (xs : List Stmt). stmt.If (expr_of symbols scope test) (block_of symbols block scope) xs) (made_turns other (scope_behind_block symbols block scope))))
 
-  wrong_if : (raw : RawStmt) (test : RawExpr) (yes no : List RawStmt) → raw.what ≡ If test yes no → (scope : BodyScope) →
+  wrong_if : (raw : RawStmt) (test : RawExpr) (block other : List RawStmt) → raw.what ≡ If test block other → (scope : BodyScope) →
       stmt_diagnostics symbols result raw scope
-      ≡ typed_diagnostics symbols scope Truth test ++ block_diagnostics symbols result yes scope ++ block_diagnostics symbols result no (scope_behind_block symbols yes scope)
+      ≡ typed_diagnostics symbols scope Truth test ++ block_diagnostics symbols result block scope ++ block_diagnostics symbols result other (scope_behind_block symbols block scope)
   unfolding stmt_diagnostics
-  wrong_if raw test yes no e scope =
+  wrong_if raw test block other e scope =
       ap (λ (what : RawStmtKind). raw_stmt_gives Judging (stmt_diagnostics_step symbols result) raw.at what scope) e
-      ∙ ((λ i. gives_If Judging (stmt_diagnostics_step symbols result) raw.at test yes no i scope)
-      ∙ ((λ i. typed_diagnostics symbols scope Truth test ++ judged_turns yes scope i
-      ++ judged_in_turn symbols (map (given_stmt Judging (stmt_diagnostics_step symbols result)) no) (scope_behind_block symbols (statements_are (λ s. raw_stmt_gives Judging (stmt_diagnostics_step symbols result) s.at s.what) yes i) scope))
-      ∙ ap (λ (ds : List Diagnostic). typed_diagnostics symbols scope Truth test ++ block_diagnostics symbols result yes scope ++ ds) (judged_turns no (scope_behind_block symbols yes scope))))
+      ∙ ((λ i. gives_If Judging (stmt_diagnostics_step symbols result) raw.at test block other i scope)
+      ∙ ((λ i. typed_diagnostics symbols scope Truth test ++ judged_turns block scope i
+      ++ judged_in_turn symbols (map (given_stmt Judging (stmt_diagnostics_step symbols result)) other) (scope_behind_block symbols (statements_are (λ s. raw_stmt_gives Judging (stmt_diagnostics_step symbols result) s.at s.what) block i) scope))
+      ∙ ap (λ (ds : List Diagnostic). typed_diagnostics symbols scope Truth test ++ block_diagnostics symbols result block scope ++ ds) (judged_turns other (scope_behind_block symbols block scope))))
 
-  scoped_if : (raw : RawStmt) (test : RawExpr) (yes no : List RawStmt) → raw.what ≡ If test yes no → (scope : BodyScope) →
-      scope_behind symbols raw scope ≡ scope_behind_block symbols no (scope_behind_block symbols yes scope)
+  scoped_if : (raw : RawStmt) (test : RawExpr) (block other : List RawStmt) → raw.what ≡ If test block other → (scope : BodyScope) →
+      scope_behind symbols raw scope ≡ scope_behind_block symbols other (scope_behind_block symbols block scope)
   unfolding scope_behind
-  scoped_if raw test yes no e scope =
+  scoped_if raw test block other e scope =
       ap (λ (what : RawStmtKind). raw_stmt_gives Scoping (scope_step symbols) raw.at what scope) e
-      ∙ ((λ i. gives_If Scoping (scope_step symbols) raw.at test yes no i scope)
-      ∙ (scoped_braces no (scoped_block (map (given_stmt Scoping (scope_step symbols)) yes) scope)
-      ∙ ap (scope_behind_block symbols no) (scoped_braces yes scope)))
+      ∙ ((λ i. gives_If Scoping (scope_step symbols) raw.at test block other i scope)
+      ∙ (scoped_braces other (scoped_block (map (given_stmt Scoping (scope_step symbols)) block) scope)
+      ∙ ap (scope_behind_block symbols other) (scoped_braces block scope)))
 
-  pub made_if : (raw : RawStmt) (test : RawExpr) (yes no : List RawStmt) → raw.what ≡ If test yes no →
+  pub made_if : (raw : RawStmt) (test : RawExpr) (block other : List RawStmt) → raw.what ≡ If test block other →
       (scope inner after : BodyScope) (before one two found : Option Diagnostic) (made : Expr) (made_yes made_no : List Stmt) →
       Makes (expr_of symbols scope test) (typed_diagnostics symbols scope Truth test) before one made →
-      IsBlock symbols result yes scope inner one two made_yes → IsBlock symbols result no inner after two found made_no →
+      IsBlock symbols result block scope inner one two made_yes → IsBlock symbols result other inner after two found made_no →
       IsStatement symbols result raw scope after before found (stmt.If made made_yes made_no)
-  made_if raw test yes no e scope inner after before one two found made made_yes made_no first second third =
-      let third_there : IsBlock symbols result no (scope_behind_block symbols yes scope) after two found made_no =
-      subst (λ (s : BodyScope). IsBlock symbols result no s after two found made_no) second.1 third in (
+  made_if raw test block other e scope inner after before one two found made made_yes made_no first second third =
+      let third_there : IsBlock symbols result other (scope_behind_block symbols block scope) after two found made_no =
+      subst (λ (s : BodyScope). IsBlock symbols result other s after two found made_no) second.1 third in (
         (
-          (λ i. stmt.If (first.0 i) (second.0.0 i) (third_there.0.0 i)) ∙ sym (meant_if raw test yes no e scope),
-          noted_in_turn (typed_diagnostics symbols scope Truth test ++ block_diagnostics symbols result yes scope) (block_diagnostics symbols result no (scope_behind_block symbols yes scope)) before two found
-              (noted_in_turn (typed_diagnostics symbols scope Truth test) (block_diagnostics symbols result yes scope) before one two first.1 second.0.1) third_there.0.1
-              ∙ ap (λ (ds : List Diagnostic). noted before ds) (sym (wrong_if raw test yes no e scope)),
+          (λ i. stmt.If (first.0 i) (second.0.0 i) (third_there.0.0 i)) ∙ sym (meant_if raw test block other e scope),
+          noted_in_turn (typed_diagnostics symbols scope Truth test ++ block_diagnostics symbols result block scope) (block_diagnostics symbols result other (scope_behind_block symbols block scope)) before two found
+              (noted_in_turn (typed_diagnostics symbols scope Truth test) (block_diagnostics symbols result block scope) before one two first.1 second.0.1) third_there.0.1
+              ∙ ap (λ (ds : List Diagnostic). noted before ds) (sym (wrong_if raw test block other e scope)),
         ),
-        third_there.1 ∙ sym (scoped_if raw test yes no e scope),
+        third_there.1 ∙ sym (scoped_if raw test block other e scope),
       )
 
   -- ---- `while`

@@ -2,7 +2,7 @@
 
 ghost use Rattle.std.specs.Prelude.{◌≡◌, [], IfOk};
 ghost use Rattle.model_check.specs.Diagnostics.{noted};
-ghost use Rattle.model_check.specs.ModelSymbols.{type_kind, type_diagnostics, with_names, with_enum_symbol, enum_symbols_from, with_cell_symbol, cell_symbols_from, default_value, parameter_symbol, parameters_from, result_symbol, with_type_symbol, type_symbols_from, bare_symbols, symbols_by, symbols_of};
+ghost use Rattle.model_check.specs.ModelSymbols.{type_kind, type_diagnostics, with_names, with_enum_symbol, enum_symbols_from, with_cell_symbol, cell_symbols_from, default_value, parameters_from, result_symbol, with_type_symbol, type_symbols_from, bare_symbols, symbols_by, symbols_of};
 ghost use Rattle.model_check.specs.NameTables.{no_entries, with_entry};
 
 use crate::diagnostics::{Cause, Diagnostic, note};
@@ -167,30 +167,6 @@ pub(crate) fn default_value(enums: &Enums, default: &Option<RawLiteral>) -> Opti
     }
 }
 
-/// A parameter of an activity type.
-fn parameter_symbol(enums: &Enums, parameter: &RawParameter) -> ParameterSymbol
-    ensures { result ≡ parameter_symbol enums.now parameter.now }
-{
-    ParameterSymbol {
-        kind: type_kind(enums, &parameter.kind),
-        default: default_value(enums, &parameter.default),
-    }
-}
-
-/// Adds a parameter.
-fn add_parameter(
-    alloc: Global,
-    enums: &Enums,
-    table: &mut NameTable<ParameterSymbol>,
-    parameter: &RawParameter,
-) -> Result<(), OutOfMemory>
-    ensures { IfOk result (λ _. table.new ≡ with_entry table.old parameter.now.name.name (parameter_symbol enums.now parameter.now)) }
-{
-    let symbol = parameter_symbol(enums, parameter);
-    table.add(alloc, &parameter.name.name, symbol)?;
-    Ok(())
-}
-
 /// The parameters of an activity type.
 fn parameters(
     alloc: Global,
@@ -201,11 +177,11 @@ fn parameters(
 {
     let mut table = NameTable::new(alloc);
     for parameter in written {
-        table.add(
-            alloc,
-            &parameter.name.name,
-            parameter_symbol(enums, parameter),
-        )?;
+        let symbol = ParameterSymbol {
+            kind: type_kind(enums, &parameter.kind),
+            default: default_value(enums, &parameter.default),
+        };
+        table.add(alloc, &parameter.name.name, symbol)?;
     }
     Ok(table)
 }

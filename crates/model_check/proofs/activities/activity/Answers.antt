@@ -10,8 +10,8 @@ use Rattle.model_check.proofs.activities.activity.Goals as goal
 pub requirements-requires : goal.requirements-requires
 requirements-requires c = c.requires ∙ ap (λ (s : Symbols). bare_symbols s.enums) (sym c.requires)
 
-pub returns-in_ok-copy : goal.returns-in_ok-copy
-returns-in_ok-copy c =
+pub returns : goal.returns
+returns c =
     made_activity c.args.symbols.now c.args.bare.now c.requires c.args.name.now c.args.written.now c.args.returns.now c.args.truths.now c.args.raw.now
     c.new-scope.result c.parameters.new.scope c.new-scope.ensures
     c.args.found.now c.parameters.new.found c.note_result_type.new.found c.requirements.new.found c.body.new.found c.note_end.new.found
