@@ -1,2 +1,2 @@
-pub mod FamilyJobs
+pub mod CounterJobs
 pub mod IdleRuns

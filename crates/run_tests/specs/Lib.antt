@@ -1,2 +1,2 @@
-pub mod FamilyMission
+pub mod CounterMission
 pub mod IdleRuns

@@ -1,9 +1,7 @@
 ghost use Rattle.std.specs.Prelude.{◌≡◌, [], IfOk};
 ghost use Rattle.run_tests.specs.IdleRuns.{idle_run};
 
-use aerie_base::{
-    Cond, Fault, List, Model, Name, Number, OutOfMemory, Path, Plan, Shared, Time, Value,
-};
+use aerie_base::{Fault, List, Model, Name, Number, OutOfMemory, Path, Plan, Shared, Time, Value};
 use effect_cells::{CellState, Cells, Effect};
 use run_data::{
     BodyId, Frame, Instant, Item, Job, Kept, Outcome, Record, Run, Status, TaskState, Who,
@@ -21,103 +19,76 @@ fn state(alloc: Global, at: u32) -> Result<TaskState, OutOfMemory> {
     })
 }
 
-/// A frame that adds to a counter and makes a child.
-fn frame(alloc: Global, status: Status) -> Result<Frame, OutOfMemory> {
+/// What it read: a counter.
+fn reads(alloc: Global) -> Result<List<(u16, CellState)>, OutOfMemory> {
     let mut reads = List::new(alloc);
     reads.push((0, CellState::Counter(3)))?;
+    Ok(reads)
+}
+
+/// What it did: it added to a counter and made a child.
+fn items(alloc: Global) -> Result<List<Item>, OutOfMemory> {
     let mut arguments = List::new(alloc);
     arguments.push(Value::Truth(false))?;
     let mut items = List::new(alloc);
+    items.push(Item::Child { kind: 1, arguments })?;
     items.push(Item::Emit {
         cell: 0,
         effect: Effect::Add(-3),
     })?;
-    items.push(Item::Child { kind: 1, arguments })?;
-    let path = Path::of_directive(alloc, 7)?;
+    Ok(items)
+}
+
+fn record(alloc: Global) -> Result<Record, OutOfMemory> {
     let before = state(alloc, 0)?;
-    Ok(Frame {
-        path,
+    let reads = reads(alloc)?;
+    let items = items(alloc)?;
+    Ok(Record {
         before,
         reads,
         items,
-        status,
+        status: Status::Done(None),
         cost: 4,
     })
 }
 
-/// Each way in which a step ends.
-fn statuses(alloc: Global) -> Result<Vec<Status>, OutOfMemory> {
-    let mut all = Vec::new(alloc);
-    if let Some(by) = Number::new(5) {
-        let next = state(alloc, 1)?;
-        all.push(Status::Delayed { by, next })?;
-    }
-    let next = state(alloc, 2)?;
-    let condition = Cond::Literal(true);
-    all.push(Status::Waiting { condition, next })?;
-    let next = state(alloc, 3)?;
-    all.push(Status::Calling {
-        into: Some(1),
-        next,
-    })?;
-    all.push(Status::Done(Some(Value::Truth(true))))?;
-    all.push(Status::Faulted(Fault::Divide))?;
-    Ok(all)
+fn frame(alloc: Global) -> Result<Frame, OutOfMemory> {
+    let path = Path::of_directive(alloc, 7)?;
+    let record = record(alloc)?;
+    Ok(Frame {
+        path,
+        before: record.before,
+        reads: record.reads,
+        items: record.items,
+        status: record.status,
+        cost: record.cost,
+    })
 }
 
-fn frames(alloc: Global) -> Result<Vec<Frame>, OutOfMemory> {
-    let mut frames = Vec::new(alloc);
-    for status in statuses(alloc)? {
-        frames.push(frame(alloc, status)?)?;
-    }
-    Ok(frames)
+/// Whether the copy of a record is the same.
+fn copies_record(alloc: Global) -> Result<bool, OutOfMemory> {
+    let record = record(alloc)?;
+    let copy = record.copy(alloc)?;
+    Ok(copy.is_same(&record))
 }
 
-#[test]
-fn copies_and_compares_frames(rt: HostRuntime) {
-    let alloc = rt.alloc();
-    let frames = frames(alloc).expect(&rt, "memory");
-    for (at, frame) in frames.iter().enumerate() {
-        let copy = frame.copy(alloc).expect(&rt, "memory");
-        for (place, other) in frames.iter().enumerate() {
-            assert_eq!(&rt; copy.is_same(other), at == place, "of {at} and {place}");
-        }
-    }
-}
-
-fn record(frame: Frame) -> Record {
-    let Frame {
-        path: _,
-        before,
-        reads,
-        items,
-        status,
-        cost,
-    } = frame;
-    Record {
-        before,
-        reads,
-        items,
-        status,
-        cost,
-    }
+/// Whether the copy of a frame is the same.
+fn copies_frame(alloc: Global) -> Result<bool, OutOfMemory> {
+    let frame = frame(alloc)?;
+    let copy = frame.copy(alloc)?;
+    Ok(copy.is_same(&frame))
 }
 
 #[test]
-fn copies_and_compares_records(rt: HostRuntime) {
-    let alloc = rt.alloc();
-    let done = frame(alloc, Status::Done(None)).expect(&rt, "memory");
-    let faulted = frame(alloc, Status::Faulted(Fault::Range)).expect(&rt, "memory");
-    let done = record(done);
-    let copy = done.copy(alloc).expect(&rt, "memory");
-    assert!(&rt; copy.is_same(&done));
-    assert!(&rt; !copy.is_same(&record(faulted)));
+fn copies_records_and_frames(rt: HostRuntime) {
+    assert!(&rt; copies_record(rt.alloc()).expect(&rt, "memory"));
+    assert!(&rt; copies_frame(rt.alloc()).expect(&rt, "memory"));
 }
 
 /// A run that a task failed.
 fn failed_run(alloc: Global, time: Time) -> Result<Run, OutOfMemory> {
     let mut batch = List::new(alloc);
-    batch.push(frame(alloc, Status::Done(None))?)?;
+    batch.push(frame(alloc)?)?;
     let mut batches = List::new(alloc);
     batches.push(batch)?;
     let mut changed = List::new(alloc);
@@ -154,16 +125,17 @@ fn empty_plan(alloc: Global, duration: Time) -> Plan
     }
 }
 
+/// Whether the copy of a run has its instants, its plan and its outcome.
+fn copies_run(alloc: Global, time: Time) -> Result<bool, OutOfMemory> {
+    let run = failed_run(alloc, time)?;
+    let copy = run.copy(alloc)?;
+    Ok(copy.instants.len() == 1 && copy.plan.is_same(&run.plan) && is_failed(&copy.outcome, time))
+}
+
 #[test]
 fn copies_runs(rt: HostRuntime) {
-    let alloc = rt.alloc();
     let time = Time::new(5).expect(&rt, "a time");
-    let run = failed_run(alloc, time).expect(&rt, "memory");
-    let copy = run.copy(alloc).expect(&rt, "memory");
-    assert_eq!(&rt; copy.bound, 9);
-    assert_eq!(&rt; copy.instants.len(), 1);
-    assert!(&rt; copy.plan.is_same(&run.plan));
-    assert!(&rt; is_failed(&copy.outcome, time));
+    assert!(&rt; copies_run(rt.alloc(), time).expect(&rt, "memory"));
 }
 
 /// Whether task 7 failed at this time.
@@ -270,15 +242,19 @@ fn job(alloc: Global, model: &Model) -> Result<Job, OutOfMemory> {
     Ok(Job { path, state, view })
 }
 
+/// Whether the copy of a job over this model is the same task in the same state.
+fn copies_job(alloc: Global, name: Name) -> Result<bool, OutOfMemory> {
+    let model = empty_model(alloc, name);
+    let job = job(alloc, &model)?;
+    let copy = job.copy(alloc)?;
+    Ok(copy.path.is_same(&job.path) && copy.state.is_same(&job.state))
+}
+
 #[test]
 fn copies_a_job(rt: HostRuntime) {
     let alloc = rt.alloc();
     let name = Name::new(alloc, "mission")
         .expect(&rt, "memory")
         .expect(&rt, "a name");
-    let model = empty_model(alloc, name);
-    let job = job(alloc, &model).expect(&rt, "memory");
-    let copy = job.copy(alloc).expect(&rt, "memory");
-    assert!(&rt; copy.path.is_same(&job.path));
-    assert!(&rt; copy.state.is_same(&job.state));
+    assert!(&rt; copies_job(alloc, name).expect(&rt, "memory"));
 }
