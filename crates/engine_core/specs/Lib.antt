@@ -6,9 +6,15 @@ pub mod BatchNumbers
 pub mod BatchOrders
 pub mod BatchTrees
 pub mod BatchViews
+pub mod Flags
 pub mod GoingOn
+pub mod Passing
 pub mod Phases
+pub mod PlannedTasks
+pub mod RunFrames
+pub mod Standing
 pub mod TasksByNumber
 pub mod Times
+pub mod Turns
 pub mod Waking
 pub mod Watching

@@ -4,13 +4,24 @@
 mod batch_ends;
 mod batches;
 mod beginnings;
+mod engine;
 mod followers;
 mod going_on;
+mod history;
 mod indexes;
+mod passing;
 mod phases;
+mod planned_tasks;
+mod present;
 mod reads;
 mod ready_jobs;
+mod simulating;
+mod simulation;
+mod stages;
 mod tasks;
 mod times;
 mod waits;
 mod waking;
+
+pub use engine::Engine;
+pub use simulating::simulate;

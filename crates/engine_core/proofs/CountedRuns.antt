@@ -1,0 +1,77 @@
+-- A file of lemmas: what it proves need not be read to trust a clause.
+--
+-- The loop over an engine: it is of one plan, and what was run so far is counted.
+use Rattle.std.proofs.Common.{◌≡◌, ℕ, ◌+◌, ◌*◌, ◌<◌, ◌≤◌, List, [], ◌∷◌, map, length, refl, sym, ap, ◌∙◌, subst, arith}
+use Rattle.aerie_base.specs.declared.models.model.Parts.{Parts}
+use Rattle.aerie_base.specs.declared.plans.Plan.{Plan}
+use Rattle.run_data.specs.declared.frames.Frame.{Frame}
+use Rattle.run_data.specs.declared.frames.Record.{Record}
+use Rattle.run_data.specs.declared.jobs.Job.{Job}
+use Rattle.run_data.specs.declared.runs.Run.{Run}
+use Rattle.run_data.specs.Fresh.{start, IsFresh}
+use Rattle.run_data.specs.Records.{unmatched}
+use Rattle.run_data.specs.Transitions.{Next, more, finished}
+use Rattle.run_data.specs.laws.Weights.{WeightFalls}
+use Rattle.engine_core.specs.RunFrames.{PaysForRun, LooksForRun}
+use Rattle.engine_core.specs.Standing.{Standing, Stands, LeadsTo, turned, jobs_in, PaysForBatch, LooksForBatch}
+use Rattle.engine_core.proofs.RunCounts.{SoFar, step_pays, step_looks, step_smaller, pays_first, looks_first, at_run}
+use Rattle.engine_core.proofs.StandingTurns.{place_weight}
+
+pub record IsCounted (model : Parts) (plan : Plan) (bound : ℕ) (records : List Record) (steps looks : ℕ) (standing : Standing) (steps_now looks_now : ℕ) : Type 0 where
+  pub stands : Stands standing
+  pub same_model : standing.model ≡ model
+  pub same_plan : standing.plan ≡ plan
+  pub same_bound : standing.bound ≡ bound
+  pub pays : SoFar (λ frames. steps_now ≤ steps + unmatched frames records) standing.place
+  pub few_looks : SoFar (λ frames. looks_now ≤ looks + 2 * length frames) standing.place
+
+pub counted_first : (model : Parts) (plan : Plan) (bound : ℕ) (records : List Record) (steps looks : ℕ) (standing : Standing) → Stands standing → standing.model ≡ model → standing.plan ≡ plan →
+    standing.bound ≡ bound → LeadsTo model plan bound (more (start model plan)) standing.place → IsCounted model plan bound records steps looks standing steps looks
+counted_first model plan bound records steps looks standing stands same_model same_plan same_bound leads = record {
+  stands = stands;
+  same_model = same_model;
+  same_plan = same_plan;
+  same_bound = same_bound;
+  pays = pays_first model plan bound steps records standing.place leads;
+  few_looks = looks_first model plan bound looks standing.place leads;
+}
+
+module _ (model : Parts) (plan : Plan) (bound : ℕ) (records : List Record) (steps looks : ℕ) (standing : Standing) (steps_now looks_now : ℕ)
+    (counted : IsCounted model plan bound records steps looks standing steps_now looks_now) where
+  module _ (some : jobs_in standing.place ≡ [] → ⊥) (later : Standing)
+      (leads : LeadsTo standing.model standing.plan standing.bound (turned standing.model standing.plan standing.bound standing.place) later.place)
+      (same_model : later.model ≡ standing.model) (same_plan : later.plan ≡ standing.plan) (same_bound : later.bound ≡ standing.bound) where
+    pub counted_on : Stands later → (has : List Record) → has ≡ records → (steps_later looks_later : ℕ) → PaysForBatch standing has steps_now steps_later → LooksForBatch standing looks_now looks_later →
+        IsCounted model plan bound records steps looks later steps_later looks_later
+    counted_on stands has same steps_later looks_later pays few = record {
+      stands = stands;
+      same_model = same_model ∙ counted.same_model;
+      same_plan = same_plan ∙ counted.same_plan;
+      same_bound = same_bound ∙ counted.same_bound;
+      pays = step_pays standing later some leads records steps steps_now steps_later (subst (λ (r : List Record). PaysForBatch standing r steps_now steps_later) same pays) counted.pays;
+      few_looks = step_looks standing later some leads looks looks_now looks_later few counted.few_looks;
+    }
+
+    pub counted_less : WeightFalls → place_weight later.plan later.bound later.place < place_weight standing.plan standing.bound standing.place
+    counted_less falls = step_smaller standing later some leads falls counted.stands.reached same_plan same_bound
+
+  module _ (run : Run) (is : standing.place ≡ finished run) where
+    pub run_pays : PaysForRun run records steps steps_now
+    run_pays = at_run (λ frames. steps_now ≤ steps + unmatched frames records) standing.place run is counted.pays
+
+    pub run_looks : LooksForRun run looks looks_now
+    run_looks = at_run (λ frames. looks_now ≤ looks + 2 * length frames) standing.place run is counted.few_looks
+
+    pub run_fresh : IsFresh standing.model standing.plan standing.bound run → IsFresh model plan bound run
+    run_fresh fresh =
+        subst (λ (m : Parts). IsFresh m plan bound run) counted.same_model
+        (subst (λ (p : Plan). IsFresh standing.model p bound run) counted.same_plan
+        (subst (λ n. IsFresh standing.model standing.plan n run) counted.same_bound fresh))
+
+-- no job is there where the list of jobs is empty
+pub no_job : (jobs : List (ℕ × Job)) (listed : List Job) → listed ≡ map (λ job. job.1) jobs → length listed ≡ 0 → jobs ≡ []
+no_job [] listed is none = refl
+no_job (job ∷ rest) listed is none = (let long = ap (λ (l : List Job). length l) is in absurd (omega (arith, long, none)))
+
+pub some_job : (jobs : List (ℕ × Job)) (listed : List Job) → listed ≡ map (λ job. job.1) jobs → (length listed ≡ 0 → ⊥) → jobs ≡ [] → ⊥
+some_job jobs listed is some none = some (ap (λ (l : List Job). length l) is ∙ ap (λ (l : List (ℕ × Job)). length (map (λ job. job.1) l)) none)

@@ -1,0 +1,160 @@
+-- A file of lemmas: what it proves need not be read to trust a clause.
+--
+-- The batch of a state that a simulation reaches.
+use Rattle.std.proofs.Common.{◌≡◌, ℕ, zero, suc, ◌+◌, ◌*◌, ◌<◌, ◌≤◌, ◌^◌, Bool, true, false, cond, IsTrue, List, [], ◌∷◌, length, Option, Some, None, slice_get, refl, sym, ap, ◌∙◌, subst, arith}
+use Rattle.std.specs.BTreeMap.{is_at}
+use Rattle.aerie_base.specs.Paths.{path_cmp}
+use Rattle.aerie_base.specs.Ranges.{step_limit}
+use Rattle.aerie_base.specs.declared.models.model.Parts.{Parts}
+use Rattle.aerie_base.specs.declared.plans.Plan.{Plan}
+use Rattle.aerie_base.specs.models.ValidModel.{valid_model}
+use Rattle.aerie_base.specs.plans.OfModel.{IsPlanOf}
+use Rattle.effect_cells.specs.declared.effects.CellState.{CellState}
+use Rattle.run_data.specs.declared.frames.Frame.{Frame}
+use Rattle.run_data.specs.declared.frames.Record.{Record}
+use Rattle.run_data.specs.declared.jobs.Job.{Job}
+use Rattle.run_data.specs.declared.runs.Run.{Run}
+use Rattle.run_data.specs.Batches.{Batch, limit, failed, committed, batch, cost_of}
+use Rattle.run_data.specs.Endings.{gone_on, after_batch}
+use Rattle.run_data.specs.Fresh.{SimulationState, next_state, next_by, after_outcome, IsReached}
+use Rattle.run_data.specs.Records.{unmatched}
+use Rattle.run_data.specs.Tasks.{TaskPhase, anchored, ready, delayed, waiting, calling, over, Task, Table, task_at, on_each, children_made, after_frames, ready_jobs, job_if_ready}
+use Rattle.run_data.specs.Transitions.{Next, more, finished, onward}
+use Rattle.run_data.specs.laws.NumberedTasks.{sorted_tasks, OrderIsDistinct, OrderIsItself, FoundByNumber}
+use Rattle.run_data.specs.laws.Orders.{EachOf}
+use Rattle.run_data.specs.laws.ReachedStates.{ReachedIsOfModel, IsStateOf}
+use Rattle.engine_core.specs.BatchEnds.{batch_as, SpendsWith, IsFrugalEnd, HasFewLooks, AreReadyJobs}
+use Rattle.engine_core.specs.Standing.{Standing, PaysForBatch, LooksForBatch}
+use Rattle.engine_core.specs.TasksByNumber.{MadeIsSmall}
+use Rattle.engine_core.specs.Turns.{state_of, standing_of, IsOnCourse, MakesFew}
+use Rattle.engine_core.specs.declared.batch_ends.BatchEnd.{BatchEnd}
+use Rattle.engine_core.specs.declared.batch_ends.BatchEnd.TheVariants.{Limit, Failed, Committed}
+use Rattle.engine_core.specs.declared.history.History.{History}
+use Rattle.engine_core.specs.declared.present.Present.{Present}
+
+-- ---- a turn with a batch
+
+pub next_is_batch : (model : Parts) (plan : Plan) (bound : ℕ) (at : SimulationState) → (ready_jobs at.cells at.table ≡ [] → ⊥) →
+    next_state model plan bound at ≡ after_outcome model plan bound at (batch model bound at.spent at.cells (ready_jobs at.cells at.table))
+next_is_batch model plan bound at some = by (ready_jobs at.cells at.table) some
+  where
+    by : (jobs : List (ℕ × Job)) → (jobs ≡ [] → ⊥) → next_by model plan bound at jobs ≡ after_outcome model plan bound at (batch model bound at.spent at.cells jobs)
+    by [] none = absurd (none refl)
+    by (job ∷ rest) none = refl
+
+-- ---- how many children tasks have made
+
+made_stays : (whole : Table) (now : ℕ) (table : Table) (path : List ℕ) → children_made (task_at (on_each (gone_on whole now) table) path) ≡ children_made (task_at table path)
+made_stays whole now [] path = refl
+made_stays whole now (entry ∷ rest) path = by (is_at (path_cmp path) entry.0) (made_stays whole now rest path)
+  where
+    by : (b : Bool) → children_made (task_at (on_each (gone_on whole now) rest) path) ≡ children_made (task_at rest path) →
+        children_made (cond b (Some (gone_on whole now entry.0 entry.1)) (task_at (on_each (gone_on whole now) rest) path)) ≡ children_made (cond b (Some entry.1) (task_at rest path))
+    by true further = refl
+    by false further = further
+
+few_of : (table : Table) (spent : ℕ) → spent ≤ step_limit → ((path : List ℕ) (task : Task) → task_at table path ≡ Some task → task.made ≤ spent) → (path : List ℕ) → children_made (task_at table path) < 2 ^ 32
+few_of table spent small paid path = by (task_at table path) refl
+  where
+    by : (o : Option Task) → task_at table path ≡ o → children_made o < 2 ^ 32
+    by None is = omega arith
+    by (Some task) is = omega (arith, paid path task is, small)
+
+pub few_after : ReachedIsOfModel → (model : Parts) (plan : Plan) (bound : ℕ) (later : SimulationState) (whole : Table) (now : ℕ) → IsTrue (valid_model model) → IsPlanOf model plan → bound ≤ step_limit →
+    IsReached model plan bound (more later) → later.table ≡ on_each (gone_on whole now) whole → MadeIsSmall whole
+few_after of_model model plan bound later whole now valid good small reached is path =
+    let state = of_model model plan bound later valid good reached in
+    let spent = state.spent in
+    let less = few_of later.table later.spent (omega (arith, spent, small)) state.made path in
+    let same : children_made (task_at later.table path) ≡ children_made (task_at whole path) = ap (λ (t : Table). children_made (task_at t path)) is ∙ made_stays whole now whole path in
+    omega (arith, less, same)
+
+-- ---- ready jobs
+
+made_of : (spent : ℕ) (cells : List CellState) (table : Table) → ((number : ℕ) (path : List ℕ) (task : Task) → slice_get table number ≡ Some (path, task) → task.made ≤ spent) →
+    EachOf (λ job. job.0 ≤ spent) (ready_jobs cells table)
+made_of spent cells [] paid = tt
+made_of spent cells (entry ∷ rest) paid = by entry.1.phase (paid 0 entry.0 entry.1 refl) (made_of spent cells rest (λ number path task there. paid (suc number) path task there))
+  where
+    by : (phase : TaskPhase) → entry.1.made ≤ spent → EachOf (λ job. job.0 ≤ spent) (ready_jobs cells rest) →
+        EachOf (λ job. job.0 ≤ spent) (job_if_ready cells entry.0 entry.1 phase (ready_jobs cells rest))
+    by (ready state) here further = (here, further)
+    by (anchored to edge start state) here further = further
+    by (delayed until state) here further = further
+    by (waiting condition state) here further = further
+    by (calling child into state) here further = further
+    by (over result) here further = further
+
+pub are_ready : OrderIsDistinct → OrderIsItself → FoundByNumber → (model : Parts) (plan : Plan) (bound : ℕ) (at : SimulationState) → IsStateOf model plan bound at →
+    AreReadyJobs model at.spent at.cells (ready_jobs at.cells at.table)
+are_ready distinct itself found model plan bound at is = record {
+  of_model = is.cells;
+  in_range = is.in_range;
+  within = is.within;
+  apart = is.apart;
+  made =
+      made_of at.spent at.cells at.table
+      (λ number path task there.
+          is.made path task (ap (λ (t : Table). task_at t path) (sym (itself at.table is.table.order)) ∙ found at.table number path task (distinct at.table is.table.order) there));
+}
+
+-- ---- the end of a batch
+
+pub same_outcome : (model : Parts) (plan : Plan) (bound : ℕ) (history : History) (present : Present) (cells : List CellState) (end : BatchEnd) →
+    after_outcome model plan bound (state_of history (record present { cells = cells })) (batch_as end cells) ≡ after_outcome model plan bound (state_of history present) (batch_as end cells)
+same_outcome model plan bound history present cells Limit = refl
+same_outcome model plan bound history present cells (Failed who fault) = refl
+same_outcome model plan bound history present cells (Committed frames touched spent) = refl
+
+-- where the batch of a reached state ends so, few children are made
+pub makes_few : ReachedIsOfModel → (model : Parts) (plan : Plan) (bound : ℕ) (history : History) (present : Present) (cells : List CellState) (end : BatchEnd) →
+    IsTrue (valid_model model) → IsPlanOf model plan → bound ≤ step_limit → IsReached model plan bound (more (state_of history present)) →
+    (ready_jobs present.cells (sorted_tasks present.tasks.tasks) ≡ [] → ⊥) →
+    batch_as end cells ≡ batch model bound present.spent present.cells (ready_jobs present.cells (sorted_tasks present.tasks.tasks)) →
+    MakesFew end (record present { cells = cells })
+makes_few of_model model plan bound history present cells Limit valid good small reached some is = tt
+makes_few of_model model plan bound history present cells (Failed who fault) valid good small reached some is = tt
+makes_few of_model model plan bound history present cells (Committed frames touched spent) valid good small reached some is =
+    let at = state_of history present in
+    let place : next_state model plan bound at ≡ after_outcome model plan bound at (committed cells touched frames) = next_is_batch model plan bound at some ∙ ap (after_outcome model plan bound at) (sym is) in
+    few_after of_model model plan bound _ (after_frames present.time frames (sorted_tasks present.tasks.tasks)) present.time valid good small
+    (subst (IsReached model plan bound) place (onward reached)) refl
+
+-- what was committed is known from how the batch ended
+pub pays_batch : (model : Parts) (plan : Plan) (bound : ℕ) (history : History) (present : Present) (cells : List CellState) (end : BatchEnd) (records : List Record) (before after : ℕ) →
+    batch_as end cells ≡ batch model bound present.spent present.cells (ready_jobs present.cells (sorted_tasks present.tasks.tasks)) → IsFrugalEnd end records before after →
+    PaysForBatch (record { model = model; plan = plan; bound = bound; place = more (state_of history present) }) records before after
+pays_batch model plan bound history present cells end records before after is frugal at later touched frames place whole =
+    by end (is ∙ of_place place ∙ whole) frugal
+  where
+    state_in : SimulationState → Next SimulationState Run → SimulationState
+    state_in other (more one) = one
+    state_in other (finished run) = other
+
+    of_place : ◌≡◌ {A = Next SimulationState Run} (more (state_of history present)) (more at) →
+        batch model bound present.spent present.cells (ready_jobs present.cells (sorted_tasks present.tasks.tasks)) ≡ batch model bound at.spent at.cells (ready_jobs at.cells at.table)
+    of_place e = ap (λ (p : Next SimulationState Run). let one = state_in at p in batch model bound one.spent one.cells (ready_jobs one.cells one.table)) e
+
+    by : (end : BatchEnd) → batch_as end cells ≡ committed later touched frames → IsFrugalEnd end records before after → after ≤ before + unmatched frames records
+    by Limit e f = absurd (cc)
+    by (Failed who fault) e f = absurd (cc)
+    by (Committed these numbers spent) e f = (let same : these ≡ frames = cc in subst (λ (l : List Frame). after ≤ before + unmatched l records) same f)
+
+pub looks_batch : (model : Parts) (plan : Plan) (bound : ℕ) (history : History) (present : Present) (cells : List CellState) (end : BatchEnd) (before after : ℕ) →
+    batch_as end cells ≡ batch model bound present.spent present.cells (ready_jobs present.cells (sorted_tasks present.tasks.tasks)) → HasFewLooks end before after →
+    LooksForBatch (record { model = model; plan = plan; bound = bound; place = more (state_of history present) }) before after
+looks_batch model plan bound history present cells end before after is few at later touched frames place whole =
+    by end (is ∙ of_place place ∙ whole) few
+  where
+    state_in : SimulationState → Next SimulationState Run → SimulationState
+    state_in other (more one) = one
+    state_in other (finished run) = other
+
+    of_place : ◌≡◌ {A = Next SimulationState Run} (more (state_of history present)) (more at) →
+        batch model bound present.spent present.cells (ready_jobs present.cells (sorted_tasks present.tasks.tasks)) ≡ batch model bound at.spent at.cells (ready_jobs at.cells at.table)
+    of_place e = ap (λ (p : Next SimulationState Run). let one = state_in at p in batch model bound one.spent one.cells (ready_jobs one.cells one.table)) e
+
+    by : (end : BatchEnd) → batch_as end cells ≡ committed later touched frames → HasFewLooks end before after → after ≤ before + 2 * length frames
+    by Limit e f = absurd (cc)
+    by (Failed who fault) e f = absurd (cc)
+    by (Committed these numbers spent) e f = (let same : these ≡ frames = cc in subst (λ (l : List Frame). after ≤ before + 2 * length l) same f)

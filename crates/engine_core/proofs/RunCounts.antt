@@ -1,0 +1,204 @@
+-- A file of lemmas: what it proves need not be read to trust a clause.
+--
+-- What the counts come to over a run.
+use Rattle.std.proofs.Common.{◌≡◌, ℕ, zero, suc, ◌+◌, ◌-◌, ◌*◌, ◌<◌, ◌≤◌, Bool, true, false, if◌then◌else◌, List, [], ◌∷◌, ◌++◌, length, Option, Some, None, refl, sym, ap, ◌∙◌, subst, append_assoc, length-append, arith}
+use Rattle.std.proofs.lemmas.List.{append-nil}
+use Rattle.aerie_base.specs.declared.models.model.Parts.{Parts}
+use Rattle.aerie_base.specs.declared.plans.Plan.{Plan}
+use Rattle.effect_cells.specs.declared.effects.CellState.{CellState}
+use Rattle.effect_cells.specs.Cells.{passed, first_out}
+use Rattle.run_data.specs.declared.frames.Frame.{Frame}
+use Rattle.run_data.specs.declared.frames.Record.{Record}
+use Rattle.run_data.specs.declared.jobs.Job.{Job}
+use Rattle.run_data.specs.declared.runs.Instant.{Instant}
+use Rattle.run_data.specs.declared.runs.Outcome.TheVariants.{Completed, Failed, StepLimit}
+use Rattle.run_data.specs.declared.runs.Run.{Run}
+use Rattle.run_data.specs.Batches.{Batch, limit, failed, committed, batch}
+use Rattle.run_data.specs.Fresh.{SimulationState, start, next_state, next_by, woken_or_moved, moved, to_time, to_end, after_outcome, instant_at, settled, below, least_due, IsReached}
+use Rattle.run_data.specs.Records.{unmatched, has_fit}
+use Rattle.run_data.specs.Tasks.{on_each, woken, ready_jobs}
+use Rattle.run_data.specs.Transitions.{Next, more, finished, onward}
+use Rattle.run_data.specs.Waves.{last_count, RoseAlike}
+use Rattle.run_data.specs.laws.Weights.{weight, WeightFalls}
+use Rattle.engine_core.specs.BatchGenerations.{Ran}
+use Rattle.engine_core.specs.RunFrames.{frames_in_batches, frames_in_instants, frames_in_run}
+use Rattle.engine_core.specs.Standing.{Standing, HasJob, LeadsTo, there, on, turned, jobs_in, OfBatch, PaysForBatch, LooksForBatch}
+use Rattle.engine_core.proofs.ReadyBatches.{next_is_batch}
+use Rattle.engine_core.proofs.StandingTurns.{place_weight}
+
+-- ---- frames
+
+-- the frames so far
+abbrev pub frames_so_far : SimulationState → List Frame
+frames_so_far at = frames_in_instants at.instants ++ frames_in_batches at.batches
+
+batches_more : (batches : List (List Frame)) (frames : List Frame) → frames_in_batches (batches ++ frames ∷ []) ≡ frames_in_batches batches ++ frames
+batches_more [] frames = append-nil frames
+batches_more (first ∷ rest) frames = ap (λ (l : List Frame). first ++ l) (batches_more rest frames) ∙ sym (append_assoc first (frames_in_batches rest) frames)
+
+instants_more : (instants : List Instant) (instant : Instant) → frames_in_instants (instants ++ instant ∷ []) ≡ frames_in_instants instants ++ frames_in_batches instant.batches
+instants_more [] instant = append-nil (frames_in_batches instant.batches)
+instants_more (first ∷ rest) instant =
+    ap (λ (l : List Frame). frames_in_batches first.batches ++ l) (instants_more rest instant)
+    ∙ sym (append_assoc (frames_in_batches first.batches) (frames_in_instants rest) (frames_in_batches instant.batches))
+
+-- something holds of the frames so far; of a run, if it was completed, of all its frames
+abbrev pub SoFar : (List Frame → Type 0) → Next SimulationState Run → Type 0
+SoFar P (more at) = P (frames_so_far at)
+SoFar P (finished run) = run.outcome ≡ Completed → P (frames_in_run run)
+
+module _ (P : List Frame → Type 0) (model : Parts) (plan : Plan) (bound : ℕ) where
+  -- ---- without a batch no frame comes
+
+  settled_frames : (at : SimulationState) → P (frames_so_far at) → P (frames_in_instants (settled model plan bound at))
+  settled_frames at holds = subst P (sym (instants_more at.instants (instant_at at))) holds
+
+  by_time : (at : SimulationState) (time : ℕ) (cells : List CellState) (out : Option ℕ) → P (frames_so_far at) → SoFar P (to_time model plan bound at time cells out)
+  by_time at time cells (Some cell) holds = λ done. settled_frames at holds
+  by_time at time cells None holds = subst P (sym (append-nil (frames_in_instants (settled model plan bound at)))) (settled_frames at holds)
+
+  by_end : (at : SimulationState) (out : Option ℕ) → P (frames_so_far at) → SoFar P (to_end model plan bound at out)
+  by_end at (Some cell) holds = λ done. settled_frames at holds
+  by_end at None holds = λ done. settled_frames at holds
+
+  by_move : (at : SimulationState) (due : Option ℕ) → P (frames_so_far at) → SoFar P (moved model plan bound at due)
+  by_move at (Some time) holds = by_time at time (passed at.cells (time - at.time)) (first_out (passed at.cells (time - at.time))) holds
+  by_move at None holds = by_end at (first_out (passed at.cells (plan.duration - at.time))) holds
+
+  idle_on : (at : SimulationState) → ready_jobs at.cells at.table ≡ [] → P (frames_so_far at) → SoFar P (next_state model plan bound at)
+  idle_on at none holds =
+      subst (SoFar P) (sym (ap (next_by model plan bound at) none)) (by (ready_jobs at.cells (on_each (woken at.cells) at.table)))
+    where
+      by : (jobs : List (ℕ × Job)) → SoFar P (woken_or_moved model plan bound at (on_each (woken at.cells) at.table) jobs)
+      by [] = by_move at (below plan.duration (least_due at.time plan.duration at.cells at.table)) holds
+      by (job ∷ rest) = holds
+
+  pub led : (place later : Next SimulationState Run) → LeadsTo model plan bound place later → SoFar P place → SoFar P later
+  led place later (there job) holds = holds
+  led place later (on {at} none leads) holds = led (next_state model plan bound at) later leads (idle_on at none holds)
+
+  -- ---- a batch
+
+  pub batched : (at : SimulationState) → (ready_jobs at.cells at.table ≡ [] → ⊥) →
+      ((cells : List CellState) (touched : List ℕ) (frames : List Frame) → batch model bound at.spent at.cells (ready_jobs at.cells at.table) ≡ committed cells touched frames → P (frames_so_far at ++ frames)) →
+      SoFar P (next_state model plan bound at)
+  batched at some holds =
+      subst (SoFar P) (sym (next_is_batch model plan bound at some)) (by (batch model bound at.spent at.cells (ready_jobs at.cells at.table)) holds)
+    where
+      by : (whole : Batch) → ((cells : List CellState) (touched : List ℕ) (frames : List Frame) → whole ≡ committed cells touched frames → P (frames_so_far at ++ frames)) →
+          SoFar P (after_outcome model plan bound at whole)
+      by limit gives = λ done. absurd (cc)
+      by (failed who fault) gives = λ done. absurd (cc)
+      by (committed cells touched frames) gives =
+          subst P
+          (append_assoc (frames_in_instants at.instants) (frames_in_batches at.batches) frames ∙ ap (λ (l : List Frame). frames_in_instants at.instants ++ l) (sym (batches_more at.batches frames)))
+          (gives cells touched frames refl)
+
+-- ---- counts
+
+unmatched_more : (frames others : List Frame) (records : List Record) → unmatched (frames ++ others) records ≡ unmatched frames records + unmatched others records
+unmatched_more [] others records = refl
+unmatched_more (frame ∷ rest) others records = by (has_fit records frame) (unmatched_more rest others records)
+  where
+    by : (fits : Bool) → unmatched (rest ++ others) records ≡ unmatched rest records + unmatched others records →
+        (if fits then unmatched (rest ++ others) records else frame.cost + unmatched (rest ++ others) records)
+        ≡ (if fits then unmatched rest records else frame.cost + unmatched rest records) + unmatched others records
+    by true further = further
+    by false further = omega (arith, further)
+
+pub pays_more : (records : List Record) (frames others : List Frame) (before then_ after : ℕ) → then_ ≤ before + unmatched frames records → after ≤ then_ + unmatched others records →
+    after ≤ before + unmatched (frames ++ others) records
+pays_more records frames others before then_ after first second = (let whole = unmatched_more frames others records in omega (arith, first, second, whole))
+
+pub looks_more : (frames others : List Frame) (before then_ after : ℕ) → then_ ≤ before + 2 * length frames → after ≤ then_ + 2 * length others →
+    after ≤ before + 2 * length (frames ++ others)
+looks_more frames others before then_ after first second = (let whole = length-append frames others in omega (arith, first, second, whole))
+
+-- ---- the weight
+
+module _ (model : Parts) (plan : Plan) (bound : ℕ) (falls : WeightFalls) where
+  turn_less : (at : SimulationState) → IsReached model plan bound (more at) → place_weight plan bound (next_state model plan bound at) < place_weight plan bound (more at)
+  turn_less at reached = by (next_state model plan bound at) refl
+    where
+      by : (place : Next SimulationState Run) → next_state model plan bound at ≡ place → place_weight plan bound place < weight plan bound at + 1
+      by (more later) is = omega (arith, falls model plan bound at later reached is)
+      by (finished run) is = omega arith
+
+  led_less : (place later : Next SimulationState Run) → IsReached model plan bound place → LeadsTo model plan bound place later → place_weight plan bound later ≤ place_weight plan bound place
+  led_less place later reached (there job) = omega arith
+  led_less place later reached (on {at} none leads) =
+      omega (arith, turn_less at reached, led_less (next_state model plan bound at) later (onward reached) leads)
+
+  -- a step with a batch leads to a lower weight
+  pub step_less : (at : SimulationState) (later : Next SimulationState Run) → IsReached model plan bound (more at) → LeadsTo model plan bound (next_state model plan bound at) later →
+      place_weight plan bound later < place_weight plan bound (more at)
+  step_less at later reached leads = omega (arith, turn_less at reached, led_less (next_state model plan bound at) later (onward reached) leads)
+
+-- ---- a step of an engine
+
+module _ (standing later : Standing) (some : jobs_in standing.place ≡ [] → ⊥)
+    (leads : LeadsTo standing.model standing.plan standing.bound (turned standing.model standing.plan standing.bound standing.place) later.place) where
+  -- what holds of the frames so far, and of them with those of a batch, holds of the frames where it leads
+  step_frames : (P Q : List Frame → Type 0) → OfBatch (λ frames. (earlier : List Frame) → P earlier → Q (earlier ++ frames)) standing → SoFar P standing.place → SoFar Q later.place
+  step_frames P Q more_ holds = by standing.place refl some holds leads
+    where
+      by : (place : Next SimulationState Run) → standing.place ≡ place → (jobs_in place ≡ [] → ⊥) → SoFar P place →
+          LeadsTo standing.model standing.plan standing.bound (turned standing.model standing.plan standing.bound place) later.place → SoFar Q later.place
+      by (more at) is jobs so_far goes =
+          led Q standing.model standing.plan standing.bound (next_state standing.model standing.plan standing.bound at) later.place goes
+          (batched Q standing.model standing.plan standing.bound at jobs (λ cells touched frames whole. more_ at cells touched frames is whole (frames_so_far at) so_far))
+      by (finished run) is jobs so_far goes = absurd (jobs refl)
+
+  pub step_pays : (records : List Record) (before then_ after : ℕ) → PaysForBatch standing records then_ after →
+      SoFar (λ frames. then_ ≤ before + unmatched frames records) standing.place → SoFar (λ frames. after ≤ before + unmatched frames records) later.place
+  step_pays records before then_ after pays =
+      step_frames (λ frames. then_ ≤ before + unmatched frames records) (λ frames. after ≤ before + unmatched frames records)
+      (λ at cells touched frames is whole earlier first. pays_more records earlier frames before then_ after first (pays at cells touched frames is whole))
+
+  pub step_looks : (before then_ after : ℕ) → LooksForBatch standing then_ after →
+      SoFar (λ frames. then_ ≤ before + 2 * length frames) standing.place → SoFar (λ frames. after ≤ before + 2 * length frames) later.place
+  step_looks before then_ after looks =
+      step_frames (λ frames. then_ ≤ before + 2 * length frames) (λ frames. after ≤ before + 2 * length frames)
+      (λ at cells touched frames is whole earlier first. looks_more earlier frames before then_ after first (looks at cells touched frames is whole))
+
+  pub step_smaller : WeightFalls → IsReached standing.model standing.plan standing.bound standing.place → later.plan ≡ standing.plan → later.bound ≡ standing.bound →
+      place_weight later.plan later.bound later.place < place_weight standing.plan standing.bound standing.place
+  step_smaller falls reached same_plan same_bound =
+      subst (λ n. place_weight later.plan n later.place < place_weight standing.plan standing.bound standing.place) (sym same_bound)
+      (subst (λ (p : Plan). place_weight p standing.bound later.place < place_weight standing.plan standing.bound standing.place) (sym same_plan)
+      (by standing.place some reached leads))
+    where
+      by : (place : Next SimulationState Run) → (jobs_in place ≡ [] → ⊥) → IsReached standing.model standing.plan standing.bound place →
+          LeadsTo standing.model standing.plan standing.bound (turned standing.model standing.plan standing.bound place) later.place →
+          place_weight standing.plan standing.bound later.place < place_weight standing.plan standing.bound place
+      by (more at) jobs comes goes = step_less standing.model standing.plan standing.bound falls at later.place comes goes
+      by (finished run) jobs comes goes = absurd (jobs refl)
+
+-- ---- at the start and where nothing is run
+
+pub rose_not : (count steps : ℕ) → count ≤ last_count → RoseAlike count steps count steps
+rose_not count steps small = (omega arith, λ rise is. let none : rise ≡ 0 = omega (arith, is) in omega (arith, none, small))
+
+pub ran_not : (was : Parts → Type 0) (records : List Record) (anchor opened steps looks : ℕ) → opened ≤ last_count → Ran was was records records anchor anchor opened steps looks opened steps looks
+ran_not was records anchor opened steps looks small = record {
+  models = λ of. (λ h. h, λ h. h);
+  records = refl;
+  same_anchor = refl;
+  rose = rose_not opened steps small;
+  looked = omega arith;
+}
+
+pub pays_first : (model : Parts) (plan : Plan) (bound steps : ℕ) (records : List Record) (place : Next SimulationState Run) → LeadsTo model plan bound (more (start model plan)) place →
+    SoFar (λ frames. steps ≤ steps + unmatched frames records) place
+pays_first model plan bound steps records place leads =
+    led (λ frames. steps ≤ steps + unmatched frames records) model plan bound (more (start model plan)) place leads (let none : steps ≤ steps + 0 = omega arith in none)
+
+pub looks_first : (model : Parts) (plan : Plan) (bound looks : ℕ) (place : Next SimulationState Run) → LeadsTo model plan bound (more (start model plan)) place →
+    SoFar (λ frames. looks ≤ looks + 2 * length frames) place
+looks_first model plan bound looks place leads =
+    led (λ frames. looks ≤ looks + 2 * length frames) model plan bound (more (start model plan)) place leads (let none : looks ≤ looks + 2 * 0 = omega arith in none)
+
+-- ---- the run
+
+pub at_run : (P : List Frame → Type 0) (place : Next SimulationState Run) (run : Run) → place ≡ finished run → SoFar P place → run.outcome ≡ Completed → P (frames_in_run run)
+at_run P place run is holds = subst (SoFar P) is holds

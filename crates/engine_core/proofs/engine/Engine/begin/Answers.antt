@@ -1,0 +1,13 @@
+use Rattle.std.proofs.Common.{◌∙◌}
+use Rattle.engine_core.proofs.StandingTurns.{on_course_first, leads_first}
+use Rattle.engine_core.proofs.engine.Engine.begin.Goals as goal
+
+pub standing-requires : goal.standing-requires
+standing-requires c =
+    on_course_first c.args.model.now c.args.plan.now c.args.bound c.in_ok-simulation.simulation c.in_ok-simulation.ensures.state c.in_ok-simulation.ensures.plan
+    c.in_ok-simulation.ensures.bound c.requires.plan c.requires.bound c.in_ok-simulation.ensures.kept
+
+pub returns-clause-first : goal.returns-clause-first
+returns-clause-first c =
+    leads_first c.args.model.now c.args.plan.now c.args.bound c.in_ok-simulation.simulation c.in_ok-simulation.ensures.state c.in_ok-simulation.ensures.plan
+    c.in_ok-simulation.ensures.bound c.in_ok-engine.engine.place c.in_ok-engine.ensures.leads

@@ -1,0 +1,43 @@
+-- Where an instant is settled and time passes.
+use Rattle.std.specs.Prelude.{ℕ, ◌-◌, ◌≤◌, Option}
+use Rattle.aerie_base.specs.declared.models.model.Parts.{Parts}
+use Rattle.aerie_base.specs.declared.plans.Plan.{Plan}
+use Rattle.effect_cells.specs.Cells.{passed, first_out}
+use Rattle.run_data.specs.declared.runs.Outcome.{Outcome}
+use Rattle.run_data.specs.declared.runs.Run.{Run}
+use Rattle.run_data.specs.Fresh.{SimulationState, moved, to_time, to_end, below, least_due}
+use Rattle.run_data.specs.Transitions.{Next, more, finished}
+use Rattle.engine_core.specs.declared.history.History.{History}
+use Rattle.engine_core.specs.declared.simulation.Request.{Request}
+
+-- the run of what is simulated, which reached a time and ended so
+abbrev pub run_with : Request → History → ℕ → Outcome → Run
+run_with request history reach outcome = record {
+  plan = request.plan;
+  bound = request.bound;
+  instants = history.instants;
+  reach = reach;
+  outcome = outcome;
+}
+
+-- the next time at which some task goes on by itself, if it is below the plan's end
+abbrev pub next_due : Plan → SimulationState → Option ℕ
+next_due plan at = below plan.duration (least_due at.time plan.duration at.cells at.table)
+
+-- where time passes to that time, or to the plan's end
+abbrev pub place_moved : Parts → Plan → ℕ → SimulationState → Next SimulationState Run
+place_moved model plan bound at = moved model plan bound at (next_due plan at)
+
+-- where time passes to a time below the plan's end
+abbrev pub place_at_time : Parts → Plan → ℕ → SimulationState → ℕ → Next SimulationState Run
+place_at_time model plan bound at time =
+    let cells = passed at.cells (time - at.time) in to_time model plan bound at time cells (first_out cells)
+
+-- where it passes to the plan's end
+abbrev pub place_at_end : Parts → Plan → ℕ → SimulationState → Next SimulationState Run
+place_at_end model plan bound at = to_end model plan bound at (first_out (passed at.cells (plan.duration - at.time)))
+
+-- a simulation that goes on does so no earlier than at this time
+abbrev pub GoesOnFrom : ℕ → Next SimulationState Run → Type 0
+GoesOnFrom time (more later) = time ≤ later.time
+GoesOnFrom time (finished run) = Unit {0}

@@ -1,0 +1,99 @@
+-- What the code's parts of a simulation are.
+use Rattle.std.specs.Prelude.{◌≡◌, ℕ, ◌≤◌, Bool, true, false, List, [], ◌∷◌}
+use Rattle.aerie_base.specs.Ranges.{step_limit}
+use Rattle.aerie_base.specs.declared.models.model.Parts.{Parts}
+use Rattle.aerie_base.specs.declared.plans.Plan.{Plan}
+use Rattle.aerie_base.specs.plans.OfModel.{IsPlanOf}
+use Rattle.effect_cells.specs.declared.effects.CellState.{CellState}
+use Rattle.run_data.specs.declared.jobs.Job.{Job}
+use Rattle.run_data.specs.declared.runs.Run.{Run}
+use Rattle.run_data.specs.Fresh.{SimulationState, IsReached}
+use Rattle.run_data.specs.Tasks.{ready_jobs, after_frames}
+use Rattle.run_data.specs.Transitions.{Next, more, finished}
+use Rattle.run_data.specs.laws.NumberedTasks.{sorted_tasks}
+use Rattle.engine_core.specs.Standing.{Standing, turned}
+use Rattle.engine_core.specs.TasksByNumber.{AgreeBut, AreKept, MadeIsSmall}
+use Rattle.engine_core.specs.declared.batch_ends.BatchEnd.{BatchEnd}
+use Rattle.engine_core.specs.declared.batch_ends.BatchEnd.TheVariants.{Limit, Failed, Committed}
+use Rattle.engine_core.specs.declared.history.History.{History}
+use Rattle.engine_core.specs.declared.present.Present.{Present}
+use Rattle.engine_core.specs.declared.simulation.Stage.{Stage}
+use Rattle.engine_core.specs.declared.simulation.Stage.TheVariants.{On, Over}
+
+abbrev pub state_of : History → Present → SimulationState
+state_of history present = record {
+  time = present.time;
+  cells = present.cells;
+  spent = present.spent;
+  table = sorted_tasks present.tasks.tasks;
+  instants = history.instants;
+  batches = history.batches;
+  touched = history.touched;
+}
+
+-- where the simulation stands after a turn, or its run
+abbrev pub place_in : Stage → Next SimulationState Run
+place_in (On simulation) = more (state_of simulation.history simulation.present)
+place_in (Over run) = finished run
+
+-- what is simulated; a run knows its plan and bound by itself
+abbrev pub plan_in : Stage → Plan
+plan_in (On simulation) = simulation.request.plan
+plan_in (Over run) = run.plan
+
+abbrev pub bound_in : Stage → ℕ
+bound_in (On simulation) = simulation.request.bound
+bound_in (Over run) = run.bound
+
+-- the kept wake times are right, up to the end of a plan
+abbrev pub AreKeptBefore : ℕ → Present → Type 0
+AreKeptBefore end present = AreKept present.time end present.cells present.tasks
+
+abbrev pub AreKeptIn : Stage → Type 0
+AreKeptIn (On simulation) = AreKeptBefore simulation.request.plan.duration simulation.present
+AreKeptIn (Over run) = Unit {0}
+
+-- the simulation of the plan comes there, and the kept wake times are right
+pub record IsOnCourse (model : Parts) (turn : Stage) : Type 0 where
+  pub plan : IsPlanOf model (plan_in turn)
+  pub bound : bound_in turn ≤ step_limit
+  pub reached : IsReached model (plan_in turn) (bound_in turn) (place_in turn)
+  pub kept : AreKeptIn turn
+
+-- what is simulated, and where it stands
+abbrev pub standing_of : Parts → Stage → Standing
+standing_of model turn = record { model = model; plan = plan_in turn; bound = bound_in turn; place = place_in turn }
+
+-- a turn stands at a place of the simulation of this plan under this bound, and its kept wake times are right
+pub record StandsAt (of : Plan) (limit : ℕ) (there : Next SimulationState Run) (turn : Stage) : Type 0 where
+  pub place : place_in turn ≡ there
+  pub plan : plan_in turn ≡ of
+  pub bound : bound_in turn ≡ limit
+  pub kept : AreKeptIn turn
+
+-- the turn from one stage gives another
+abbrev pub IsTurnFrom : Parts → Stage → Stage → Type 0
+IsTurnFrom model stage next =
+    StandsAt (plan_in stage) (bound_in stage) (turned model (plan_in stage) (bound_in stage) (place_in stage)) next
+
+-- whether there is no job
+abbrev pub are_none : List (ℕ × Job) → Bool
+are_none [] = true
+are_none (job ∷ rest) = false
+
+-- whether no task is ready at a place, which is not the run
+abbrev pub is_idle_at : Next SimulationState Run → Bool
+is_idle_at (more at) = are_none (ready_jobs at.cells at.table)
+is_idle_at (finished run) = false
+
+-- where a batch is committed, other cells than those it touched are as they were
+abbrev pub TouchesAll : BatchEnd → List CellState → List CellState → Type 0
+TouchesAll Limit before after = Unit {0}
+TouchesAll (Failed who fault) before after = Unit {0}
+TouchesAll (Committed frames touched spent) before after = AgreeBut touched before after
+
+-- where a batch is committed, no task has made so many children that the next one has no number
+abbrev pub MakesFew : BatchEnd → Present → Type 0
+MakesFew Limit present = Unit {0}
+MakesFew (Failed who fault) present = Unit {0}
+MakesFew (Committed frames touched spent) present = MadeIsSmall (after_frames present.time frames (sorted_tasks present.tasks.tasks))

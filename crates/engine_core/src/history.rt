@@ -1,0 +1,176 @@
+//! What has happened in a simulation.
+
+ghost use Rattle.std.specs.Prelude.{◌≡◌, ◌≤◌, ◌<◌, ◌++◌, ◌∷◌, [], true, false, length, replicate, slice_get, slice_set, Some, IfOk, OnOk};
+ghost use Rattle.effect_cells.specs.declared.effects.CellState.{CellState as State};
+ghost use Rattle.run_data.specs.Fresh.{states_from};
+ghost use Rattle.engine_core.specs.Flags.{flagged_by_numbers, flagged_state, flagged_states};
+
+use aerie_base::{List, OutOfMemory, Time};
+use effect_cells::{CellState, Cells};
+use run_data::{Frame, Instant};
+use std::alloc::Global;
+
+/// The settled instants, the batches of the time at hand, and the cells on which they had an effect.
+#[derive(Drop)]
+pub(crate) struct History {
+    pub(crate) instants: List<Instant>,
+    pub(crate) batches: List<List<Frame>>,
+    pub(crate) touched: List<u16>,
+}
+
+/// The numbers, and others behind them.
+fn joined(mut numbers: List<u16>, others: List<u16>) -> Result<List<u16>, OutOfMemory>
+    ensures { IfOk result (λ all. all ≡ numbers ++ others) }
+{
+    numbers.items.extend_from_slice(others.as_slice())?;
+    Ok(numbers)
+}
+
+/// The flags, that of a number set, if there is one.
+fn with_flag(mut flags: Vec<bool>, number: u16) -> Vec<bool>
+    ensures { result.items ≡ slice_set flags.items number true }
+{
+    let number = usize::from(number);
+    if number < flags.len() {
+        flags[number] = true;
+    }
+    flags
+}
+
+/// Flags for so many cells, those of some numbers set.
+fn flags_of(alloc: Global, count: usize, touched: &[u16]) -> Result<Vec<bool>, OutOfMemory>
+    ensures { IfOk result (λ flags. flags.items ≡ flagged_by_numbers (replicate count false) touched.now) }
+{
+    let mut flags = vec![in alloc; false; count]?;
+    for number in touched {
+        flags = with_flag(flags, *number);
+    }
+    Ok(flags)
+}
+
+/// Whether the flag at a place is set.
+fn is_set(flags: &[bool], at: usize) -> bool
+    requires { at < length flags.now }
+    ensures { slice_get flags.now at ≡ Some result }
+{
+    flags[at]
+}
+
+/// Puts the state of a cell with its number behind others where its flag is set.
+fn keep_state(
+    states: &mut List<(u16, CellState)>,
+    cells: &Cells,
+    number: u16,
+    flag: bool,
+) -> Result<(), OutOfMemory>
+    requires { number < length cells.now }
+    ensures { OnOk result ((state : State) → slice_get cells.now number ≡ Some state → states.new ≡ states.old ++ flagged_state flag number state) }
+{
+    if flag {
+        states.push((number, cells.state(number)))?;
+    }
+    Ok(())
+}
+
+/// The states of the cells whose flags are set, each with its number.
+fn flagged_states(
+    alloc: Global,
+    cells: &Cells,
+    flags: &[bool],
+) -> Result<List<(u16, CellState)>, OutOfMemory>
+    requires count { length flags.now ≡ length cells.now }
+    requires few { length flags.now ≤ 65536 }
+    ensures { IfOk result (λ states. states ≡ flagged_states 0 flags.now cells.now) }
+{
+    let mut states = List::new(alloc);
+    for at in 0..flags.len() {
+        keep_state(&mut states, cells, at as u16, is_set(flags, at))?;
+    }
+    Ok(states)
+}
+
+/// The cells of these numbers, in order, each with its state.
+fn changed_states(
+    alloc: Global,
+    cells: &Cells,
+    count: usize,
+    touched: &[u16],
+) -> Result<List<(u16, CellState)>, OutOfMemory>
+    requires count { count ≡ length cells.now }
+    requires few { count ≤ 65536 }
+    ensures { IfOk result (λ states. states ≡ states_from 0 touched.now cells.now) }
+{
+    let flags = flags_of(alloc, count, touched)?;
+    let states = flagged_states(alloc, cells, flags.as_slice())?;
+    Ok(states)
+}
+
+impl History {
+    /// Nothing has happened.
+    pub(crate) fn new(alloc: Global) -> History
+        ensures { result ≡ record { instants = []; batches = []; touched = [] } }
+    {
+        History {
+            instants: List::new(alloc),
+            batches: List::new(alloc),
+            touched: List::new(alloc),
+        }
+    }
+
+    /// With one more batch, and the cells on which it had an effect.
+    pub(crate) fn with_batch(
+        self,
+        frames: List<Frame>,
+        touched: List<u16>,
+    ) -> Result<History, OutOfMemory>
+        ensures instants { IfOk result (λ all. all.instants ≡ self.instants) }
+        ensures batches { IfOk result (λ all. all.batches ≡ self.batches ++ frames ∷ []) }
+        ensures touched { IfOk result (λ all. all.touched ≡ self.touched ++ touched) }
+    {
+        let History {
+            instants,
+            mut batches,
+            touched: earlier,
+        } = self;
+        batches.push(frames)?;
+        let touched = joined(earlier, touched)?;
+        Ok(History {
+            instants,
+            batches,
+            touched,
+        })
+    }
+
+    /// With the instant at hand settled on these cells, of which there are so many.
+    pub(crate) fn settled(
+        self,
+        alloc: Global,
+        time: Time,
+        cells: &Cells,
+        count: usize,
+    ) -> Result<History, OutOfMemory>
+        requires count { count ≡ length cells.now }
+        requires few { count ≤ 65536 }
+        ensures instants { IfOk result (λ all. all.instants ≡
+            self.instants ++ (record { time = time; batches = self.batches; changed = states_from 0 self.touched cells.now }) ∷ []) }
+        ensures batches { IfOk result (λ all. all.batches ≡ []) }
+        ensures touched { IfOk result (λ all. all.touched ≡ []) }
+    {
+        let History {
+            mut instants,
+            batches,
+            touched,
+        } = self;
+        let changed = changed_states(alloc, cells, count, touched.as_slice())?;
+        instants.push(Instant {
+            time,
+            batches,
+            changed,
+        })?;
+        Ok(History {
+            instants,
+            batches: List::new(alloc),
+            touched: List::new(alloc),
+        })
+    }
+}

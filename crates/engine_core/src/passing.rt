@@ -1,0 +1,133 @@
+//! Where an instant is settled and time passes.
+
+ghost use Rattle.std.specs.Prelude.{◌≡◌, ◌<◌, ◌-◌, Some, length, IfOk};
+ghost use Rattle.aerie_base.specs.declared.faults.Fault.TheVariants as fault;
+ghost use Rattle.effect_cells.specs.Cells.{AreInRange};
+ghost use Rattle.run_data.specs.declared.runs.Outcome.TheVariants as outcome;
+ghost use Rattle.run_data.specs.declared.runs.Who.TheVariants as who;
+ghost use Rattle.engine_core.specs.Passing.{run_with, next_due, place_moved, place_at_time, place_at_end, GoesOnFrom};
+ghost use Rattle.engine_core.specs.TasksByNumber.{AreFound};
+ghost use Rattle.engine_core.specs.Turns.{state_of, StandsAt};
+ghost use Rattle.engine_core.specs.declared.simulation.Stage.TheVariants as turn_;
+
+use crate::history::History;
+use crate::present::Present;
+use crate::simulation::{Request, Simulation, Stage};
+use crate::waking::wakes_pass;
+use aerie_base::{Fault, Model, OutOfMemory, Time};
+use run_data::laws::{due_splits, tasks_stand_by_number};
+use run_data::{Outcome, Run, Who};
+use std::alloc::Global;
+
+/// So much time from one to a later one; none, if it is not later.
+fn between(from: Time, to: Time) -> Time
+    ensures { result ≡ to - from }
+{
+    Time::new((to.get() - from.get()).max(0)).unwrap()
+}
+
+/// The run, which reached a time and ended so.
+pub(crate) fn run_with(request: Request, history: History, reach: Time, outcome: Outcome) -> Run
+    ensures { result ≡ run_with request history reach outcome }
+{
+    Run {
+        plan: request.plan,
+        bound: request.bound,
+        instants: history.instants,
+        reach,
+        outcome,
+    }
+}
+
+/// The run in which a cell would leave its range as time passes to a time.
+fn cell_out(request: Request, history: History, reach: Time, time: Time, cell: u16) -> Stage
+    ensures { result ≡ turn_.Over (run_with request history reach (outcome.Failed time (who.Cell cell) fault.Range)) }
+{
+    let outcome = Outcome::Failed {
+        time,
+        who: Who::Cell(cell),
+        fault: Fault::Range,
+    };
+    Stage::Over(run_with(request, history, reach, outcome))
+}
+
+/// The instant is settled, and time passes to the next time, at which some task goes on by itself.
+fn moved_to(
+    alloc: Global,
+    model: &Model,
+    request: Request,
+    history: History,
+    present: Present,
+    time: Time,
+) -> Result<Stage, OutOfMemory>
+    requires count { length model.now.cells ≡ length present.cells }
+    requires range { AreInRange present.cells }
+    requires found { AreFound present.time request.plan.duration present.cells present.tasks }
+    requires next { Some time ≡ next_due request.plan (state_of history present) }
+    requires onward { GoesOnFrom present.time (place_at_time model.now request.plan request.bound (state_of history present) time) }
+    ensures { IfOk result (StandsAt request.plan request.bound (place_at_time model.now request.plan request.bound (state_of history present) time)) }
+{
+    due_splits();
+    tasks_stand_by_number();
+    wakes_pass();
+    present.tasks.note_distinct();
+    let count = model.cells().len();
+    let history = history.settled(alloc, present.time, &present.cells, count)?;
+    let reach = present.time;
+    let mut present = present;
+    match present.cells.passed(between(reach, time)) {
+        Ok(()) => {
+            let present = present.rested(alloc, time)?;
+            Ok(Stage::On(Simulation {
+                request,
+                history,
+                present,
+            }))
+        }
+        Err(out) => Ok(cell_out(request, history, reach, time, out.cell)),
+    }
+}
+
+/// The instant is settled, and time passes to the end of the plan.
+fn ended(
+    alloc: Global,
+    model: &Model,
+    request: Request,
+    history: History,
+    present: Present,
+) -> Result<Stage, OutOfMemory>
+    requires count { length model.now.cells ≡ length present.cells }
+    requires range { AreInRange present.cells }
+    ensures { IfOk result (StandsAt request.plan request.bound (place_at_end model.now request.plan request.bound (state_of history present))) }
+{
+    let count = model.cells().len();
+    let history = history.settled(alloc, present.time, &present.cells, count)?;
+    let reach = present.time;
+    let end = request.end();
+    let mut present = present;
+    match present.cells.passed(between(reach, end)) {
+        Ok(()) => Ok(Stage::Over(run_with(request, history, end, Outcome::Completed))),
+        Err(out) => Ok(cell_out(request, history, reach, end, out.cell)),
+    }
+}
+
+/// Where no task goes on: the instant is settled, and time passes to the next time, or to the end of the plan.
+pub(crate) fn moved(
+    alloc: Global,
+    model: &Model,
+    request: Request,
+    history: History,
+    present: Present,
+) -> Result<Stage, OutOfMemory>
+    requires count { length model.now.cells ≡ length present.cells }
+    requires range { AreInRange present.cells }
+    requires found { AreFound present.time request.plan.duration present.cells present.tasks }
+    requires onward { GoesOnFrom present.time (place_moved model.now request.plan request.bound (state_of history present)) }
+    ensures { IfOk result (StandsAt request.plan request.bound (place_moved model.now request.plan request.bound (state_of history present))) }
+{
+    let end = request.end();
+    match present.next_time(end) {
+        Some(time) => moved_to(alloc, model, request, history, present, time),
+        None => ended(alloc, model, request, history, present),
+    }
+}

@@ -1,0 +1,47 @@
+ghost use Rattle.std.specs.Prelude.{◌≡◌, ◌≤◌, IfOk};
+ghost use Rattle.aerie_base.specs.Ranges.{step_limit};
+ghost use Rattle.aerie_base.specs.declared.models.model.Parts.{Parts};
+ghost use Rattle.aerie_base.specs.plans.OfModel.{IsPlanOf};
+ghost use Rattle.run_data.specs.Fresh.{IsFresh};
+ghost use Rattle.run_data.specs.Waves.{RoseAlike};
+ghost use Rattle.engine_core.specs.RunFrames.{PaysForRun, LooksForRun};
+
+use crate::engine::Engine;
+use aerie_base::{Model, OutOfMemory, Plan, Steps};
+use run_data::laws::weight_falls;
+use run_data::{Run, Stepper};
+use std::alloc::Global;
+use std::sync::ledger::Ledger;
+
+/// The fresh run of the plan, for every stepper. The bound is at most 100,000,000. `steps` and `looks` rise as the stepper's
+/// waves say; for a completed run the first by at most what no stored step fits of its frames, the second by at most two
+/// for each frame.
+pub fn simulate<S: Stepper, L: Ledger, K: Ledger>(
+    alloc: Global,
+    model: &Model,
+    plan: &Plan,
+    bound: u64,
+    stepper: &mut S,
+    steps: &mut Steps<L>,
+    looks: &mut Steps<K>,
+) -> Result<Run, OutOfMemory>
+    requires plan { IsPlanOf model.now plan.now }
+    requires bound { bound ≤ step_limit }
+    requires shares { S.shares }
+    requires stepper { S.is_of stepper.old model.now }
+    ensures fresh { IfOk result (λ run. IsFresh model.now plan.now bound run) }
+    ensures frugal { IfOk result (λ run. PaysForRun run (S.records stepper.old) steps.old steps.new) }
+    ensures looks { looks.old ≤ looks.new }
+    ensures few_looks { IfOk result (λ run. LooksForRun run looks.old looks.new) }
+    ensures opened { RoseAlike (S.opened stepper.old) steps.old (S.opened stepper.new) steps.new }
+    ensures same_models { (of : Parts) → (S.is_of stepper.old of → S.is_of stepper.new of) × (S.is_of stepper.new of → S.is_of stepper.old of) }
+    ensures same_records { S.records stepper.new ≡ S.records stepper.old }
+    ensures anchor { S.anchor stepper.new ≡ S.anchor stepper.old }
+{
+    weight_falls();
+    let mut engine = Engine::begin(alloc, model, plan, bound)?;
+    while !engine.ready().is_empty() {
+        engine = engine.step(alloc, stepper, steps, looks)?;
+    }
+    Ok(engine.finish())
+}
