@@ -60,7 +60,7 @@ flag_at (number ∷ rest) flags at was is = by (λ set there. flag_at rest (slic
         by_place false more = ap (λ (f : List Bool). slice_get f at) (set_beyond flags number true (ltb-false number (length flags) more)) ∙ is
 
     by : ((set : Bool) → slice_get (slice_set flags number true) at ≡ Some set →
-            slice_get (flagged_by_numbers (slice_set flags number true) rest) at ≡ Some (set || list_any (nat_eq at) rest)) →
+        slice_get (flagged_by_numbers (slice_set flags number true) rest) at ≡ Some (set || list_any (nat_eq at) rest)) →
         (b : Bool) → nat_eq at number ≡ b → slice_get (flagged_by_numbers (slice_set flags number true) rest) at ≡ Some (was || (nat_eq at number || list_any (nat_eq at) rest))
     by further true e =
         let same : nat_eq number at ≡ true = grind (arith, nat_tests) in
@@ -109,7 +109,7 @@ pub touched_states : (touched : List ℕ) (count : ℕ) (cells : List CellState)
 touched_states touched count cells flags long is =
     by_flags touched 0 flags cells (as_long flags touched count is ∙ long)
     (λ at less. ap (λ (f : List Bool). slice_get f at) is ∙ flag_at touched (replicate count false) at false (unset_at count at (omega (arith, less, long)))
-        ∙ ap (λ n. Some (list_any (nat_eq n) touched)) (let k : at ≡ 0 + at = omega arith in k))
+    ∙ ap (λ n. Some (list_any (nat_eq n) touched)) (let k : at ≡ 0 + at = omega arith in k))
 
 -- ---- one state more
 

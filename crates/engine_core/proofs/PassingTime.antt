@@ -130,7 +130,7 @@ pub at_next_time : DueSplits → LeastDelayByNumber → LeastWakeByNumber → (n
 at_next_time splits delays waits now horizon time cells tasks distinct is =
     let due = due_is time horizon (least_due now horizon cells (sorted_tasks tasks)) is in
     let whole : earlier (least_delay tasks) (least_wake now horizon cells tasks) ≡ Some time =
-        (λ i. earlier (sym (delays tasks distinct) i) (sym (waits now horizon cells tasks distinct) i)) ∙ sym (splits now horizon cells (sorted_tasks tasks)) ∙ due.0
+    (λ i. earlier (sym (delays tasks distinct) i) (sym (waits now horizon cells tasks distinct) i)) ∙ sym (splits now horizon cells (sorted_tasks tasks)) ∙ due.0
     in
     let both = sooner time (least_delay tasks) (least_wake now horizon cells tasks) whole in
     (both.0, both.1, due.1)

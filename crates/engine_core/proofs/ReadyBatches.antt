@@ -95,7 +95,7 @@ are_ready distinct itself found model plan bound at is = record {
   made =
       made_of at.spent at.cells at.table
       (λ number path task there.
-          is.made path task (ap (λ (t : Table). task_at t path) (sym (itself at.table is.table.order)) ∙ found at.table number path task (distinct at.table is.table.order) there));
+      is.made path task (ap (λ (t : Table). task_at t path) (sym (itself at.table is.table.order)) ∙ found at.table number path task (distinct at.table is.table.order) there));
 }
 
 -- ---- the end of a batch

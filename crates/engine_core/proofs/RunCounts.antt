@@ -97,7 +97,7 @@ module _ (P : List Frame → Type 0) (model : Parts) (plan : Plan) (bound : ℕ)
 -- ---- counts
 
 unmatched_more : (frames others : List Frame) (records : List Record) → unmatched (frames ++ others) records ≡ unmatched frames records + unmatched others records
-unmatched_more [] others records = refl
+unmatched_more [] others records = (let none : unmatched others records ≡ 0 + unmatched others records = omega arith in none)
 unmatched_more (frame ∷ rest) others records = by (has_fit records frame) (unmatched_more rest others records)
   where
     by : (fits : Bool) → unmatched (rest ++ others) records ≡ unmatched rest records + unmatched others records →

@@ -46,11 +46,7 @@ impl<'a> std::marker::Model for Engine<'a> {
 }
 
 /// From a turn on to the next place that has a job, or to the outcome.
-fn standing<'a>(
-    alloc: Global,
-    model: &'a Model,
-    turn: Stage,
-) -> Result<Engine<'a>, OutOfMemory>
+fn standing<'a>(alloc: Global, model: &'a Model, turn: Stage) -> Result<Engine<'a>, OutOfMemory>
     requires { IsOnCourse model.now turn }
     ensures model { IfOk result (λ engine. engine.model ≡ model.now) }
     ensures plan { IfOk result (λ engine. engine.plan ≡ plan_in turn) }

@@ -20,12 +20,12 @@ pub returns-in-Some : goal.returns-in-Some
 returns-in-Some c =
     let due = c.next_time.ensures ∙ ap (λ end. below end (least_due c.args.present.time end c.args.present.cells (sorted_tasks c.args.present.tasks.tasks))) c.end-end.ensures in
     subst (λ (due : Option ℕ). IfOk c.moved_to.result (λ turn. StandsAt c.args.request.plan c.args.request.bound
-        (moved c.args.model.now c.args.request.plan c.args.request.bound (state_of c.args.history c.args.present) due) turn))
+    (moved c.args.model.now c.args.request.plan c.args.request.bound (state_of c.args.history c.args.present) due) turn))
     (sym c.in-Some.is ∙ due) c.moved_to.ensures
 
 pub returns-in-None : goal.returns-in-None
 returns-in-None c =
     let due = c.next_time.ensures ∙ ap (λ end. below end (least_due c.args.present.time end c.args.present.cells (sorted_tasks c.args.present.tasks.tasks))) c.end-end.ensures in
     subst (λ (due : Option ℕ). IfOk c.ended.result (λ turn. StandsAt c.args.request.plan c.args.request.bound
-        (moved c.args.model.now c.args.request.plan c.args.request.bound (state_of c.args.history c.args.present) due) turn))
+    (moved c.args.model.now c.args.request.plan c.args.request.bound (state_of c.args.history c.args.present) due) turn))
     (sym c.in-None.is ∙ due) c.ended.ensures

@@ -21,7 +21,7 @@ rested-requires c =
 pub returns-in_ok-present-in-Ok : goal.returns-in_ok-present-in-Ok
 returns-in_ok-present-in-Ok c =
     let next = at_next_time c.due_splits.ensures.splits c.due_splits.ensures.delays c.due_splits.ensures.waits c.args.present.time c.args.request.plan.duration c.args.time c.args.present.cells
-        c.args.present.tasks.tasks c.note_distinct.ensures.distinct c.requires.next in
+    c.args.present.tasks.tasks c.note_distinct.ensures.distinct c.requires.next in
     stands_passed c.args.model.now c.args.request c.args.history c.in_ok-history.history c.args.present c.in_ok-history.ensures.instants c.in_ok-history.ensures.batches c.in_ok-history.ensures.touched
     c.tasks_stand_by_number.ensures.changed c.wakes_pass.ensures c.args.time c.between.result c.in_ok-present-in-Ok.present c.between.ensures c.in-Ok.ensures.answer
     c.in_ok-present-in-Ok.ensures.time c.in_ok-present-in-Ok.ensures.spent (c.in_ok-present-in-Ok.ensures.cells ∙ c.in-Ok.ensures.moved) c.in_ok-present-in-Ok.ensures.tasks

@@ -20,8 +20,8 @@ returns-clause-table c =
     rested_at_start c.tasks_stand_by_number.ensures.changed c.args.start c.in_ok-planned.planned.tasks c.in_ok-all.all.tasks _ c.requires
     (c.in_ok-planned.ensures.table
     ∙ (λ i.
-        with_directives c.args.model.now (c.as_slice.ensures i)
-        ((c.in_ok-daemons.ensures.table ∙ (λ j. with_daemons 0 (c.daemons.ensures.value j) (sorted_tasks (c.in_ok-none.ensures.tasks j)))) i)))
+    with_directives c.args.model.now (c.as_slice.ensures i)
+    ((c.in_ok-daemons.ensures.table ∙ (λ j. with_daemons 0 (c.daemons.ensures.value j) (sorted_tasks (c.in_ok-none.ensures.tasks j)))) i)))
     c.in_ok-all.ensures.tasks
 
 pub returns-clause-kept : goal.returns-clause-kept

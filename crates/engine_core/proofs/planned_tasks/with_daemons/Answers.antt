@@ -17,7 +17,7 @@ pub loop-daemon-preserved : goal.loop-daemon-preserved
 loop-daemon-preserved c = (
   ap (λ n. n + 1) c.loop-daemon.invariant.0,
   daemons_next c.args.daemons.now c.loop-daemon.daemon-index c.daemon-item.result _ _ c.loop-daemon-test.true c.daemon-item.is
-  (c.in_ok-all.ensures.table ∙ ap (λ n. with_task (sorted_tasks c.loop-daemon.all.tasks) (daemon_root n) (daemon_task n c.daemon-item.result)) c.loop-daemon.invariant.0)
-  ∙ c.loop-daemon.invariant.1,
+      (c.in_ok-all.ensures.table ∙ ap (λ n. with_task (sorted_tasks c.loop-daemon.all.tasks) (daemon_root n) (daemon_task n c.daemon-item.result)) c.loop-daemon.invariant.0)
+      ∙ c.loop-daemon.invariant.1,
   λ now horizon cells kept. c.in_ok-all.ensures.kept now horizon cells (c.loop-daemon.invariant.2 now horizon cells kept),
 )
