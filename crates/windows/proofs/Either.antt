@@ -4,7 +4,7 @@ use Rattle.std.proofs.Math.Seq.{drop-cons}
 use Rattle.std.proofs.lemmas.Grind.{common_steps}
 use Rattle.windows.specs.Times.{Interval, covers, contains, InOrder, AreIntervals}
 use Rattle.windows.specs.Joining.{last_start, Joins, stands_first}
-use Rattle.windows.proofs.Order.{order_from, above, at_most}
+use Rattle.windows.specs.OrderLaws.{order_from, above, at_most}
 use Rattle.windows.proofs.Both.{cut_at}
 use Rattle.windows.proofs.Builds.{Builds, builds_none, builds_more, builds_all}
 

@@ -3,7 +3,7 @@ use Rattle.std.proofs.Common.{◌≡◌, ℕ, zero, suc, ◌+◌, ◌<◌, ◌�
 use Rattle.std.proofs.lemmas.Grind.{common_steps}
 use Rattle.std.specs.List.Sorted.{IsPartitionedBy, IsPartitionPoint}
 use Rattle.windows.specs.Times.{Interval, contains, InOrder}
-use Rattle.windows.proofs.Order.{none_before}
+use Rattle.windows.specs.OrderLaws.{none_before}
 
 -- an interval that begins no earlier than `from` ends after it
 ends_after : (reach from : ℕ) (intervals : List Interval) (j : ℕ) (d : Interval) → InOrder reach from intervals → j < length intervals → from < (get_or intervals j d).1

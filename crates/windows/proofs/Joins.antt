@@ -3,7 +3,7 @@ use Rattle.std.proofs.Common.{◌≡◌, ℕ, ◌<◌, ◌≤◌, max, Bool, tru
 use Rattle.std.proofs.lemmas.Grind.{common_steps}
 use Rattle.windows.specs.Times.{Interval, covers, contains}
 use Rattle.windows.specs.Joining.{last_start, Joins}
-use Rattle.windows.proofs.Order.{next_start, push_parts, push_order, next_push, contains_push}
+use Rattle.windows.specs.OrderLaws.{next_start, push_parts, push_order, next_push, contains_push}
 
 pub last_start_push : (intervals : List Interval) (interval : Interval) → last_start (intervals ++ interval ∷ []) ≡ interval.0
 last_start_push [] interval = refl

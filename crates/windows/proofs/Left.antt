@@ -4,7 +4,7 @@ use Rattle.std.proofs.Math.Seq.{drop-cons}
 use Rattle.std.proofs.lemmas.Grind.{common_steps}
 use Rattle.windows.specs.Times.{Interval, covers, contains, InOrder, AreIntervals}
 use Rattle.windows.specs.Joining.{last_start, Joins}
-use Rattle.windows.proofs.Order.{none_before, order_from}
+use Rattle.windows.specs.OrderLaws.{none_before, order_from}
 use Rattle.windows.proofs.Builds.{Builds, builds_more, builds_all}
 
 -- the times from `from` on that the intervals leave out

@@ -7,9 +7,8 @@ pub mod Joins
 pub mod Left
 pub mod Lines
 pub mod Long
-pub mod Order
 pub mod Pieces
 pub mod Profiles
 pub mod Shifts
 pub mod Spans
-pub mod Unique
+pub mod Splices

@@ -2,7 +2,7 @@
 use Rattle.std.proofs.Common.{◌≡◌, ℕ, ◌+◌, ◌-◌, ◌<◌, ◌≤◌, Bool, true, false, ◌&&◌, ◌||◌, List, [], ◌∷◌, length, drop, get_or, ap, ◌∙◌, arith, nat_le}
 use Rattle.windows.specs.Times.{Interval, covers, long_contains, InOrder}
 use Rattle.windows.specs.Joining.{last_start, Joins}
-use Rattle.windows.proofs.Order.{order_from}
+use Rattle.windows.specs.OrderLaws.{order_from}
 use Rattle.windows.proofs.Both.{cut_at}
 use Rattle.windows.proofs.Builds.{Builds, builds_none, builds_more, builds_same}
 

@@ -4,7 +4,7 @@ use Rattle.std.proofs.lemmas.Int.{ints}
 use Rattle.windows.specs.Ends.{clipped}
 use Rattle.windows.specs.Times.{Interval, covers, shifted_contains, InOrder}
 use Rattle.windows.specs.Joining.{last_start, Joins}
-use Rattle.windows.proofs.Order.{order_from}
+use Rattle.windows.specs.OrderLaws.{order_from}
 use Rattle.windows.proofs.Both.{cut_at}
 use Rattle.windows.proofs.Builds.{Builds, builds_none, builds_more}
 use Rattle.windows.proofs.Clips.{clipped_from, clipped_to, clipped_within, clipped_order}

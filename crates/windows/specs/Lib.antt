@@ -1,5 +1,9 @@
 pub mod Crossing
 pub mod Ends
+pub mod IntervalLaws
+pub mod Intervals
 pub mod Joining
 pub mod Linear
+pub mod OrderLaws
 pub mod Times
+pub mod UniqueLaws

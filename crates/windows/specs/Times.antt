@@ -1,5 +1,5 @@
 -- Sets of whole times, written as lists of half-open intervals.
-use Rattle.std.specs.Prelude.{◌≡◌, ℕ, ◌+◌, ◌-◌, ◌<◌, ◌≤◌, ℤ, pos, negsuc, ◌+ℤ◌, Bool, true, false, ◌&&◌, List, [], ◌∷◌, nat_le, nat_lt, int_le, int_lt, refl}
+use Rattle.std.specs.Prelude.{◌≡◌, ℕ, ◌+◌, ◌-◌, ◌<◌, ◌≤◌, ℤ, pos, negsuc, ◌+ℤ◌, Bool, true, false, cond, ◌&&◌, List, [], ◌∷◌, nat_le, nat_lt, int_le, int_lt, refl}
 use Rattle.std.specs.List.{list_any}
 
 -- from its start, up to its end and without it
@@ -38,6 +38,10 @@ shifted_contains start end intervals t =
 -- whether some of the intervals has the time and is at least so long
 abbrev pub long_contains : ℕ → List Interval → ℕ → Bool
 long_contains least intervals t = list_any (λ interval. nat_le least (interval.1 - interval.0) && covers interval t) intervals
+
+-- whether the time is in the second ones where the interval covers it, and in the first ones elsewhere
+abbrev pub replaced_contains : List Interval → List Interval → Interval → ℕ → Bool
+replaced_contains outside inside span t = cond (covers span t) (contains inside t) (contains outside t)
 
 -- ---- worked cases
 

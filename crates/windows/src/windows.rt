@@ -5,6 +5,7 @@ mod algebra;
 mod lengths;
 mod linear;
 mod spans;
+mod splices;
 
 use crate::ends::{first_time, is_by};
 use crate::joining::join;

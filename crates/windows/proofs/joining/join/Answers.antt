@@ -1,6 +1,6 @@
 -- The last interval was made longer, or stands as it was and the new one behind it.
 use Rattle.std.proofs.Common.{◌∙◌, sym}
-use Rattle.windows.proofs.Order.{at_most, above}
+use Rattle.windows.specs.OrderLaws.{at_most, above}
 use Rattle.windows.proofs.Joins.{joins_last, joins_behind}
 use Rattle.windows.proofs.joining.join.Goals as goal
 

@@ -1,6 +1,6 @@
 use Rattle.std.proofs.Common.{ap}
 use Rattle.windows.specs.Times.{TimeSet, InOrder}
-use Rattle.windows.proofs.Unique.{only_one}
+use Rattle.windows.specs.UniqueLaws.{only_one}
 use Rattle.windows.proofs.windows.Windows.intervals.Goals as goal
 
 pub returns-clause-unique : goal.returns-clause-unique
