@@ -3,7 +3,7 @@
 use aerie_base::{OutOfMemory, Place};
 use aerie_text::tokens;
 use readers::{Reader, Refusal};
-use session_reader::client;
+use session_grammar::client;
 use std::alloc::Global;
 
 /// What is answered of the text of a client: a word, how many commands were read, how many tokens are left, and the place

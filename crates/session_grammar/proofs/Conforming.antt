@@ -1,0 +1,7 @@
+pub mod Terminals
+pub mod Directives
+pub mod Commands
+pub mod Mappings
+pub mod Plans
+pub mod Sections
+pub mod Sessions

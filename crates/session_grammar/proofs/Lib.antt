@@ -1,0 +1,4 @@
+pub mod Grammar
+pub mod Conforming
+pub mod Answered
+pub mod Limited

@@ -1,0 +1,4 @@
+pub mod SessionAnswers
+pub mod SessionLimits
+pub mod grammar
+pub mod reading

@@ -1,0 +1,13 @@
+//! Sessions as they are written: what a reader makes of the text before names are looked up.
+
+mod clients;
+mod mappings;
+mod plans;
+mod sections;
+mod sessions;
+
+pub use clients::{RawClient, RawCommand, RawGiven};
+pub use mappings::{RawFeed, RawFeedValue, RawMapping, RawTypeRule};
+pub use plans::{RawDataset, RawDirective, RawPlan, RawStart};
+pub use sections::{RawSection, RawSections};
+pub use sessions::RawSession;

@@ -1,5 +1,0 @@
-use Rattle.session_reader.proofs.Grammar.Verdicts.{answers_are_right}
-use Rattle.session_reader.proofs.laws.answers_are_right.Goals as goal
-
-pub returns : goal.returns
-returns c = answers_are_right

@@ -1,2 +1,0 @@
-pub mod grammar
-pub mod reading
