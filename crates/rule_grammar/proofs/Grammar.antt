@@ -1,0 +1,5 @@
+pub mod Same
+pub mod Atoms
+pub mod Predictive
+pub mod Alike
+pub mod Verdicts

@@ -1,0 +1,3 @@
+pub mod grammar
+pub mod reading
+pub mod RuleAnswers

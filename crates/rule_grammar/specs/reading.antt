@@ -1,0 +1,10 @@
+pub mod Levels
+pub mod Sums
+pub mod Tested
+pub mod Windows
+pub mod Constraints
+pub mod Edges
+pub mod Templates
+pub mod Goals
+pub mod Sequences
+pub mod ToTheEnd
