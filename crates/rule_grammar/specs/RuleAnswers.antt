@@ -1,5 +1,5 @@
 -- What a reader of rules in a row of tokens answers.
-use Rattle.std.specs.Prelude.{◌≡◌, ℕ, List, [], ◌∷◌, ◌++◌, Result, Ok, Err, Option, Some, None, length}
+use Rattle.std.specs.Prelude.{◌≡◌, ℕ, List, [], ◌∷◌, Result, Ok, Err}
 use Rattle.aerie_base.specs.declared.places.Place.{Place}
 use Rattle.aerie_text.specs.Places.{place_of}
 use Rattle.aerie_text.specs.declared.token.Token.{Token}

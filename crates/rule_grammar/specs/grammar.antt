@@ -1,3 +1,4 @@
 pub mod Rules
 pub mod Written
 pub mod Factored
+pub mod Cases

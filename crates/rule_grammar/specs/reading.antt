@@ -8,3 +8,4 @@ pub mod Templates
 pub mod Goals
 pub mod Sequences
 pub mod ToTheEnd
+pub mod Cases

@@ -8,8 +8,6 @@ mod windows;
 
 pub use constraints::{RawConstraint, RawRule};
 pub use goals::{RawAnchor, RawGoal, RawGoalKind, RawNumber, RawRange, RawTemplate};
-pub use sequences::{
-    RawSendTest, RawSequenceItem, RawSequenceRule, RawStep, RawWord, RawWordKind,
-};
+pub use sequences::{RawSendTest, RawSequenceItem, RawSequenceRule, RawStep, RawWord, RawWordKind};
 pub use sums::RawTerm;
 pub use windows::{RawTested, RawWindow};

@@ -121,8 +121,8 @@ fn end_of(text: &str, tokens: &[Token]) -> usize
     ensures is { result ≡ end_of tokens.now }
     ensures edge { IsCharBoundary text.now result }
 {
-    match tokens.last() {
-        Some(token) => token.to,
+    match tokens.split_last() {
+        Some((token, _)) => token.to,
         None => 0,
     }
 }

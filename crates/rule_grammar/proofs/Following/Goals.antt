@@ -12,7 +12,7 @@ use Rattle.rule_grammar.specs.RuleAnswers.{JudgesAll}
 use Rattle.rule_grammar.specs.declared.raw.goals.RawAnchor.{RawAnchor}
 use Rattle.rule_grammar.specs.declared.raw.goals.RawGoalKind.{RawGoalKind}
 use Rattle.rule_grammar.specs.declared.raw.goals.RawTemplate.{RawTemplate}
-use Rattle.rule_grammar.specs.grammar.Rules.{goals_rule, kind_rule, anchor_rule, range_rule, sdur_rule, given_rule, window_rule}
+use Rattle.rule_grammar.specs.grammar.Rules.{goals_rule, kind_rule, anchor_rule, range_rule, sdur_rule, window_rule}
 use Rattle.rule_grammar.specs.grammar.Written.{keeping_form, goal_form, recurrence_form, coexistence_form, cardinality_form}
 use Rattle.rule_grammar.specs.reading.Edges.{placed_edge_at, edge_at}
 use Rattle.rule_grammar.specs.reading.Goals.{range_at, edges_at, window_anchor_at, anchor_at, counted_at, recurrence_at, cardinality_at, distance_at, beside_at, coexisting_at, coexistence_at, kind_at, kept_at, keeping_at, terms_at, ended_goal_at, goal_at, goals_at}

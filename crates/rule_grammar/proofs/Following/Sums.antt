@@ -3,10 +3,10 @@ use Rattle.std.proofs.Common.{◌≡◌, ℕ, ◌==◌, Bool, true, false, List,
 use Rattle.aerie_text.specs.declared.sorts.Sort.{Sort}
 use Rattle.aerie_text.specs.declared.sorts.Sort.TheVariants as sort
 use Rattle.readers.specs.Marks.{Mark}
-use Rattle.readers.specs.Parsed.{Parsed, is_of, next_is}
-use Rattle.readers.specs.grammar.Forms.{Form, token, rule, both, either, many, option}
+use Rattle.readers.specs.Parsed.{Parsed, is_of}
+use Rattle.readers.specs.grammar.Forms.{Form, token, rule, both, either, option}
 use Rattle.readers.specs.grammar.Lookahead.{next_in_first}
-use Rattle.readers.proofs.Conforming.{Begins, begins_both, begins_either, begins_here, and_then, then_value, value, either_conforms, option_conforms, repeated_conforms, rule_conforms, limited_conforms}
+use Rattle.readers.proofs.Conforming.{Begins, begins_both, begins_here, and_then, then_value, value, either_conforms, option_conforms, repeated_conforms, rule_conforms, limited_conforms}
 use Rattle.rule_grammar.specs.declared.reading.leveled.LeveledSum.{LeveledSum}
 use Rattle.rule_grammar.specs.grammar.Factored.{look, more_terms_form, unnamed_term_form, unnamed_sum_form}
 use Rattle.rule_grammar.specs.grammar.Rules.{Rule, wsum_rule, wterm_rule}

@@ -1,18 +1,18 @@
 -- What is read of atoms that test resources conforms to the grammar of rules.
-use Rattle.std.proofs.Common.{◌≡◌, ℕ, ◌==◌, ◌-◌, Bool, true, false, ◌||◌, List, [], ◌∷◌, nat_le, if◌then◌else◌, refl, ap, ◌∙◌}
+use Rattle.std.proofs.Common.{◌≡◌, ℕ, ◌-◌, Bool, true, false, ◌||◌, List, [], ◌∷◌, nat_le, if◌then◌else◌, refl, ap, ◌∙◌}
 use Rattle.aerie_base.specs.declared.expressions.Comparison.TheVariants as comparison
 use Rattle.aerie_text.specs.declared.sorts.Sort.TheVariants as sort
 use Rattle.readers.specs.Marks.{Mark}
-use Rattle.readers.specs.Parsed.{is_of, is_one_of}
+use Rattle.readers.specs.Parsed.{is_of}
 use Rattle.readers.specs.declared.limits.Limit.TheVariants.{Depth}
-use Rattle.readers.specs.grammar.Forms.{token, both, either}
+use Rattle.readers.specs.grammar.Forms.{token}
 use Rattle.readers.proofs.Conforming.{Begins, begins_both, begins_either, begins_here, and_then, then_value, value, either_conforms, option_conforms, chosen_conforms, limited_conforms, failed_conforms}
 use Rattle.model_reader.specs.declared.raw.names.RawName.{RawName}
 use Rattle.rule_grammar.specs.declared.reading.leveled.LeveledSum.{LeveledSum}
 use Rattle.rule_grammar.specs.grammar.Factored.{look, right_side_form, unnamed_atom_form, variant_part_form, named_operand_form, same_operand_form, same_form, order_sign_form, order_form, longer_left_form, named_tail_form, named_atom_form, more_terms_form, unnamed_sum_form}
 use Rattle.rule_grammar.specs.grammar.Written.{same_sign_form, compare_sign_form}
-use Rattle.rule_grammar.specs.reading.Sums.{is_sum_sign, sum_of_resource}
-use Rattle.rule_grammar.specs.reading.Tested.{is_order_sign, order_sign_at, is_compare_sign, compare_sign_at, right_side_at, comparison_at, unnamed_atom_at, longer_left_at, order_at, is_same_sign, same_sign_at, same_truth_at, same_variant_at, equal_named_at, named_operand_at, unnamed_operand_at, same_operand_at, same_at, named_tail_at, begins_named_tail, named_atom_at}
+use Rattle.rule_grammar.specs.reading.Sums.{is_sum_sign}
+use Rattle.rule_grammar.specs.reading.Tested.{is_order_sign, order_sign_at, is_compare_sign, compare_sign_at, right_side_at, comparison_at, unnamed_atom_at, longer_left_at, ordered_at, is_same_sign, same_sign_at, same_truth_at, same_variant_at, equal_named_at, named_operand_at, unnamed_operand_at, same_operand_at, same_at, named_tail_at, begins_named_tail, named_atom_at}
 use Rattle.rule_grammar.proofs.Following.Names.{Along, begins_with, begins_with_one_of, taken, raw_name_conforms, one_standing_for_conforms}
 use Rattle.rule_grammar.proofs.Following.Sums.{opening_conforms, signed_term_begins, next_term_conforms, more_terms_conform, sum_conforms, unnamed_sum_conforms}
 use Rattle.rule_grammar.proofs.Grammar.Predictive.{predictive}
@@ -56,8 +56,8 @@ unfolding longer_left_at
 longer_left_conforms room name marks =
     and_then _ (next_term_conforms room _ marks) (λ two rest. and_then _ (more_terms_conform room two rest) (λ left behind. comparison_conforms room left behind))
 
-order_conforms : (room : ℕ) (name : RawName) (marks : List Mark) → Along order_form marks (order_at room name marks)
-unfolding order_at
+order_conforms : (room : ℕ) (name : RawName) (marks : List Mark) → Along order_form marks (ordered_at room name marks)
+unfolding ordered_at
 order_conforms room name marks = and_then _ (order_sign_conforms marks) (λ how rest. then_value _ (sum_conforms (room - 1) rest) (λ right behind. value))
 
 same_sign_conforms : (marks : List Mark) → Along same_sign_form marks (same_sign_at marks)

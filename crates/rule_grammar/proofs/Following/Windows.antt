@@ -1,13 +1,12 @@
 -- What is read of windows conforms to the grammar of rules, the limit of their depth included: it is passed at a mark with
 -- which a level opens, and which some reading reads.
-use Rattle.std.proofs.Common.{◌≡◌, ℕ, zero, suc, Bool, true, false, ◌==◌, List, [], ◌∷◌, nat_le, if◌then◌else◌, leb-false, ne_eqb, arith, refl}
+use Rattle.std.proofs.Common.{◌≡◌, ℕ, zero, suc, Bool, true, false, ◌==◌, List, nat_le, if◌then◌else◌, leb-false, ne_eqb, arith, refl}
 use Rattle.aerie_base.specs.models.Limits.{depth_limit}
 use Rattle.aerie_text.specs.declared.sorts.Sort.{Sort}
 use Rattle.aerie_text.specs.declared.sorts.Sort.TheVariants as sort
 use Rattle.readers.specs.Marks.{Mark}
 use Rattle.readers.specs.Parsed.{Parsed, is_of, next_is}
-use Rattle.readers.specs.grammar.Forms.{Form, token, rule, both, many}
-use Rattle.readers.specs.grammar.Lookahead.{nullable}
+use Rattle.readers.specs.grammar.Forms.{Form, token, rule, both}
 use Rattle.readers.proofs.Conforming.{Begins, begins_both, begins_here, and_then, then_value, value, either_conforms, chosen_conforms, repeated_conforms, rule_conforms, limited_conforms, failed_conforms}
 use Rattle.rule_grammar.specs.declared.reading.leveled.Joining.{Joining}
 use Rattle.rule_grammar.specs.declared.reading.leveled.Joining.TheVariants.{And, Or}
@@ -17,7 +16,7 @@ use Rattle.rule_grammar.specs.declared.reading.leveled.WindowPart.TheVariants.{W
 use Rattle.rule_grammar.specs.grammar.Factored.{look}
 use Rattle.rule_grammar.specs.grammar.Rules.{Rule, window_rule, conj_rule, atom_rule, sdur_rule}
 use Rattle.rule_grammar.specs.grammar.Written.{not_form, parenthesis_form, during_form, shift_form, longer_form}
-use Rattle.rule_grammar.specs.reading.Levels.{opening, parenthesis_opening}
+use Rattle.rule_grammar.specs.reading.Levels.{parenthesis_opening}
 use Rattle.rule_grammar.specs.reading.Windows.{Readers, truth_at, during_span_at, during_at, signed_duration_at, parentheses_at, not_at, bounds_at, shifted_at, shift_at, least_at, lasting_at, longer_at, simple_atom_at, atom_at, word_of_joining, operand_of_joining, operand_at, operated_at, operation_at, conjunction_at, disjunction_at, readers_by, inner_readers, whole_at, window_at}
 use Rattle.rule_grammar.proofs.Following.Names.{Along, begins_with, taken, had, raw_name_conforms}
 use Rattle.rule_grammar.proofs.Following.Sums.{opening_conforms}

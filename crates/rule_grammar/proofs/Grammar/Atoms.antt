@@ -5,7 +5,7 @@ use Rattle.aerie_text.specs.declared.sorts.Sort.{Sort}
 use Rattle.aerie_text.specs.declared.sorts.Sort.TheVariants as sort
 use Rattle.readers.specs.grammar.Alternatives.{SameExpansions}
 use Rattle.readers.specs.grammar.Expansions.{Symbol, IsExpansion, of_first, of_second}
-use Rattle.readers.specs.grammar.Forms.{Form, token, rule, nothing, both, either, many, option}
+use Rattle.readers.specs.grammar.Forms.{Form, token, nothing, many, option}
 use Rattle.readers.specs.grammar.Notation.{◌then◌, ◌or◌}
 use Rattle.readers.proofs.Grammars.Alternatives.{same_alternatives}
 use Rattle.rule_grammar.specs.grammar.Factored.{variant_part_form, order_sign_form}

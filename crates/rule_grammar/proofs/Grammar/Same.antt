@@ -1,5 +1,5 @@
 -- Forms with the same expansions: what follows for forms that they are parts of, and forms that are regrouped.
-use Rattle.std.proofs.Common.{List, [], ◌∷◌, ◌++◌, refl, append_assoc, append-nil, subst, sym}
+use Rattle.std.proofs.Common.{List, ◌++◌, append_assoc, subst, sym}
 use Rattle.readers.specs.grammar.Alternatives.{SameExpansions}
 use Rattle.readers.specs.grammar.Expansions.{Symbol, IsExpansion, of_nothing, of_both, of_first, of_second, of_no_turn, of_turn}
 use Rattle.readers.specs.grammar.Forms.{Form, nothing, both, either, many, option}

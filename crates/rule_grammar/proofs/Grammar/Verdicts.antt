@@ -1,13 +1,13 @@
 -- What is so by the factored grammar of rules is so by the grammar as it is written, and what is read of all marks is judged as
 -- its readings say.
-use Rattle.std.proofs.Common.{◌≡◌, List, [], ◌∷◌, ◌++◌, subst, sym, append-nil, ap, ◌∙◌}
-use Rattle.readers.specs.Conforms.{Conforms, GoesAlong}
+use Rattle.std.proofs.Common.{List, [], ◌∷◌, subst}
+use Rattle.readers.specs.Conforms.{Conforms}
 use Rattle.readers.specs.Marks.{Mark}
 use Rattle.readers.specs.Parsed.{Parsed, parsed, failed, over_limit}
 use Rattle.readers.specs.Verdicts.{Judges}
 use Rattle.readers.specs.grammar.Alike.{AreAlike}
 use Rattle.readers.specs.grammar.Forms.{rule}
-use Rattle.readers.specs.grammar.Lookahead.{Answer, answer, whole, stops}
+use Rattle.readers.specs.grammar.Lookahead.{Answer, answer}
 use Rattle.readers.specs.grammar.Tells.{Tells, AnswersAreRight}
 use Rattle.readers.proofs.Grammars.Alike.{alike_turned, alike_tells}
 use Rattle.readers.proofs.Grammars.Verdicts.{tells}

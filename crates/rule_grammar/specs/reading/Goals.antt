@@ -4,7 +4,7 @@ use Rattle.aerie_text.specs.declared.sorts.Sort.{Sort}
 use Rattle.aerie_text.specs.declared.sorts.Sort.TheVariants as sort
 use Rattle.readers.specs.Lists.{listed_at, row_at}
 use Rattle.readers.specs.Marks.{Mark}
-use Rattle.readers.specs.Parsed.{Parsed, parsed, ◌>>=◌, is_one_of, next_is, next_fits, chosen, take_at, has_at, number_at}
+use Rattle.readers.specs.Parsed.{Parsed, parsed, ◌>>=◌, next_is, next_fits, chosen, take_at, has_at, number_at}
 use Rattle.model_reader.specs.declared.raw.names.RawName.{RawName}
 use Rattle.model_reader.specs.reading.Names.{raw_name_at}
 use Rattle.aerie_base.specs.declared.plans.Edge.{Edge}
@@ -34,9 +34,9 @@ range_at marks = do
 -- ---- anchors
 
 -- the starts, or the ends, of the spans of an activity type
-abbrev pub anchor_of : Edge → RawName → RawAnchor
-anchor_of edge.Start name = anchor.Starts name
-anchor_of edge.End name = anchor.Ends name
+abbrev pub anchor_at_edges : Edge → RawName → RawAnchor
+anchor_at_edges edge.Start name = anchor.Starts name
+anchor_at_edges edge.End name = anchor.Ends name
 
 -- ( "start" | "end" ) "of" NAME
 unfoldable pub edges_at : List Mark → Parsed RawAnchor
@@ -44,7 +44,7 @@ edges_at marks = do
   edge ← edge_at marks
   of_word ← take_at sort.Of edge.1
   name ← raw_name_at of_word.1
-  parsed (anchor_of edge.0 name.0) name.1
+  parsed (anchor_at_edges edge.0 name.0) name.1
 
 -- "window" "(" window ")"
 unfoldable pub window_anchor_at : List Mark → Parsed RawAnchor

@@ -14,7 +14,6 @@ use Rattle.model_reader.specs.reading.Literals.{begins_amount, amount_literal_at
 use Rattle.model_reader.specs.reading.Names.{raw_name_at}
 use Rattle.rule_grammar.specs.declared.raw.sequences.RawSendTest.{RawSendTest}
 use Rattle.rule_grammar.specs.declared.raw.sequences.RawSequenceItem.{RawSequenceItem}
-use Rattle.rule_grammar.specs.declared.raw.sequences.RawSequenceRule.{RawSequenceRule}
 use Rattle.rule_grammar.specs.declared.raw.sequences.RawSequenceRule.TheVariants as sequence_rule
 use Rattle.rule_grammar.specs.declared.raw.sequences.RawStep.{RawStep}
 use Rattle.rule_grammar.specs.declared.raw.sequences.RawWord.{RawWord}
@@ -127,8 +126,8 @@ sent_at marks = do
   parsed (words.0, test.0) test.1
 
 -- a step of its parts
-abbrev pub step_of : (Place × Edge) × ℤ → RawName → List RawWord × Option RawSendTest → RawStep
-step_of time name sent = record { at = time.0.0; edge = time.0.1; shift = time.1; name = name; words = sent.0; test = sent.1 }
+abbrev pub step_of_parts : (Place × Edge) × ℤ → RawName → List RawWord × Option RawSendTest → RawStep
+step_of_parts time name sent = record { at = time.0.0; edge = time.0.1; shift = time.1; name = name; words = sent.0; test = sent.1 }
 
 -- step
 unfoldable pub step_at : List Mark → Parsed RawStep
@@ -136,7 +135,7 @@ step_at marks = do
   time ← time_of_step_at marks
   name ← raw_name_at time.1
   sent ← sent_at name.1
-  parsed (step_of time.0 name.0 sent.0) sent.1
+  parsed (step_of_parts time.0 name.0 sent.0) sent.1
 
 -- ---- rules
 

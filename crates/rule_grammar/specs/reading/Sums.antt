@@ -1,7 +1,6 @@
 -- Reading sums of numbers and of resources, each with its levels.
 use Rattle.std.specs.Prelude.{ℕ, ℤ, pos, neg_ℤ, Bool, true, false, List, [], ◌∷◌, ◌++◌, Option, Some, None}
 use Rattle.aerie_base.specs.declared.places.Place.{Place}
-use Rattle.aerie_text.specs.declared.sorts.Sort.{Sort}
 use Rattle.aerie_text.specs.declared.sorts.Sort.TheVariants as sort
 use Rattle.readers.specs.Marks.{Mark}
 use Rattle.readers.specs.Parsed.{Parsed, parsed, ◌>>=◌, is_one_of, next_is, chosen, repeated, take_at, has_at, number_at}

@@ -1,5 +1,5 @@
 -- Reading activities with arguments, and numbers with their places.
-use Rattle.std.specs.Prelude.{ℤ, List, Option, None}
+use Rattle.std.specs.Prelude.{ℤ, List, None}
 use Rattle.aerie_base.specs.declared.places.Place.{Place}
 use Rattle.aerie_text.specs.declared.sorts.Sort.{Sort}
 use Rattle.aerie_text.specs.declared.sorts.Sort.TheVariants as sort

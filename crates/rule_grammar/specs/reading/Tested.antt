@@ -1,5 +1,5 @@
 -- Reading atoms that test resources: a truth, `==` and `!=` with a value, and comparisons of sums.
-use Rattle.std.specs.Prelude.{ℕ, ◌+◌, ◌-◌, ◌==◌, Bool, true, false, List, [], ◌∷◌, nat_le, if◌then◌else◌}
+use Rattle.std.specs.Prelude.{ℕ, ◌+◌, ◌-◌, Bool, true, false, List, [], ◌∷◌, nat_le, if◌then◌else◌}
 use Rattle.aerie_base.specs.declared.expressions.Comparison.{Comparison}
 use Rattle.aerie_base.specs.declared.expressions.Comparison.TheVariants as comparison
 use Rattle.aerie_text.specs.declared.sorts.Sort.TheVariants as sort
@@ -14,13 +14,13 @@ use Rattle.rule_grammar.specs.declared.raw.windows.RawWindow.TheVariants as wind
 use Rattle.rule_grammar.specs.declared.reading.leveled.LeveledSum.{LeveledSum}
 use Rattle.rule_grammar.specs.declared.reading.leveled.LeveledWindow.{LeveledWindow}
 use Rattle.rule_grammar.specs.reading.Levels.{higher, opening}
-use Rattle.rule_grammar.specs.reading.Sums.{is_sum_sign, sum_of_resource, next_term_at, more_terms_at, sum_at, unnamed_sum_at}
+use Rattle.rule_grammar.specs.reading.Sums.{sum_of_resource, next_term_at, more_terms_at, sum_at, unnamed_sum_at}
 
 -- ---- comparisons of sums
 
 -- a comparison of two sums
-abbrev pub compared : LeveledSum → Comparison → LeveledSum → LeveledWindow
-compared left how right = record { window = window.Compare left.terms how right.terms; height = higher left.height right.height + 1 }
+abbrev pub comparison_of : LeveledSum → Comparison → LeveledSum → LeveledWindow
+comparison_of left how right = record { window = window.Compare left.terms how right.terms; height = higher left.height right.height + 1 }
 
 abbrev pub is_order_sign : Mark → Bool
 is_order_sign = is_one_of (sort.Less ∷ sort.LessEqual ∷ sort.Greater ∷ sort.GreaterEqual ∷ [])
@@ -48,7 +48,7 @@ unfoldable pub right_side_at : ℕ → LeveledSum → List Mark → Parsed Level
 right_side_at room left marks = do
   how ← compare_sign_at marks
   right ← sum_at (room - 1) how.1
-  parsed (compared left how.0 right.0) right.1
+  parsed (comparison_of left how.0 right.0) right.1
 
 -- The same; the sign opens one level more than there are on the left side.
 unfoldable pub comparison_at : ℕ → LeveledSum → List Mark → Parsed LeveledWindow
@@ -70,11 +70,11 @@ longer_left_at room name marks = do
   comparison_at room left.0 left.1
 
 -- ( "<" | "<=" | ">" | ">=" ) wsum, in a level that was opened where so many could be
-unfoldable pub order_at : ℕ → RawName → List Mark → Parsed LeveledWindow
-order_at room name marks = do
+unfoldable pub ordered_at : ℕ → RawName → List Mark → Parsed LeveledWindow
+ordered_at room name marks = do
   how ← order_sign_at marks
   right ← sum_at (room - 1) how.1
-  parsed (compared (sum_of_resource name) how.0 right.0) right.1
+  parsed (comparison_of (sum_of_resource name) how.0 right.0) right.1
 
 abbrev pub is_same_sign : Mark → Bool
 is_same_sign = is_one_of (sort.DoubleEqual ∷ sort.NotEqual ∷ [])
@@ -92,7 +92,7 @@ same_window name equal value = record { window = window.Same name value equal; h
 
 -- a resource that equals a sum, or that does not
 abbrev pub equal_window : RawName → Bool → LeveledSum → LeveledWindow
-equal_window name equal right = compared (sum_of_resource name) (equality equal) right
+equal_window name equal right = comparison_of (sum_of_resource name) (equality equal) right
 
 -- "true", or "false"
 unfoldable pub same_truth_at : Bool → RawName → Bool → List Mark → Parsed LeveledWindow
@@ -142,7 +142,7 @@ same_at room name marks = do
 unfoldable pub named_tail_at : ℕ → RawName → List Mark → Parsed LeveledWindow
 named_tail_at room name marks =
     chosen (next_fits is_same_sign marks) (opening room (same_at room name))
-    (chosen (next_fits is_order_sign marks) (opening room (order_at room name)) (longer_left_at room name)) marks
+    (chosen (next_fits is_order_sign marks) (opening room (ordered_at room name)) (longer_left_at room name)) marks
 
 -- the mark goes on behind the NAME with which an atom begins
 abbrev pub begins_named_tail : Mark → Bool

@@ -1,6 +1,5 @@
 -- Reading all marks.
-use Rattle.std.specs.Prelude.{List, [], ◌∷◌}
-use Rattle.readers.specs.Marks.{Mark}
+use Rattle.std.specs.Prelude.{[], ◌∷◌}
 use Rattle.readers.specs.Parsed.{Parsed, parsed, failed, over_limit}
 
 -- what is read is all that there is: reading fails at a mark that is left

@@ -163,8 +163,8 @@ joined_windows And left right = window.And left right
 joined_windows Or left right = window.Or left right
 
 -- an operator between two windows
-abbrev pub joined : Joining → LeveledWindow → LeveledWindow → LeveledWindow
-joined joining left right =
+abbrev pub joined_levels : Joining → LeveledWindow → LeveledWindow → LeveledWindow
+joined_levels joining left right =
     record { window = joined_windows joining left.window right.window; height = higher left.height right.height + 1 }
 
 -- an operator and its right side
@@ -177,7 +177,7 @@ operand_at joining inner marks = do
 unfoldable pub operated_at : Joining → Readers → LeveledWindow → List Mark → Parsed LeveledWindow
 operated_at joining inner left marks = do
   right ← operand_at joining inner marks
-  parsed (joined joining left right.0) right.1
+  parsed (joined_levels joining left right.0) right.1
 
 -- the same; the operator opens one level more than there are on its left side
 unfoldable pub operation_at : ℕ → Joining → Readers → LeveledWindow → List Mark → Parsed LeveledWindow

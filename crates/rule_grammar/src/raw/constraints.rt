@@ -13,7 +13,10 @@ pub enum RawRule {
         window: RawWindow,
     },
     /// No span of the first type and another of the second cover the same time.
-    Forbid { first: RawName, second: RawName },
+    Forbid {
+        first: RawName,
+        second: RawName,
+    },
 }
 
 /// A constraint. Its first token is its name.

@@ -40,7 +40,10 @@ pub enum RawAnchor {
 #[derive(Drop)]
 pub enum RawGoalKind {
     /// A start at least so often in a range.
-    Recurrence { every: RawNumber, range: RawRange },
+    Recurrence {
+        every: RawNumber,
+        range: RawRange,
+    },
     /// A start so long behind each anchor.
     Coexistence {
         anchor: RawAnchor,
@@ -48,7 +51,10 @@ pub enum RawGoalKind {
         to: RawNumber,
     },
     /// So many starts in a range.
-    Cardinality { count: RawNumber, range: RawRange },
+    Cardinality {
+        count: RawNumber,
+        range: RawRange,
+    },
 }
 
 /// A goal. Its first token is its name.

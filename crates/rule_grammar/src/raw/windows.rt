@@ -31,7 +31,10 @@ pub enum RawWindow {
         end: Number,
     },
     /// The intervals that are as long at least, in microseconds.
-    Longer { of: Boxed<RawWindow>, least: Number },
+    Longer {
+        of: Boxed<RawWindow>,
+        least: Number,
+    },
     /// The times at which a truth resource or dataset is true.
     Truth(RawName),
     /// The times at which a resource or dataset has this value, or at which it does not.

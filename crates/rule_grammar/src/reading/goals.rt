@@ -5,7 +5,7 @@ ghost use Rattle.readers.specs.Implements.{Consumes, MayConsume};
 ghost use Rattle.readers.specs.Parsed.{next_fits};
 ghost use Rattle.model_reader.specs.reading.Names.{raw_name_at};
 ghost use Rattle.rule_grammar.specs.reading.Edges.{is_edge, placed_edge_at, edge_at};
-ghost use Rattle.rule_grammar.specs.reading.Goals.{range_at, anchor_of, edges_at, window_anchor_at, counted_at, recurrence_at, cardinality_at, distance_at, beside_at, anchor_at, coexisting_at, coexistence_at, kind_at, kept_at, keeping_at, terms_at, ended_goal_at, goal_at, goals_at};
+ghost use Rattle.rule_grammar.specs.reading.Goals.{range_at, anchor_at_edges, edges_at, window_anchor_at, counted_at, recurrence_at, cardinality_at, distance_at, beside_at, anchor_at, coexisting_at, coexistence_at, kind_at, kept_at, keeping_at, terms_at, ended_goal_at, goal_at, goals_at};
 
 use crate::raw::{RawAnchor, RawGoal, RawGoalKind, RawNumber, RawRange, RawTemplate};
 use crate::reading::literals::{placed_duration, raw_number};
@@ -38,7 +38,10 @@ fn range(reader: &mut Reader) -> Result<RawRange, Refusal>
 pub fn placed_edge(reader: &mut Reader) -> Result<(Place, Edge), Refusal>
     ensures { Consumes placed_edge_at reader.old reader.new result }
 {
-    one_of(reader, &[(Sort::Start, Edge::Start), (Sort::End, Edge::End)])
+    one_of(
+        reader,
+        &[(Sort::Start, Edge::Start), (Sort::End, Edge::End)],
+    )
 }
 
 #[tactic(auto, unfolding(crate::specs::reading::Edges::edge_at))]
@@ -50,8 +53,8 @@ fn edge(reader: &mut Reader) -> Result<Edge, Refusal>
 }
 
 /// The starts, or the ends, of the spans of an activity type.
-fn anchor_of(edge: Edge, name: RawName) -> RawAnchor
-    ensures { result ≡ anchor_of edge name }
+fn anchor_at_edges(edge: Edge, name: RawName) -> RawAnchor
+    ensures { result ≡ anchor_at_edges edge name }
 {
     match edge {
         Edge::Start => RawAnchor::Starts(name),
@@ -66,7 +69,7 @@ fn edges(alloc: Global, reader: &mut Reader) -> Result<RawAnchor, Refusal>
     let edge = edge(reader)?;
     reader.take(Sort::Of)?;
     let name = raw_name(alloc, reader)?;
-    Ok(anchor_of(edge, name))
+    Ok(anchor_at_edges(edge, name))
 }
 
 #[tactic(auto, unfolding(crate::specs::reading::Goals::window_anchor_at))]

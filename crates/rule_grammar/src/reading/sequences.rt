@@ -5,11 +5,9 @@ ghost use Rattle.aerie_text.specs.declared.sorts.Sort.TheVariants.{Comma};
 ghost use Rattle.readers.specs.Implements.{Consumes, MayConsume};
 ghost use Rattle.readers.specs.Lists.{pushed_at};
 ghost use Rattle.readers.specs.Parsed.{behind_at, next_fits};
-ghost use Rattle.rule_grammar.specs.reading.Sequences.{separated_parts_at, literal_word, amount_word_at, truth_word_at, variant_word_at, parameter_word, named_word_at, result_word_at, sent_word_at, begins_word, words_at, signed_shift_at, optional_shift_at, time_of_step_at, send_test_at, optional_test_at, sent_at, step_of, step_at, span_rule_at, spacing_least_at, spacing_at, sequence_item_at, sequence_at};
+ghost use Rattle.rule_grammar.specs.reading.Sequences.{separated_parts_at, literal_word, amount_word_at, truth_word_at, variant_word_at, parameter_word, named_word_at, result_word_at, sent_word_at, begins_word, words_at, signed_shift_at, optional_shift_at, time_of_step_at, send_test_at, optional_test_at, sent_at, step_of_parts, step_at, span_rule_at, spacing_least_at, spacing_at, sequence_item_at, sequence_at};
 
-use crate::raw::{
-    RawSendTest, RawSequenceItem, RawSequenceRule, RawStep, RawWord, RawWordKind,
-};
+use crate::raw::{RawSendTest, RawSequenceItem, RawSequenceRule, RawStep, RawWord, RawWordKind};
 use crate::reading::goals::placed_edge;
 use crate::reading::literals::{amount_literal, literal, truth_literal};
 use crate::reading::names::raw_name;
@@ -50,10 +48,7 @@ fn next_part<E: Element>(
 }
 
 /// Reads one part or more, with commas between them.
-fn separated_parts<E: Element>(
-    alloc: Global,
-    reader: &mut Reader,
-) -> Result<List<E::Part>, Refusal>
+fn separated_parts<E: Element>(alloc: Global, reader: &mut Reader) -> Result<List<E::Part>, Refusal>
     ensures { Consumes (separated_parts_at E.part_at) reader.old reader.new result }
 {
     let mut parts = one_part::<E>(alloc, reader, List::new(alloc))?;
@@ -245,10 +240,7 @@ fn optional_test(alloc: Global, reader: &mut Reader) -> Result<Option<RawSendTes
 
 /// Reads the words of a command and its test.
 #[tactic(auto, unfolding(crate::specs::reading::Sequences::sent_at))]
-fn sent(
-    alloc: Global,
-    reader: &mut Reader,
-) -> Result<(List<RawWord>, Option<RawSendTest>), Refusal>
+fn sent(alloc: Global, reader: &mut Reader) -> Result<(List<RawWord>, Option<RawSendTest>), Refusal>
     ensures { Consumes sent_at reader.old reader.new result }
 {
     reader.take(Sort::OpenParenthesis)?;
@@ -259,12 +251,12 @@ fn sent(
 }
 
 /// The step of these parts.
-fn step_of(
+fn step_of_parts(
     time: ((Place, Edge), Number),
     name: RawName,
     sent: (List<RawWord>, Option<RawSendTest>),
 ) -> RawStep
-    ensures { result ≡ step_of time name sent }
+    ensures { result ≡ step_of_parts time name sent }
 {
     let ((at, edge), shift) = time;
     let (words, test) = sent;
@@ -291,7 +283,7 @@ impl Element for OneStep {
         let time = time_of_step(reader)?;
         let name = raw_name(alloc, reader)?;
         let sent = sent(alloc, reader)?;
-        Ok(step_of(time, name, sent))
+        Ok(step_of_parts(time, name, sent))
     }
 }
 

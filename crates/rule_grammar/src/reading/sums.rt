@@ -1,6 +1,6 @@
 //! Sums of numbers and of resources. The time is linear in their tokens.
 
-ghost use Rattle.std.specs.Prelude.{◌≡◌, ◌≤◌, IfOk};
+ghost use Rattle.std.specs.Prelude.{◌≡◌, ◌≤◌, IfOk, false};
 ghost use Rattle.readers.specs.Implements.{Consumes, MayConsume};
 ghost use Rattle.rule_grammar.specs.reading.Levels.{higher};
 ghost use Rattle.rule_grammar.specs.reading.Sums.{behind_sign, factor_at, optional_factor_at, factor_height, scaled_at, duration_term_at, resource_term, resource_term_at, term_at, sum_of_term, with_term, sum_sign_at, signed_term_at, next_term_at, more_terms_at, sum_at, negative_term_at, unnamed_term_at, unnamed_sum_at};
@@ -195,11 +195,7 @@ pub fn sum_sign(reader: &mut Reader) -> Result<bool, Refusal>
 }
 
 #[tactic(auto, unfolding(crate::specs::reading::Sums::signed_term_at))]
-fn signed_term(
-    alloc: Global,
-    reader: &mut Reader,
-    room: usize,
-) -> Result<(RawTerm, usize), Refusal>
+fn signed_term(alloc: Global, reader: &mut Reader, room: usize) -> Result<(RawTerm, usize), Refusal>
     ensures read { Consumes (signed_term_at room) reader.old reader.new result }
     ensures low { IfOk result (λ term. term.1 ≤ room) }
 {

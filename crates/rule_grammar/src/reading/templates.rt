@@ -12,9 +12,9 @@ use readers::{Element, Reader, Refusal, parenthesized};
 use std::alloc::Global;
 
 /// An argument: the name of a parameter and a literal.
-struct OneArgument;
+struct TemplateArgument;
 
-impl Element for OneArgument {
+impl Element for TemplateArgument {
     type Part = (RawName, RawLiteral);
 
     ghost part_at = { argument_at };
@@ -34,6 +34,6 @@ pub fn template(alloc: Global, reader: &mut Reader) -> Result<RawTemplate, Refus
     ensures { Consumes template_at reader.old reader.new result }
 {
     let kind = raw_name(alloc, reader)?;
-    let arguments = parenthesized::<OneArgument>(alloc, reader, Sort::Name, None)?;
+    let arguments = parenthesized::<TemplateArgument>(alloc, reader, Sort::Name, None)?;
     Ok(RawTemplate { kind, arguments })
 }

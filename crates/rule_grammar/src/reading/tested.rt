@@ -3,7 +3,7 @@
 ghost use Rattle.std.specs.Prelude.{◌≡◌, ◌<◌, ◌≤◌, ◌+◌, IfOk};
 ghost use Rattle.readers.specs.Implements.{Consumes, MayConsume};
 ghost use Rattle.readers.specs.Parsed.{next_fits};
-ghost use Rattle.rule_grammar.specs.reading.Tested.{compared, is_compare_sign, is_same_sign, is_order_sign, begins_named_tail, order_sign_at, compare_sign_at, right_side_at, comparison_at, unnamed_atom_at, longer_left_at, order_at, same_sign_at, same_window, equality, equal_window, same_truth_at, same_variant_at, equal_named_at, named_operand_at, unnamed_operand_at, same_operand_at, same_at, named_tail_at, truth_window, named_atom_at};
+ghost use Rattle.rule_grammar.specs.reading.Tested.{comparison_of, is_compare_sign, is_same_sign, is_order_sign, begins_named_tail, order_sign_at, compare_sign_at, right_side_at, comparison_at, unnamed_atom_at, longer_left_at, ordered_at, same_sign_at, same_window, equality, equal_window, same_truth_at, same_variant_at, equal_named_at, named_operand_at, unnamed_operand_at, same_operand_at, same_at, named_tail_at, truth_window, named_atom_at};
 
 use crate::raw::{RawTested, RawWindow};
 use crate::reading::leveled::{LeveledSum, LeveledWindow};
@@ -18,10 +18,10 @@ use std::alloc::Global;
 // ---- comparisons of sums
 
 /// The comparison of two sums.
-fn compared(left: LeveledSum, how: Comparison, right: LeveledSum) -> LeveledWindow
+fn comparison_of(left: LeveledSum, how: Comparison, right: LeveledSum) -> LeveledWindow
     requires left { left.height < 64 }
     requires right { right.height < 64 }
-    ensures { result ≡ compared left how right }
+    ensures { result ≡ comparison_of left how right }
 {
     let height = higher(left.height, right.height) + 1;
     LeveledWindow {
@@ -93,7 +93,7 @@ fn right_side(
 {
     let how = compare_sign(reader)?;
     let right = sum(alloc, reader, room - 1)?;
-    Ok(compared(left, how, right))
+    Ok(comparison_of(left, how, right))
 }
 
 /// The same; the sign opens one level more than there are on the left side.
@@ -154,7 +154,7 @@ fn longer_left(
 }
 
 /// Reads the sign of an order and the right side.
-#[tactic(auto, unfolding(crate::specs::reading::Tested::order_at))]
+#[tactic(auto, unfolding(crate::specs::reading::Tested::ordered_at))]
 fn order(
     alloc: Global,
     reader: &mut Reader,
@@ -163,13 +163,13 @@ fn order(
 ) -> Result<LeveledWindow, Refusal>
     requires levels { room ≤ 64 }
     requires some { 0 < room }
-    ensures read { Consumes (order_at room name) reader.old reader.new result }
+    ensures read { Consumes (ordered_at room name) reader.old reader.new result }
     ensures low { IfOk result (λ whole. whole.height ≤ room) }
 {
     let how = order_sign(reader)?;
     let right = sum(alloc, reader, room - 1)?;
     let left = sum_of_resource(alloc, name)?;
-    Ok(compared(left, how, right))
+    Ok(comparison_of(left, how, right))
 }
 
 /// Reads `==` or `!=`, and says whether it is `==`.
@@ -177,7 +177,10 @@ fn order(
 fn same_sign(reader: &mut Reader) -> Result<bool, Refusal>
     ensures { Consumes same_sign_at reader.old reader.new result }
 {
-    one_standing_for(reader, &[(Sort::DoubleEqual, true), (Sort::NotEqual, false)])
+    one_standing_for(
+        reader,
+        &[(Sort::DoubleEqual, true), (Sort::NotEqual, false)],
+    )
 }
 
 /// The window in which a resource has this value, or does not have it.
@@ -210,7 +213,7 @@ fn equal_window(
         Comparison::Unequal
     };
     let left = sum_of_resource(alloc, name)?;
-    Ok(compared(left, how, right))
+    Ok(comparison_of(left, how, right))
 }
 
 #[tactic(auto, unfolding(crate::specs::reading::Tested::same_truth_at))]
@@ -416,11 +419,7 @@ fn truth_window(name: RawName) -> LeveledWindow
 
 /// Reads an atom that begins with a name.
 #[tactic(auto, unfolding(crate::specs::reading::Tested::named_atom_at))]
-pub fn named_atom(
-    alloc: Global,
-    reader: &mut Reader,
-    room: usize,
-) -> Result<LeveledWindow, Refusal>
+pub fn named_atom(alloc: Global, reader: &mut Reader, room: usize) -> Result<LeveledWindow, Refusal>
     requires levels { room ≤ 64 }
     ensures read { Consumes (named_atom_at room) reader.old reader.new result }
     ensures low { IfOk result (λ whole. whole.height ≤ room) }

@@ -2,7 +2,7 @@
 
 ghost use Rattle.std.specs.Prelude.{◌≡◌, ◌<◌, ◌≤◌, IfOk};
 ghost use Rattle.readers.specs.Implements.{Consumes};
-ghost use Rattle.rule_grammar.specs.reading.Windows.{truth_at, during_span_at, during_at, signed_duration_at, in_parentheses, outside, shifted, lasting, parentheses_at, not_at, bounds_at, shifted_at, shift_at, least_at, lasting_at, longer_at, simple_atom_at, atom_at, word_of_joining, operand_of_joining, joined_windows, joined, operand_at, operated_at, operation_at, conjunction_at, disjunction_at, inner_readers, window_at};
+ghost use Rattle.rule_grammar.specs.reading.Windows.{truth_at, during_span_at, during_at, signed_duration_at, in_parentheses, outside, shifted, lasting, parentheses_at, not_at, bounds_at, shifted_at, shift_at, least_at, lasting_at, longer_at, simple_atom_at, atom_at, word_of_joining, operand_of_joining, joined_windows, joined_levels, operand_at, operated_at, operation_at, conjunction_at, disjunction_at, inner_readers, window_at};
 
 use crate::raw::RawWindow;
 use crate::reading::leveled::{Joining, LeveledWindow, WindowPart};
@@ -60,11 +60,7 @@ fn shifted(
 }
 
 /// The intervals of the window that are long enough.
-fn lasting(
-    alloc: Global,
-    inner: LeveledWindow,
-    least: Number,
-) -> Result<LeveledWindow, OutOfMemory>
+fn lasting(alloc: Global, inner: LeveledWindow, least: Number) -> Result<LeveledWindow, OutOfMemory>
     requires { inner.height < 64 }
     ensures { IfOk result (λ whole. whole ≡ lasting inner least) }
 {
@@ -92,7 +88,7 @@ fn joined_windows(
 }
 
 /// The same with its levels.
-fn joined(
+fn joined_levels(
     alloc: Global,
     joining: Joining,
     left: LeveledWindow,
@@ -100,7 +96,7 @@ fn joined(
 ) -> Result<LeveledWindow, OutOfMemory>
     requires left { left.height < 64 }
     requires right { right.height < 64 }
-    ensures { IfOk result (λ whole. whole ≡ joined joining left right) }
+    ensures { IfOk result (λ whole. whole ≡ joined_levels joining left right) }
 {
     let height = higher(left.height, right.height) + 1;
     let window = joined_windows(alloc, joining, left.window, right.window)?;
@@ -397,7 +393,7 @@ fn operated(
     ensures low { IfOk result (λ whole. whole.height ≤ room) }
 {
     let right = operand(alloc, reader, room, joining)?;
-    Ok(joined(alloc, joining, left, right)?)
+    Ok(joined_levels(alloc, joining, left, right)?)
 }
 
 /// The same; the operator opens one level more than there are on its left side.
