@@ -13,4 +13,6 @@ mod models;
 #[cfg(test)]
 mod readers_of_tokens;
 #[cfg(test)]
+mod sessions;
+#[cfg(test)]
 mod tokens_and_lines;
