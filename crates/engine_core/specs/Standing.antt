@@ -77,3 +77,7 @@ PaysForBatch standing records before after = OfBatch (λ frames. after ≤ befor
 -- and another by at most two for each of its frames
 abbrev pub LooksForBatch : Standing → ℕ → ℕ → Type 0
 LooksForBatch standing before after = OfBatch (λ frames. after ≤ before + 2 * length frames) standing
+
+-- a stepper is of the same models as before
+abbrev pub OfSameModels : (Parts → Type 0) → (Parts → Type 0) → Type 0
+OfSameModels was is = (of : Parts) → (was of → is of) × (is of → was of)

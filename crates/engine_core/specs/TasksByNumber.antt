@@ -133,3 +133,12 @@ AreFound now horizon cells tracked = AreKept now horizon cells tracked × (track
 pub record AgreeBut (touched : List ℕ) (cells others : List CellState) : Type 0 where
   pub same : (cell : ℕ) → is_cell_among cell touched ≡ false → slice_get cells cell ≡ slice_get others cell
   pub long : length others ≡ length cells
+
+-- wherever the kept wake times of some tasks are right, those of others are
+abbrev pub KeepsWakes : Tracked → Tracked → Type 0
+KeepsWakes before after = (now horizon : ℕ) (cells : List CellState) → AreKept now horizon cells before → AreKept now horizon cells after
+
+-- they are in other cells, which differ at most where they were touched
+abbrev pub KeepsWakesBut : List ℕ → Tracked → Tracked → Type 0
+KeepsWakesBut touched before after =
+    (now horizon : ℕ) (cells others : List CellState) → AreKept now horizon cells before → AgreeBut touched cells others → AreKept now horizon others after

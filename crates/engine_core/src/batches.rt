@@ -2,7 +2,6 @@
 
 ghost use Rattle.std.specs.Prelude.{◌≡◌, ◌≤◌, ◌<◌, ℕ, Some, IfOk, IsTrue, length};
 ghost use Rattle.aerie_base.specs.Ranges.{step_limit};
-ghost use Rattle.aerie_base.specs.declared.models.model.Parts.{Parts};
 ghost use Rattle.effect_cells.specs.Cells.{AreInRange, fits_cells};
 ghost use Rattle.effect_cells.specs.Sums.{sum_limit};
 ghost use Rattle.effect_cells.specs.Worth.{magnitude_of};
@@ -14,6 +13,7 @@ ghost use Rattle.engine_core.specs.BatchEnding.{committed_by, IsCommittedWith, H
 ghost use Rattle.engine_core.specs.BatchEnds.{batch_as, batch_frames, AreReadyJobs, SpendsWith, IsFrugalEnd, HasFewLooks};
 ghost use Rattle.engine_core.specs.BatchOrders.{AreByPath, AreMade};
 ghost use Rattle.engine_core.specs.BatchTrees.{HaveFewItems};
+ghost use Rattle.engine_core.specs.Standing.{OfSameModels};
 
 mod children;
 mod faults;
@@ -129,7 +129,7 @@ pub(crate) fn run_batch<S: Stepper, L: Ledger, K: Ledger>(
     ensures looks { looks.old ≤ looks.new }
     ensures few_looks { IfOk result (λ end. HasFewLooks end looks.old looks.new) }
     ensures opened { RoseAlike (S.opened stepper.old) steps.old (S.opened stepper.new) steps.new }
-    ensures same_models { (of : Parts) → (S.is_of stepper.old of → S.is_of stepper.new of) × (S.is_of stepper.new of → S.is_of stepper.old of) }
+    ensures same_models { OfSameModels (S.is_of stepper.old) (S.is_of stepper.new) }
     ensures same_records { S.records stepper.new ≡ S.records stepper.old }
     ensures anchor { S.anchor stepper.new ≡ S.anchor stepper.old }
 {

@@ -1,12 +1,11 @@
 ghost use Rattle.std.specs.Prelude.{◌≡◌, ◌≤◌, ◌<◌, [], ℕ, Some, IfOk, map, length, slice_get};
 ghost use Rattle.aerie_base.specs.Ranges.{step_limit};
-ghost use Rattle.aerie_base.specs.declared.models.model.Parts.{Parts};
 ghost use Rattle.aerie_base.specs.plans.OfModel.{IsPlanOf};
 ghost use Rattle.run_data.specs.Fresh.{start, IsFresh};
 ghost use Rattle.run_data.specs.Transitions.{more, finished};
 ghost use Rattle.run_data.specs.Waves.{RoseAlike};
 ghost use Rattle.engine_core.specs.BatchEnds.{batch_frames};
-ghost use Rattle.engine_core.specs.Standing.{jobs_in, time_in, batches_in, Stands, LeadsTo, IsNextOf, PaysForBatch, LooksForBatch};
+ghost use Rattle.engine_core.specs.Standing.{jobs_in, time_in, batches_in, Stands, LeadsTo, IsNextOf, PaysForBatch, LooksForBatch, OfSameModels};
 ghost use Rattle.engine_core.specs.Turns.{place_in, plan_in, bound_in, IsOnCourse};
 
 use crate::ready_jobs::ReadyJobs;
@@ -138,7 +137,7 @@ impl<'a> Engine<'a> {
         ensures looks { looks.old ≤ looks.new }
         ensures few_looks { IfOk result (λ engine. LooksForBatch self.entry looks.old looks.new) }
         ensures opened { RoseAlike (S.opened stepper.old) steps.old (S.opened stepper.new) steps.new }
-        ensures same_models { (of : Parts) → (S.is_of stepper.old of → S.is_of stepper.new of) × (S.is_of stepper.new of → S.is_of stepper.old of) }
+        ensures same_models { OfSameModels (S.is_of stepper.old) (S.is_of stepper.new) }
         ensures same_records { S.records stepper.new ≡ S.records stepper.old }
         ensures anchor { S.anchor stepper.new ≡ S.anchor stepper.old }
     {

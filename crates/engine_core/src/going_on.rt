@@ -2,13 +2,12 @@
 
 ghost use Rattle.std.specs.Prelude.{◌≡◌, ℕ, List, [], ◌∷◌, true, false, is_some, Some, None, slice_get, slice_set, IfOk};
 ghost use Rattle.aerie_base.specs.Paths.{child_path, comes_from_daemon, id_of, may_have_children, path_of};
-ghost use Rattle.effect_cells.specs.declared.effects.CellState.{CellState};
 ghost use Rattle.run_data.specs.Endings.{result_of, has_begun, has_come, gone_on, after_batch};
 ghost use Rattle.run_data.specs.Tasks.{Task, task_at, after_frames};
 ghost use Rattle.run_data.specs.laws.EndedTasks.{is_open_status};
 ghost use Rattle.run_data.specs.laws.GoingOn.{AllQuiet};
 ghost use Rattle.run_data.specs.laws.NumberedTasks.{sorted_tasks};
-ghost use Rattle.engine_core.specs.TasksByNumber.{AreKept, AgreeBut, MadeIsSmall};
+ghost use Rattle.engine_core.specs.TasksByNumber.{MadeIsSmall, KeepsWakes, KeepsWakesBut};
 ghost use Rattle.engine_core.specs.Phases.{anchor_in, callee_in};
 ghost use Rattle.engine_core.specs.GoingOn.{GoesOnAs, GoOnOf, IsAbove, IsAnchoredTo, IsAt, IsBegunBy, IsOverBy, MayGoOnAfter, returning, falling_due};
 
@@ -190,7 +189,7 @@ impl IndexedTasks {
     fn go_on(self, alloc: Global, now: Time, number: usize) -> Result<IndexedTasks, OutOfMemory>
         ensures tasks { IfOk result (λ all. (path : List ℕ) (task : Task) → slice_get self.tasks number ≡ Some (path, task) →
             all.tasks ≡ slice_set self.tasks number (path, gone_on (sorted_tasks self.tasks) now path task)) }
-        ensures kept { IfOk result (λ all. (now horizon : ℕ) (cells : List CellState) → AreKept now horizon cells self → AreKept now horizon cells all) }
+        ensures kept { IfOk result (KeepsWakes self) }
     {
         self.note_distinct();
         match self.gone_on(alloc, now, number)? {
@@ -202,7 +201,7 @@ impl IndexedTasks {
     /// Lets the task of a path go on, if it does.
     fn go_on_at(self, alloc: Global, now: Time, path: &Path) -> Result<IndexedTasks, OutOfMemory>
         ensures goes { IfOk result (λ all. GoOnOf (IsAt path.now) now self.tasks all.tasks) }
-        ensures kept { IfOk result (λ all. (now horizon : ℕ) (cells : List CellState) → AreKept now horizon cells self → AreKept now horizon cells all) }
+        ensures kept { IfOk result (KeepsWakes self) }
     {
         tasks_go_on_in_turn();
         self.note_distinct();
@@ -218,7 +217,7 @@ impl IndexedTasks {
     /// Lets the task of a path go on and each that it is under, if they do.
     fn go_on_above(self, alloc: Global, now: Time, path: &Path) -> Result<IndexedTasks, OutOfMemory>
         ensures goes { IfOk result (λ all. GoOnOf (IsAbove path.now) now self.tasks all.tasks) }
-        ensures kept { IfOk result (λ all. (now horizon : ℕ) (cells : List CellState) → AreKept now horizon cells self → AreKept now horizon cells all) }
+        ensures kept { IfOk result (KeepsWakes self) }
     {
         let root = root_of(alloc, path)?;
         let begun = self.go_on_at(alloc, now, &root)?;
@@ -244,7 +243,7 @@ impl IndexedTasks {
     ) -> Result<IndexedTasks, OutOfMemory>
         requires come { has_come (sorted_tasks self.tasks) to edge ≡ true }
         ensures goes { IfOk result (λ all. GoOnOf (IsAnchoredTo to edge) now self.tasks all.tasks) }
-        ensures kept { IfOk result (λ all. (now horizon : ℕ) (cells : List CellState) → AreKept now horizon cells self → AreKept now horizon cells all) }
+        ensures kept { IfOk result (KeepsWakes self) }
     {
         tasks_go_on_in_turn();
         let mut all = self;
@@ -264,7 +263,7 @@ impl IndexedTasks {
         edge: Edge,
     ) -> Result<IndexedTasks, OutOfMemory>
         ensures goes { IfOk result (λ all. GoOnOf (IsAnchoredTo to edge) now self.tasks all.tasks) }
-        ensures kept { IfOk result (λ all. (now horizon : ℕ) (cells : List CellState) → AreKept now horizon cells self → AreKept now horizon cells all) }
+        ensures kept { IfOk result (KeepsWakes self) }
     {
         if !self.has_come(alloc, to, edge)? {
             return Ok(self);
@@ -281,7 +280,7 @@ impl IndexedTasks {
         path: &Path,
     ) -> Result<IndexedTasks, OutOfMemory>
         ensures goes { IfOk result (λ all. GoOnOf (IsOverBy path.now) now self.tasks all.tasks) }
-        ensures kept { IfOk result (λ all. (now horizon : ℕ) (cells : List CellState) → AreKept now horizon cells self → AreKept now horizon cells all) }
+        ensures kept { IfOk result (KeepsWakes self) }
     {
         let above = self.go_on_above(alloc, now, path)?;
         if path.daemon() {
@@ -299,7 +298,7 @@ impl IndexedTasks {
         path: &Path,
     ) -> Result<IndexedTasks, OutOfMemory>
         ensures goes { IfOk result (λ all. GoOnOf (IsBegunBy path.now) now self.tasks all.tasks) }
-        ensures kept { IfOk result (λ all. (now horizon : ℕ) (cells : List CellState) → AreKept now horizon cells self → AreKept now horizon cells all) }
+        ensures kept { IfOk result (KeepsWakes self) }
     {
         let own = self.go_on_at(alloc, now, path)?;
         if path.daemon() {
@@ -316,7 +315,7 @@ impl IndexedTasks {
     /// Lets those go on whom a frame lets go on.
     fn go_on_by(self, alloc: Global, now: Time, frame: &Frame) -> Result<IndexedTasks, OutOfMemory>
         ensures goes { IfOk result (λ all. GoOnOf (MayGoOnAfter (frame.now ∷ [])) now self.tasks all.tasks) }
-        ensures kept { IfOk result (λ all. (now horizon : ℕ) (cells : List CellState) → AreKept now horizon cells self → AreKept now horizon cells all) }
+        ensures kept { IfOk result (KeepsWakes self) }
     {
         self.note_distinct();
         let begun = self.go_on_by_any(alloc, now, &frame.path)?;
@@ -336,7 +335,7 @@ impl IndexedTasks {
         frames: &[Frame],
     ) -> Result<IndexedTasks, OutOfMemory>
         ensures goes { IfOk result (λ all. GoOnOf (MayGoOnAfter frames.now) now self.tasks all.tasks) }
-        ensures kept { IfOk result (λ all. (now horizon : ℕ) (cells : List CellState) → AreKept now horizon cells self → AreKept now horizon cells all) }
+        ensures kept { IfOk result (KeepsWakes self) }
     {
         let mut all = self;
         for frame in frames {
@@ -356,7 +355,7 @@ impl IndexedTasks {
         requires made { MadeIsSmall (after_frames now frames.now (sorted_tasks self.tasks)) }
         requires quiet { AllQuiet (sorted_tasks self.tasks) (sorted_tasks self.tasks) }
         ensures table { IfOk result (λ all. sorted_tasks all.tasks ≡ after_batch now frames.now (sorted_tasks self.tasks)) }
-        ensures kept { IfOk result (λ all. (now horizon : ℕ) (cells others : List CellState) → AreKept now horizon cells self → AgreeBut touched.now cells others → AreKept now horizon others all) }
+        ensures kept { IfOk result (KeepsWakesBut touched.now self) }
     {
         tasks_go_on_in_turn();
         tasks_stand_by_number();

@@ -6,7 +6,7 @@ ghost use Rattle.effect_cells.specs.declared.effects.CellState.{CellState};
 ghost use Rattle.run_data.specs.Tasks.{planned, with_task, on_each, rested, with_directives, with_daemons};
 ghost use Rattle.run_data.specs.laws.NumberedTasks.{sorted_tasks};
 ghost use Rattle.engine_core.specs.PlannedTasks.{directive_task, daemon_task};
-ghost use Rattle.engine_core.specs.TasksByNumber.{AreKept};
+ghost use Rattle.engine_core.specs.TasksByNumber.{AreKept, KeepsWakes};
 
 use crate::beginnings::{activity_state, daemon_state};
 use crate::phases::{Phase, TrackedTask, micros};
@@ -43,7 +43,7 @@ fn with_directive(
     directive: &Directive,
 ) -> Result<IndexedTasks, OutOfMemory>
     ensures table { IfOk result (λ all. sorted_tasks all.tasks ≡ with_task (sorted_tasks tasks.tasks) (root directive.now.id) (directive_task model.now directive.now)) }
-    ensures kept { IfOk result (λ all. (now horizon : ℕ) (cells : List CellState) → AreKept now horizon cells tasks → AreKept now horizon cells all) }
+    ensures kept { IfOk result (KeepsWakes tasks) }
 {
     let state = activity_state(alloc, model, directive.kind, directive.arguments.as_slice())?;
     let path = Path::of_directive(alloc, directive.id)?;
@@ -59,7 +59,7 @@ fn with_directives(
     directives: &[Directive],
 ) -> Result<IndexedTasks, OutOfMemory>
     ensures table { IfOk result (λ all. sorted_tasks all.tasks ≡ with_directives model.now directives.now (sorted_tasks tasks.tasks)) }
-    ensures kept { IfOk result (λ all. (now horizon : ℕ) (cells : List CellState) → AreKept now horizon cells tasks → AreKept now horizon cells all) }
+    ensures kept { IfOk result (KeepsWakes tasks) }
 {
     let mut all = tasks;
     for directive in directives {
@@ -76,7 +76,7 @@ fn with_daemon(
     daemon: &Daemon,
 ) -> Result<IndexedTasks, OutOfMemory>
     ensures table { IfOk result (λ all. sorted_tasks all.tasks ≡ with_task (sorted_tasks tasks.tasks) (daemon_root number) (daemon_task number daemon.now)) }
-    ensures kept { IfOk result (λ all. (now horizon : ℕ) (cells : List CellState) → AreKept now horizon cells tasks → AreKept now horizon cells all) }
+    ensures kept { IfOk result (KeepsWakes tasks) }
 {
     let state = daemon_state(alloc, number, daemon)?;
     let path = Path::of_daemon(alloc, u32::from(number))?;
@@ -93,7 +93,7 @@ fn with_daemons(
 ) -> Result<IndexedTasks, OutOfMemory>
     requires { length daemons.now < 65536 }
     ensures table { IfOk result (λ all. sorted_tasks all.tasks ≡ with_daemons 0 daemons.now (sorted_tasks tasks.tasks)) }
-    ensures kept { IfOk result (λ all. (now horizon : ℕ) (cells : List CellState) → AreKept now horizon cells tasks → AreKept now horizon cells all) }
+    ensures kept { IfOk result (KeepsWakes tasks) }
 {
     let mut all = tasks;
     let mut number: u16 = 0;

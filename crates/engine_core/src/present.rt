@@ -11,7 +11,7 @@ ghost use Rattle.run_data.specs.Tasks.{after_frames, on_each, rested, woken};
 ghost use Rattle.run_data.specs.laws.GoingOn.{AllQuiet};
 ghost use Rattle.run_data.specs.laws.NextTimes.{least_delay};
 ghost use Rattle.run_data.specs.laws.NumberedTasks.{sorted_tasks};
-ghost use Rattle.engine_core.specs.TasksByNumber.{AgreeBut, AreKept, AreFound, MadeIsSmall};
+ghost use Rattle.engine_core.specs.TasksByNumber.{AgreeBut, AreKept, AreFound, MadeIsSmall, KeepsWakes};
 ghost use Rattle.engine_core.specs.Times.{IsUpToTime};
 ghost use Rattle.engine_core.specs.Waking.{AreSolvable};
 
@@ -134,7 +134,7 @@ impl Present {
         ensures spent { IfOk result (λ present. present.spent ≡ self.spent) }
         ensures cells { IfOk result (λ present. present.cells ≡ self.cells) }
         ensures tasks { IfOk result (λ present. present.tasks.tasks ≡ on_each (rested time) self.tasks.tasks) }
-        ensures kept { IfOk result (λ present. (now end : ℕ) (cells : List CellState) → AreKept now end cells self.tasks → AreKept now end cells present.tasks) }
+        ensures kept { IfOk result (λ present. KeepsWakes self.tasks present.tasks) }
     {
         let Present {
             time: _,

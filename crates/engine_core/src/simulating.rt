@@ -1,10 +1,10 @@
 ghost use Rattle.std.specs.Prelude.{◌≡◌, ◌≤◌, IfOk};
 ghost use Rattle.aerie_base.specs.Ranges.{step_limit};
-ghost use Rattle.aerie_base.specs.declared.models.model.Parts.{Parts};
 ghost use Rattle.aerie_base.specs.plans.OfModel.{IsPlanOf};
 ghost use Rattle.run_data.specs.Fresh.{IsFresh};
 ghost use Rattle.run_data.specs.Waves.{RoseAlike};
 ghost use Rattle.engine_core.specs.RunFrames.{PaysForRun, LooksForRun};
+ghost use Rattle.engine_core.specs.Standing.{OfSameModels};
 
 use crate::engine::Engine;
 use aerie_base::{Model, OutOfMemory, Plan, Steps};
@@ -34,7 +34,7 @@ pub fn simulate<S: Stepper, L: Ledger, K: Ledger>(
     ensures looks { looks.old ≤ looks.new }
     ensures few_looks { IfOk result (λ run. LooksForRun run looks.old looks.new) }
     ensures opened { RoseAlike (S.opened stepper.old) steps.old (S.opened stepper.new) steps.new }
-    ensures same_models { (of : Parts) → (S.is_of stepper.old of → S.is_of stepper.new of) × (S.is_of stepper.new of → S.is_of stepper.old of) }
+    ensures same_models { OfSameModels (S.is_of stepper.old) (S.is_of stepper.new) }
     ensures same_records { S.records stepper.new ≡ S.records stepper.old }
     ensures anchor { S.anchor stepper.new ≡ S.anchor stepper.old }
 {

@@ -9,7 +9,7 @@ ghost use Rattle.run_data.specs.Waves.{RoseAlike};
 ghost use Rattle.run_data.specs.laws.GoingOn.{AllQuiet};
 ghost use Rattle.run_data.specs.laws.NumberedTasks.{sorted_tasks};
 ghost use Rattle.engine_core.specs.BatchEnds.{batch_as, batch_frames, SpendsWith};
-ghost use Rattle.engine_core.specs.Standing.{PaysForBatch, LooksForBatch};
+ghost use Rattle.engine_core.specs.Standing.{PaysForBatch, LooksForBatch, OfSameModels};
 ghost use Rattle.engine_core.specs.TasksByNumber.{AreKept};
 ghost use Rattle.engine_core.specs.Turns.{state_of, place_in, plan_in, bound_in, are_none, standing_of, AreKeptBefore, AreKeptIn, IsOnCourse, IsTurnFrom, TouchesAll, MakesFew};
 ghost use Rattle.engine_core.specs.declared.simulation.Stage.TheVariants as turn_;
@@ -179,7 +179,7 @@ impl Simulation {
         ensures looks { looks.old ≤ looks.new }
         ensures few_looks { IfOk result (λ turn. LooksForBatch (standing_of model.now (turn_.On self)) looks.old looks.new) }
         ensures opened { RoseAlike (S.opened stepper.old) steps.old (S.opened stepper.new) steps.new }
-        ensures same_models { (of : Parts) → (S.is_of stepper.old of → S.is_of stepper.new of) × (S.is_of stepper.new of → S.is_of stepper.old of) }
+        ensures same_models { OfSameModels (S.is_of stepper.old) (S.is_of stepper.new) }
         ensures same_records { S.records stepper.new ≡ S.records stepper.old }
         ensures anchor { S.anchor stepper.new ≡ S.anchor stepper.old }
     {

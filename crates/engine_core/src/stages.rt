@@ -1,11 +1,10 @@
 //! What a turn gives, and the turn from there.
 
 ghost use Rattle.std.specs.Prelude.{◌≡◌, ◌≤◌, [], Some, true, IfOk};
-ghost use Rattle.aerie_base.specs.declared.models.model.Parts.{Parts};
 ghost use Rattle.run_data.specs.Transitions.{finished};
 ghost use Rattle.run_data.specs.Waves.{RoseAlike};
 ghost use Rattle.engine_core.specs.BatchEnds.{batch_frames};
-ghost use Rattle.engine_core.specs.Standing.{jobs_in, time_in, batches_in, HasJob, PaysForBatch, LooksForBatch};
+ghost use Rattle.engine_core.specs.Standing.{jobs_in, time_in, batches_in, HasJob, PaysForBatch, LooksForBatch, OfSameModels};
 ghost use Rattle.engine_core.specs.Turns.{place_in, bound_in, is_idle_at, standing_of, IsOnCourse, IsTurnFrom};
 
 use crate::ready_jobs::ReadyJobs;
@@ -88,7 +87,7 @@ impl Stage {
         ensures looks { looks.old ≤ looks.new }
         ensures few_looks { IfOk result (λ turn. LooksForBatch (standing_of model.now self) looks.old looks.new) }
         ensures opened { RoseAlike (S.opened stepper.old) steps.old (S.opened stepper.new) steps.new }
-        ensures same_models { (of : Parts) → (S.is_of stepper.old of → S.is_of stepper.new of) × (S.is_of stepper.new of → S.is_of stepper.old of) }
+        ensures same_models { OfSameModels (S.is_of stepper.old) (S.is_of stepper.new) }
         ensures same_records { S.records stepper.new ≡ S.records stepper.old }
         ensures anchor { S.anchor stepper.new ≡ S.anchor stepper.old }
     {

@@ -10,7 +10,7 @@ ghost use Rattle.engine_core.specs.Phases.{may_resume, is_waiting};
 ghost use Rattle.engine_core.specs.Times.{IsUpToTime, least_time, put_at};
 ghost use Rattle.run_data.specs.laws.EndedTasks.{open_is};
 ghost use Rattle.run_data.specs.laws.NumberedTasks.{sorted_tasks, Distinct};
-ghost use Rattle.engine_core.specs.TasksByNumber.{put_task, number_for, delays_of, MadeIsSmall, IsChange, resumed_task, AreKept, has_number, anchors_of, HavePaths};
+ghost use Rattle.engine_core.specs.TasksByNumber.{put_task, number_for, delays_of, MadeIsSmall, IsChange, resumed_task, AreKept, has_number, anchors_of, HavePaths, KeepsWakes};
 ghost use Rattle.engine_core.specs.Watching.{Drains, Watches};
 
 use crate::indexes::{Indexes, Standing};
@@ -171,7 +171,7 @@ impl IndexedTasks {
         ensures tasks { IfOk result (λ all. all.tasks ≡ put_task self.tasks path task) }
         ensures wakes { IfOk result (λ all. all.wakes ≡ put_at self.wakes (number_for self.tasks path) None) }
         ensures stale { IfOk result (λ all. is_waiting task.phase ≡ false → all.stale ≡ self.stale) }
-        ensures kept { IfOk result (λ all. (now horizon : ℕ) (cells : List CellState) → AreKept now horizon cells self → AreKept now horizon cells all) }
+        ensures kept { IfOk result (KeepsWakes self) }
     {
         let IndexedTasks {
             tasks,
@@ -333,7 +333,7 @@ impl IndexedTasks {
     ) -> Result<IndexedTasks, OutOfMemory>
         requires { children_made (task_at (sorted_tasks self.tasks) frame.now.path) + children_in frame.now.items < 2 ^ 32 }
         ensures table { IfOk result (λ all. sorted_tasks all.tasks ≡ after_frame now frame.now (sorted_tasks self.tasks)) }
-        ensures kept { IfOk result (λ all. (now horizon : ℕ) (cells : List CellState) → AreKept now horizon cells self → AreKept now horizon cells all) }
+        ensures kept { IfOk result (KeepsWakes self) }
     {
         let made = self.made(&frame.path) + count_children(&frame.items);
         let task = TrackedTask::after(alloc, now, &frame.status, made)?;
@@ -349,7 +349,7 @@ impl IndexedTasks {
     ) -> Result<IndexedTasks, OutOfMemory>
         requires { MadeIsSmall (after_frames now frames.now (sorted_tasks self.tasks)) }
         ensures table { IfOk result (λ all. sorted_tasks all.tasks ≡ after_frames now frames.now (sorted_tasks self.tasks)) }
-        ensures kept { IfOk result (λ all. (now horizon : ℕ) (cells : List CellState) → AreKept now horizon cells self → AreKept now horizon cells all) }
+        ensures kept { IfOk result (KeepsWakes self) }
     {
         let mut all = self;
         for frame in frames {
@@ -406,7 +406,7 @@ impl IndexedTasks {
             all.tasks ≡ slice_set self.tasks number (path, resumed_task task)) }
         ensures wakes { IfOk result (λ all. all.wakes ≡ slice_set self.wakes number None) }
         ensures stale { IfOk result (λ all. all.stale ≡ self.stale) }
-        ensures kept { IfOk result (λ all. (now horizon : ℕ) (cells : List CellState) → AreKept now horizon cells self → AreKept now horizon cells all) }
+        ensures kept { IfOk result (KeepsWakes self) }
     {
         self.note_distinct();
         match self.resumed(alloc, number)? {
@@ -419,7 +419,7 @@ impl IndexedTasks {
     pub(crate) fn rest(self, alloc: Global, now: Time) -> Result<IndexedTasks, OutOfMemory>
         requires { IsUpToTime now (least_delay self.tasks) }
         ensures tasks { IfOk result (λ all. all.tasks ≡ on_each (rested now) self.tasks) }
-        ensures kept { IfOk result (λ all. (now horizon : ℕ) (cells : List CellState) → AreKept now horizon cells self → AreKept now horizon cells all) }
+        ensures kept { IfOk result (KeepsWakes self) }
     {
         let mut all = self;
         while let Some(number) = all.due(now) {

@@ -7,7 +7,7 @@ ghost use Rattle.effect_cells.specs.Reads.{kind_on};
 ghost use Rattle.effect_cells.specs.TouchedCells.{is_cell_among};
 ghost use Rattle.run_data.specs.Tasks.{on_each, woken};
 ghost use Rattle.run_data.specs.laws.NextTimes.{least_wake};
-ghost use Rattle.engine_core.specs.TasksByNumber.{has_number, AreKept, AreFound, AgreeBut};
+ghost use Rattle.engine_core.specs.TasksByNumber.{has_number, AreKept, AreFound, KeepsWakesBut};
 ghost use Rattle.engine_core.specs.Times.{least_time, IsUpToTime};
 ghost use Rattle.engine_core.specs.Waking.{AreSolvable, WakesPass, wake_at, reads_at};
 
@@ -38,7 +38,7 @@ impl IndexedTasks {
     /// The wake times of those that wait for the touched cells are to be found anew.
     pub(crate) fn touch(self, alloc: Global, touched: &[u16]) -> Result<IndexedTasks, OutOfMemory>
         ensures tasks { IfOk result (λ all. all.tasks ≡ self.tasks) }
-        ensures kept { IfOk result (λ all. (now horizon : ℕ) (cells others : List CellState) → AreKept now horizon cells self → AgreeBut touched.now cells others → AreKept now horizon others all) }
+        ensures kept { IfOk result (KeepsWakesBut touched.now self) }
     {
         waiting_depends_on_cells_read();
         let all = self.with_touched(alloc, touched)?;

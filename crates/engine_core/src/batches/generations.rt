@@ -102,7 +102,9 @@ fn run_generation<S: Stepper, L: Ledger, K: Ledger>(
     ensures turn { IfOk result (λ next. IsTurn model.now jobs.now fuel made.old.items made.new.items next) }
     ensures pays { IfOk result (λ next. PaysForTurn next (S.records stepper.old) made.old.items made.new.items steps.old steps.new) }
     ensures few_looks { IfOk result (λ next. LooksForTurn next made.old.items made.new.items looks.old looks.new) }
-    ensures ran { Ran (S.is_of stepper.old) (S.is_of stepper.new) (S.records stepper.old) (S.records stepper.new) (S.anchor stepper.old) (S.anchor stepper.new) (S.opened stepper.old) steps.old looks.old (S.opened stepper.new) steps.new looks.new }
+    ensures ran { Ran (S.is_of stepper.old) (S.is_of stepper.new) (S.records stepper.old) (S.records stepper.new)
+        (S.anchor stepper.old) (S.anchor stepper.new) (S.opened stepper.old) steps.old looks.old
+        (S.opened stepper.new) steps.new looks.new }
 {
     waves_go_by_what_is_left();
     match stepper.wave(alloc, model, jobs.jobs(), fuel, steps, looks)? {
@@ -135,7 +137,9 @@ pub(super) fn all_frames<S: Stepper, L: Ledger, K: Ledger>(
     ensures frames { IfOk result (λ frames. AreAllFrames model.now bound spent jobs.now (option_map (λ all. all.items) frames)) }
     ensures pays { IfOk result (λ frames. PaysForAll (option_map (λ all. all.items) frames) (S.records stepper.old) steps.old steps.new) }
     ensures few_looks { IfOk result (λ frames. LooksForAll (option_map (λ all. all.items) frames) looks.old looks.new) }
-    ensures ran { Ran (S.is_of stepper.old) (S.is_of stepper.new) (S.records stepper.old) (S.records stepper.new) (S.anchor stepper.old) (S.anchor stepper.new) (S.opened stepper.old) steps.old looks.old (S.opened stepper.new) steps.new looks.new }
+    ensures ran { Ran (S.is_of stepper.old) (S.is_of stepper.new) (S.records stepper.old) (S.records stepper.new)
+        (S.anchor stepper.old) (S.anchor stepper.new) (S.opened stepper.old) steps.old looks.old
+        (S.opened stepper.new) steps.new looks.new }
 {
     same_by_generations();
     waves_go_by_what_is_left();
