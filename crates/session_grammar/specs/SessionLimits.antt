@@ -2,7 +2,6 @@
 -- where the rules of its sections stand.
 use Rattle.std.specs.Prelude.{◌≡◌, ℕ, ◌≤◌, List, length}
 use Rattle.std.specs.List.{AllByRecursion}
-use Rattle.aerie_text.specs.declared.token.Token.{Token}
 use Rattle.model_reader.specs.Limits.{CountNumbers, IsLiteralInRange, IsWithinLimits}
 use Rattle.readers.specs.Marks.{Mark}
 use Rattle.readers.specs.Parsed.{parsed}

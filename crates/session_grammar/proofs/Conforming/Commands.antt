@@ -1,6 +1,6 @@
 -- What is read of clients and their commands conforms to the grammar of sessions, the limit of commands included: it is passed
 -- at the mark that begins the one that is too many.
-use Rattle.std.proofs.Common.{ℕ, List, [], ◌∷◌, refl}
+use Rattle.std.proofs.Common.{ℕ, List, refl}
 use Rattle.aerie_text.specs.declared.sorts.Sort.{Sort}
 use Rattle.aerie_text.specs.declared.sorts.Sort.TheVariants as sort
 use Rattle.readers.specs.Marks.{Mark}

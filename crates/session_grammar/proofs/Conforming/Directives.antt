@@ -1,5 +1,5 @@
 -- What is read of the parts of directives conforms to the grammar of sessions: each law has the shape of its definition.
-use Rattle.std.proofs.Common.{◌≡◌, true, false, Bool, List, [], ◌∷◌, IsTrue, nat_eq, refl, ap, sym, ◌∙◌, ◌||◌, None}
+use Rattle.std.proofs.Common.{◌≡◌, true, false, Bool, List, [], ◌∷◌, nat_eq, refl, ap, sym, ◌∙◌, ◌||◌, None}
 use Rattle.aerie_base.specs.declared.plans.Edge.{Edge}
 use Rattle.aerie_text.specs.Sorts.{number_of}
 use Rattle.aerie_text.specs.declared.sorts.Sort.{Sort}
@@ -8,7 +8,7 @@ use Rattle.model_reader.specs.grammar.Rules.{literal_rule}
 use Rattle.readers.specs.Conforms.{Conforms}
 use Rattle.readers.specs.Marks.{Mark}
 use Rattle.readers.specs.Parsed.{Parsed, is_of, is_one_of, mark_at}
-use Rattle.readers.specs.grammar.Forms.{Form, token, rule, both, either, option}
+use Rattle.readers.specs.grammar.Forms.{Form, token, rule, both, either}
 use Rattle.readers.proofs.Conforming.{token_conforms, has_conforms, and_then, then_value, value, either_conforms, rule_conforms, Begins, begins_token, begins_both, begins_either}
 use Rattle.readers.proofs.Listing.{parenthesized_conforms}
 use Rattle.readers.proofs.Within.{within_conforms, halves_conform}

@@ -1,5 +1,5 @@
 -- What is read of mappings conforms to the grammar of sessions.
-use Rattle.std.proofs.Common.{◌≡◌, Bool, List, [], ◌∷◌, None, refl}
+use Rattle.std.proofs.Common.{Bool, List, [], ◌∷◌, None, refl}
 use Rattle.aerie_text.specs.declared.sorts.Sort.{Sort}
 use Rattle.aerie_text.specs.declared.sorts.Sort.TheVariants as sort
 use Rattle.model_reader.specs.declared.raw.names.RawName.{RawName}
@@ -7,10 +7,10 @@ use Rattle.model_reader.specs.reading.Literals.{minus_at, sign_at}
 use Rattle.model_reader.specs.reading.Names.{raw_name_at}
 use Rattle.readers.specs.Marks.{Mark}
 use Rattle.readers.specs.Parsed.{is_of}
-use Rattle.readers.specs.grammar.Forms.{both, either, many, option, rule, separated, token}
-use Rattle.readers.proofs.Conforming.{and_then, then_value, value, either_conforms, option_conforms, rule_conforms, Begins, begins_both, begins_rule, begins_token}
+use Rattle.readers.specs.grammar.Forms.{both, many, option, rule, separated, token}
+use Rattle.readers.proofs.Conforming.{and_then, then_value, value, either_conforms, option_conforms, rule_conforms, Begins, begins_both, begins_rule}
 use Rattle.readers.proofs.Listing.{optional_list_conforms, row_conforms}
-use Rattle.session_grammar.specs.grammar.Factored.{look, fed_value_form, feed_form, name_or_variant_form, named_form, signed_amount_form}
+use Rattle.session_grammar.specs.grammar.Factored.{look, fed_value_form, name_or_variant_form, named_form, signed_amount_form}
 use Rattle.session_grammar.specs.grammar.Rules.{feed_rule, mapping_rule}
 use Rattle.session_grammar.specs.grammar.Terminals.{plain}
 use Rattle.session_grammar.specs.grammar.Written.{mapped_type_form}

@@ -6,7 +6,7 @@ use Rattle.readers.specs.Lists.{row_at}
 use Rattle.readers.specs.Marks.{Mark}
 use Rattle.readers.specs.Parsed.{failed, is_of, mark_at, next_fits, taken as taken_mark}
 use Rattle.readers.specs.Within.{counts_within, is_within}
-use Rattle.readers.specs.grammar.Forms.{both, many, rule, token}
+use Rattle.readers.specs.grammar.Forms.{many, rule, token}
 use Rattle.readers.specs.grammar.LazyReadings.{read, stop}
 use Rattle.readers.specs.grammar.Lookahead.{next_in_first}
 use Rattle.readers.proofs.Conforming.{and_then, then_value, value, chosen_conforms, failed_conforms, rule_conforms, begins_both}
@@ -14,7 +14,7 @@ use Rattle.readers.proofs.Grammars.Parsing.{token_ends, token_read, token_stops}
 use Rattle.readers.proofs.Listing.{row_conforms}
 use Rattle.session_grammar.specs.grammar.Factored.{look, plan_name_form, start_form, plan_duration_form}
 use Rattle.session_grammar.specs.grammar.Rules.{plan_rule}
-use Rattle.session_grammar.specs.grammar.Terminals.{fits, plain, some_time}
+use Rattle.session_grammar.specs.grammar.Terminals.{fits, some_time}
 use Rattle.session_grammar.specs.grammar.Written.{dataset_form, directive_form}
 use Rattle.session_grammar.specs.reading.Directives.{duration_at}
 use Rattle.session_grammar.specs.reading.Plans.{start_at, some_time_at, plan_duration_at, directive_at, plan_name_at, plan_at, dataset_at, most_datasets, datasets_at}

@@ -9,7 +9,7 @@ use Rattle.readers.specs.Parsed.{taken as taken_mark}
 use Rattle.readers.specs.Within.{is_within}
 use Rattle.readers.specs.grammar.Forms.{Form, both, many, option, rule, token}
 use Rattle.readers.specs.grammar.LazyReadings.{first_of_two, read, second_of_two, stop}
-use Rattle.readers.specs.grammar.Lookahead.{in_first, next_in_first, nullable}
+use Rattle.readers.specs.grammar.Lookahead.{in_first, nullable}
 use Rattle.readers.specs.grammar.Notation.{one_of}
 use Rattle.readers.specs.grammar.Tables.{is_among}
 use Rattle.readers.proofs.Conforming.{and_then, then_value, value, Begins, begins_both, failed_conforms, option_conforms, repeated_conforms, rule_conforms}

@@ -1,5 +1,5 @@
 -- The grammar of models stands inside that of sessions, so that a model conforms to its rule there too.
-use Rattle.std.proofs.Common.{◌≡◌, ℕ, ◌≤◌, lit≤, Bool, true, false, ◌||◌, List, [], ◌∷◌, ◌++◌, IsTrue, refl, sym, ap, ◌∙◌}
+use Rattle.std.proofs.Common.{◌≡◌, ℕ, lit≤, Bool, true, false, ◌||◌, List, [], ◌∷◌, ◌++◌, IsTrue, refl, sym, ap, ◌∙◌}
 use Rattle.std.proofs.lemmas.Bool.{eq-eqb}
 use Rattle.aerie_text.specs.Sorts.{number_of}
 use Rattle.aerie_text.specs.declared.sorts.Sort.{Sort}

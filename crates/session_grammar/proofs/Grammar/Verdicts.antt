@@ -1,6 +1,5 @@
 -- What is so by the factored grammar of sessions is so by the grammar as it is written.
-use Rattle.std.specs.Prelude.{List, [], ◌∷◌}
-use Rattle.readers.specs.Marks.{Mark}
+use Rattle.std.specs.Prelude.{[], ◌∷◌}
 use Rattle.readers.specs.grammar.Forms.{rule}
 use Rattle.readers.specs.grammar.Lookahead.{answer}
 use Rattle.readers.specs.grammar.Tells.{AnswersAreRight}

@@ -2,7 +2,6 @@
 -- numbers too follows of each part from the grammar.
 use Rattle.std.proofs.Common.{◌≡◌, ℕ, zero, suc, ◌-◌, ◌≤◌, ℤ, pos, negsuc, Bool, true, false, ◌&&◌, List, [], ◌∷◌, ◌++◌, Option, Some, None, length, nat_le, if◌then◌else◌, refl, sym, ap, ◌∙◌, arith, subst}
 use Rattle.std.proofs.lemmas.List.{length-append}
-use Rattle.std.specs.List.{AllByRecursion}
 use Rattle.aerie_base.specs.Ranges.{IsNumber, number_limit, time_limit}
 use Rattle.aerie_base.specs.declared.places.Place.{Place}
 use Rattle.aerie_text.specs.declared.sorts.Sort.{Sort}
@@ -25,7 +24,6 @@ use Rattle.session_grammar.proofs.Conforming.Mappings.{raw_name_law, raw_named_l
 use Rattle.session_grammar.proofs.Conforming.Plans.{dataset_law, directives_law, plan_name_law, start_law}
 use Rattle.session_grammar.proofs.Conforming.Sections.{of_model_law, rules_law}
 use Rattle.session_grammar.specs.SessionLimits.{AreFeedsInRange, AreRangesWithin, IsFeedInRange, IsFedInRange, IsLimitedClient, IsMappingInRange, IsRangeWithin, IsTypeRuleInRange}
-use Rattle.session_grammar.specs.declared.raw.plans.RawPlan.{RawPlan}
 use Rattle.session_grammar.specs.declared.raw.sections.RawSections.{RawSections}
 use Rattle.session_grammar.specs.grammar.Factored.{look}
 use Rattle.session_grammar.specs.grammar.Rules.{Rule}

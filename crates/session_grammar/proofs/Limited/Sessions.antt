@@ -23,7 +23,7 @@ use Rattle.session_grammar.proofs.Limited.Parts.{keeps_by, mappings_keep, plan_k
 use Rattle.session_grammar.specs.SessionLimits.{IsLimitedSession, ReadsLimitedSessions}
 use Rattle.session_grammar.specs.declared.raw.sessions.RawSession.{RawSession}
 use Rattle.session_grammar.specs.grammar.Rules.{of_model}
-use Rattle.session_grammar.specs.reading.Sessions.{model_limit, most_models, models_at, session_within, session_at, whole_of, whole_session_at}
+use Rattle.session_grammar.specs.reading.Sessions.{model_limit, most_models, models_at, session_within, whole_of, whole_session_at}
 
 -- one model or more, not too many
 record AreModels (models : List RawModel) : Type 0 where

@@ -1,19 +1,19 @@
 -- The grammar of sessions in which the next token decides each choice. It reads what the grammar as it is written reads. A form
 -- with a name of its own is what one part of the reader reads.
-use Rattle.std.specs.Prelude.{ℕ, Bool, true, false, List, [], ◌∷◌, ◌++◌}
+use Rattle.std.specs.Prelude.{Bool, true, false, List, [], ◌∷◌}
 use Rattle.aerie_text.specs.declared.sorts.Sort.{Sort}
 use Rattle.aerie_text.specs.declared.sorts.Sort.TheVariants as sort
 use Rattle.model_reader.specs.grammar.Factored.{form_of as model_form_of, rule_first as model_first, rule_follow as model_follow}
-use Rattle.model_reader.specs.grammar.Rules.{Rule as ModelRule, model_rule, literal_rule}
+use Rattle.model_reader.specs.grammar.Rules.{Rule as ModelRule, model_rule}
 use Rattle.readers.specs.Marks.{Mark}
 use Rattle.readers.specs.grammar.Classes.{look_by_class}
-use Rattle.readers.specs.grammar.Forms.{Form, token, rule, many, option, separated, Grammar}
+use Rattle.readers.specs.grammar.Forms.{Form, token, rule, many, option, Grammar}
 use Rattle.readers.specs.grammar.Lookahead.{Lookahead}
 use Rattle.readers.specs.grammar.Notation.{◌then◌, ◌or◌}
 use Rattle.readers.specs.grammar.Tables.{Tables, look_by_number}
 use Rattle.session_grammar.specs.grammar.Embedding.{in_session, of_sort, terminals_of_all}
 use Rattle.session_grammar.specs.grammar.Rules.{Rule, session_rule, rules_rule, mapping_rule, feed_rule, plan_rule, when_rule, given_rule, client_rule, command_rule, of_model}
-use Rattle.session_grammar.specs.grammar.Terminals.{Terminal, class_of, number_of_terminal, plain, id_number, some_time}
+use Rattle.session_grammar.specs.grammar.Terminals.{Terminal, class_of, number_of_terminal, plain, some_time}
 use Rattle.session_grammar.specs.grammar.Written.{rules_form, rule_terminals, mapped_type_form, dataset_form, section_form, directive_form, argument_form, given_form, client_form, id_form, duration_form}
 
 -- WORD NAME, for a word or a symbol

@@ -1,5 +1,5 @@
 -- Reading the parts of directives: when they start, and what they give.
-use Rattle.std.specs.Prelude.{ℕ, ℤ, neg_ℤ, nat_abs, nat_le, if◌then◌else◌, Bool, true, false, List, [], ◌∷◌, ◌++◌, Option, Some, None, codes}
+use Rattle.std.specs.Prelude.{ℕ, ℤ, neg_ℤ, nat_abs, nat_le, if◌then◌else◌, Bool, true, false, List, [], ◌∷◌, ◌++◌, Some, None, codes}
 use Rattle.aerie_base.specs.Ranges.{time_limit}
 use Rattle.aerie_base.specs.declared.arguments.RawArgument.{RawArgument}
 use Rattle.aerie_base.specs.declared.arguments.RawValue.{RawValue}

@@ -2,7 +2,6 @@
 use Rattle.std.specs.Prelude.{ℕ, Bool, true, false, List, [], ◌∷◌, Option, Some, None}
 use Rattle.aerie_text.specs.declared.sorts.Sort.{Sort}
 use Rattle.aerie_text.specs.declared.sorts.Sort.TheVariants as sort
-use Rattle.model_reader.specs.declared.raw.literals.RawLiteral.{RawLiteral}
 use Rattle.model_reader.specs.declared.raw.literals.RawLiteralKind.TheVariants as kind
 use Rattle.model_reader.specs.declared.raw.names.RawName.{RawName}
 use Rattle.model_reader.specs.reading.Literals.{sign_at, with_minus}

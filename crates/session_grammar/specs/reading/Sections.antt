@@ -8,7 +8,6 @@ use Rattle.readers.specs.Lists.{pushed_at}
 use Rattle.readers.specs.Marks.{Mark}
 use Rattle.readers.specs.Parsed.{Parsed, parsed, failed, ◌>>=◌, is_of, next_is, chosen, taken, take_at, repeated}
 use Rattle.session_grammar.specs.declared.raw.sections.RawSection.{RawSection}
-use Rattle.session_grammar.specs.declared.raw.sections.RawSections.{RawSections}
 use Rattle.session_grammar.specs.grammar.Written.{is_brace}
 use Rattle.session_grammar.specs.reading.Mappings.{raw_named_at}
 

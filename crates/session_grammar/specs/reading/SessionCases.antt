@@ -1,5 +1,5 @@
 -- Worked cases of what is read of a session's parts.
-use Rattle.std.specs.Prelude.{◌≡◌, ℕ, pos, negsuc, List, [], ◌∷◌, ◌++◌, Some, None, codes, refl}
+use Rattle.std.specs.Prelude.{◌≡◌, ℕ, negsuc, List, [], ◌∷◌, Some, None, codes, refl}
 use Rattle.std.specs.Str.{chars}
 use Rattle.aerie_base.specs.declared.places.Place.{Place}
 use Rattle.aerie_text.specs.Numerals.{digits_at}
@@ -14,7 +14,6 @@ use Rattle.model_reader.specs.reading.Literals.{minus_at, sign_at}
 use Rattle.model_reader.specs.reading.Names.{raw_name_at}
 use Rattle.readers.specs.Marks.{Mark}
 use Rattle.readers.specs.Parsed.{Parsed, parsed, failed, over_limit}
-use Rattle.session_grammar.specs.declared.raw.mappings.RawFeed.{RawFeed}
 use Rattle.session_grammar.specs.declared.raw.mappings.RawFeedValue.TheVariants as fed
 use Rattle.session_grammar.specs.grammar.Cases.{marks_in}
 use Rattle.session_grammar.specs.reading.Directives.{amount_at, duration_at}

@@ -9,8 +9,6 @@ use Rattle.readers.specs.Parsed.{Parsed, parsed, failed, ◌>>=◌, is_of, repea
 use Rattle.readers.specs.declared.limits.Limit.TheVariants.{Clients, Models}
 use Rattle.readers.specs.declared.lists.Most.{Most}
 use Rattle.session_grammar.specs.declared.raw.clients.RawClient.{RawClient}
-use Rattle.session_grammar.specs.declared.raw.plans.RawDataset.{RawDataset}
-use Rattle.session_grammar.specs.declared.raw.plans.RawPlan.{RawPlan}
 use Rattle.session_grammar.specs.declared.raw.sections.RawSections.{RawSections}
 use Rattle.session_grammar.specs.declared.raw.sessions.RawSession.{RawSession}
 use Rattle.session_grammar.specs.reading.Commands.{client_at}
