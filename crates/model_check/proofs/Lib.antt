@@ -17,3 +17,5 @@ pub mod MadeParts
 pub mod Sound
 pub mod Checked
 pub mod FirstTold
+pub mod Answered
+pub mod Placed

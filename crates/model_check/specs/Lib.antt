@@ -11,6 +11,7 @@ pub mod Invokes
 pub mod LinearForms
 pub mod Waits
 pub mod RawStatements
+pub mod RawPlaces
 pub mod StatementScopes
 pub mod Statements
 pub mod ModelSymbols
@@ -23,5 +24,6 @@ pub mod NameGroups
 pub mod DeclaredParts
 pub mod CheckedParameters
 pub mod CheckedParts
+pub mod Making
 pub mod CheckAnswers
 pub mod ModelCases

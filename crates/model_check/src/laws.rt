@@ -1,13 +1,17 @@
 //! Laws of the checks of a model, each the promise of a function without a body.
 
-ghost use Rattle.std.specs.Prelude.{◌≡◌, true, [], Some};
+ghost use Rattle.std.specs.Prelude.{◌≡◌, true, [], Some, Ok};
+ghost use Rattle.std.specs.List.{AllByRecursion};
+ghost use Rattle.aerie_base.specs.declared.models.model.Parts.{Parts};
 ghost use Rattle.aerie_base.specs.models.ValidModel.{valid_model};
 ghost use Rattle.model_reader.specs.declared.raw.models.RawModel.{RawModel};
 ghost use Rattle.model_reader.specs.Limits.{IsWithinLimits};
 ghost use Rattle.model_check.specs.declared.diagnostics.Diagnostic.{Diagnostic};
-ghost use Rattle.model_check.specs.FirstTold.{IsToldFirst};
+ghost use Rattle.model_check.specs.CheckAnswers.{IsCheckOf};
+ghost use Rattle.model_check.specs.FirstTold.{IsToldFirst, StandsAmong};
 ghost use Rattle.model_check.specs.ModelDiagnostics.{model_diagnostics, first_refused};
 ghost use Rattle.model_check.specs.ModelMeaning.{model_of};
+ghost use Rattle.model_check.specs.RawPlaces.{IsPlaceOf};
 
 /// A model within the limits of which nothing is refused means a valid model.
 pub fn unrefused_models_are_valid()
@@ -18,4 +22,20 @@ pub fn unrefused_models_are_valid()
 /// same place by its number.
 pub fn the_first_comes_first()
     ensures { (raw : RawModel) (first : Diagnostic) → first_refused raw ≡ Some first → IsToldFirst first (model_diagnostics raw) }
+{}
+
+/// Each refusal stands at a place of the model: where a name, a literal, an expression or a statement of it stands.
+pub fn each_refusal_has_a_place()
+    ensures { (raw : RawModel) → AllByRecursion (λ refusal. IsPlaceOf raw refusal.place) (model_diagnostics raw) }
+{}
+
+/// A model of which anything is refused, be it a name or a type, is the written form of no model: none answers its check.
+pub fn refused_models_mean_none()
+    ensures { (raw : RawModel) (one : Diagnostic) (model : Parts) → StandsAmong one (model_diagnostics raw) → IsCheckOf raw (Ok model) → ⊥ }
+{}
+
+/// A model that answers the check of one as it is written is the one that this means; within the limits it is valid.
+pub fn answered_models_are_meant()
+    ensures meant { (raw : RawModel) (model : Parts) → IsCheckOf raw (Ok model) → model ≡ model_of raw }
+    ensures valid { (raw : RawModel) (model : Parts) → IsWithinLimits raw → IsCheckOf raw (Ok model) → valid_model model ≡ true }
 {}

@@ -12,7 +12,7 @@ mod expressions;
 mod forms;
 mod invokes;
 mod items;
-mod laws;
+pub mod laws;
 mod leaves;
 mod literals;
 mod names;

@@ -6,8 +6,9 @@ ghost use Rattle.model_check.specs.declared.diagnostics.Cause.TheVariants.{Dupli
 ghost use Rattle.model_check.specs.Diagnostics.{noted, refused_unless};
 ghost use Rattle.model_check.specs.ModelDiagnostics.{repeated_diagnostics, shared_name, resource_name, names_in};
 ghost use Rattle.model_check.specs.ModelSymbols.{with_names};
-ghost use Rattle.model_check.specs.NameGroups.{group_name};
+ghost use Rattle.model_check.specs.NameGroups.{cell_name, group_name};
 ghost use Rattle.model_check.specs.NameLists.{with_name};
+ghost use Rattle.model_check.specs.Making.{AddsName, AddsNames};
 
 use crate::diagnostics::{Cause, Diagnostic, note};
 use crate::names::NameSet;
@@ -31,7 +32,7 @@ fn note_repeated(
     name: &RawName,
     found: &mut Option<Diagnostic>,
 ) -> Result<(), OutOfMemory>
-    ensures { IfOk result (λ _. (earlier.new ≡ with_name earlier.old name.now.name) × (found.new ≡ noted found.old (refused_unless (not (is_name_among name.now.name earlier.old)) Duplicate name.now.at))) }
+    ensures { IfOk result (λ _. AddsName name.now earlier.old earlier.new found.old found.new) }
 {
     if !earlier.add(alloc, &name.name)? {
         note(found, name.at, Cause::Duplicate);
@@ -70,13 +71,20 @@ fn declared_name(item: &RawItem) -> Option<&RawName>
 {
     match item {
         RawItem::Enum { name, .. } => Some(name),
+        RawItem::Activity { name, .. } => Some(name),
+        _ => cell_name(item),
+    }
+}
+
+/// The name of a cell.
+fn cell_name(item: &RawItem) -> Option<&RawName>
+    ensures { option_to_list (option_map (λ name. name.now) result) ≡ cell_name item.now }
+{
+    match item {
         RawItem::Counter { name, .. } => Some(name),
         RawItem::Register { name, .. } => Some(name),
         RawItem::Accumulator { name, .. } => Some(name),
-        RawItem::Activity { name, .. } => Some(name),
-        RawItem::Discrete { .. } => None,
-        RawItem::Linear { .. } => None,
-        RawItem::Daemon { .. } => None,
+        _ => None,
     }
 }
 
@@ -87,12 +95,7 @@ fn shown_name(item: &RawItem) -> Option<&RawName>
     match item {
         RawItem::Discrete { name, .. } => Some(name),
         RawItem::Linear { name, .. } => Some(name),
-        RawItem::Enum { .. } => None,
-        RawItem::Counter { .. } => None,
-        RawItem::Register { .. } => None,
-        RawItem::Accumulator { .. } => None,
-        RawItem::Activity { .. } => None,
-        RawItem::Daemon { .. } => None,
+        _ => None,
     }
 }
 
@@ -104,7 +107,7 @@ fn note_repeated_item(
     item: &RawItem,
     found: &mut Option<Diagnostic>,
 ) -> Result<(), OutOfMemory>
-    ensures { IfOk result (λ _. (earlier.new ≡ with_names earlier.old (group_name group item.now)) × (found.new ≡ noted found.old (repeated_diagnostics earlier.old (group_name group item.now)))) }
+    ensures { IfOk result (λ _. AddsNames (group_name group item.now) earlier.old earlier.new found.old found.new) }
 {
     match group_name(group, item) {
         None => Ok(()),

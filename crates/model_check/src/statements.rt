@@ -6,6 +6,7 @@ ghost use Rattle.model_check.specs.CellReads.{of_cell, on_cell, flow_sort};
 ghost use Rattle.model_check.specs.Diagnostics.{noted, Makes};
 ghost use Rattle.model_check.specs.MadeStatements.{IsStatementAt, IsStatement, IsBlock};
 ghost use Rattle.model_check.specs.Statements.{assigned_diagnostics, local_kind, local_slot, counter_sort, register_sort, register_sort_kind, return_diagnostics, returned_of};
+ghost use Rattle.model_check.specs.Making.{MakesFlow};
 
 use crate::cell_reads::cell_number;
 use crate::diagnostics::{Cause, Diagnostic, note};
@@ -221,8 +222,25 @@ fn put(
     })
 }
 
-/// An effect on the volume of an accumulator.
+/// The cell and the value of an effect on a part of an accumulator.
 #[tactic(auto, using(crate::proofs::NotedInTurn::noted_appended))]
+fn flow(
+    alloc: Global,
+    symbols: &Symbols,
+    scope: &BodyScope,
+    name: &RawName,
+    value: &RawExpr,
+    found: &mut Option<Diagnostic>,
+) -> Result<(u16, Expr), OutOfMemory>
+    ensures { IfOk result (MakesFlow symbols.now scope.now name.now value.now found.old found.new) }
+{
+    let cell = symbols.cells.entry(&name.name);
+    note_accumulator(found, name.at, cell);
+    let value = typed(alloc, symbols, scope, Kind::Int, value, found)?;
+    Ok((cell_number(cell), value))
+}
+
+/// An effect on the volume of an accumulator.
 fn add_volume(
     alloc: Global,
     symbols: &Symbols,
@@ -234,17 +252,12 @@ fn add_volume(
 ) -> Result<Stmt, OutOfMemory>
     ensures { IfOk result (IsStatementAt symbols.now None at (RawAddVolume name.now value.now) scope.now scope.now found.old found.new) }
 {
-    let cell = symbols.cells.entry(&name.name);
-    note_accumulator(found, name.at, cell);
-    let value = typed(alloc, symbols, scope, Kind::Int, value, found)?;
-    Ok(Stmt::Emit {
-        cell: cell_number(cell),
-        what: Emission::Volume(value),
-    })
+    let (cell, value) = flow(alloc, symbols, scope, name, value, found)?;
+    let what = Emission::Volume(value);
+    Ok(Stmt::Emit { cell, what })
 }
 
 /// An effect on the rate of an accumulator.
-#[tactic(auto, using(crate::proofs::NotedInTurn::noted_appended))]
 fn add_rate(
     alloc: Global,
     symbols: &Symbols,
@@ -256,13 +269,9 @@ fn add_rate(
 ) -> Result<Stmt, OutOfMemory>
     ensures { IfOk result (IsStatementAt symbols.now None at (RawAddRate name.now value.now) scope.now scope.now found.old found.new) }
 {
-    let cell = symbols.cells.entry(&name.name);
-    note_accumulator(found, name.at, cell);
-    let value = typed(alloc, symbols, scope, Kind::Int, value, found)?;
-    Ok(Stmt::Emit {
-        cell: cell_number(cell),
-        what: Emission::Rate(value),
-    })
+    let (cell, value) = flow(alloc, symbols, scope, name, value, found)?;
+    let what = Emission::Rate(value);
+    Ok(Stmt::Emit { cell, what })
 }
 
 // ---- waiting and children

@@ -394,7 +394,7 @@ module _ (raw : RawModel) (symbols : Symbols) (stands : Stands raw.items symbols
 
 symbols_stand : (items : List RawItem) → Stands items (symbols_of items)
 unfolding symbols_of
-symbols_stand items = record { enums_are = refl; cells_are = refl; types_are = refl }
+symbols_stand its = record { enums_are = refl; cells_are = refl; types_are = refl }
 
 pub is_valid : (raw : RawModel) → IsWithinLimits raw → model_diagnostics raw ≡ [] → valid_model (model_of raw) ≡ true
 unfolding model_diagnostics model_of
