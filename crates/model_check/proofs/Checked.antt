@@ -1,5 +1,5 @@
 -- What a check answers, by what was noted and what was made.
-use Rattle.std.proofs.Common.{◌≡◌, ℕ, true, List, [], ◌∷◌, Option, Some, None, Result, IsTrue, if◌then◌else◌, refl, sym, ap, ◌∙◌, subst}
+use Rattle.std.proofs.Common.{◌≡◌, ℕ, true, List, [], ◌∷◌, Option, Some, None, Result, IsTrue, if◌then◌else◌, refl, sym, ◌∙◌, subst}
 use Rattle.aerie_base.specs.declared.models.model.Parts.{Parts}
 use Rattle.aerie_base.specs.models.ValidModel.{valid_model}
 use Rattle.model_reader.specs.declared.raw.models.RawModel.{RawModel}

@@ -1,5 +1,5 @@
 -- What a condition at each form means, and what of it is not of the form, by its parts.
-use Rattle.std.proofs.Common.{◌≡◌, Bool, false, List, [], ◌++◌, Option, Some, None, subst, refl, sym, ap, ◌∙◌}
+use Rattle.std.proofs.Common.{◌≡◌, Bool, false, List, [], Option, Some, None, subst, sym, ap, ◌∙◌}
 use Rattle.aerie_base.specs.declared.conditions.Cond.{Cond}
 use Rattle.aerie_base.specs.declared.conditions.Cond as cond
 use Rattle.aerie_base.specs.declared.expressions.Operator.{Operator}

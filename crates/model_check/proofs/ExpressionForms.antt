@@ -1,5 +1,5 @@
 -- What an expression at each form means, and what is wrong with it, by its parts.
-use Rattle.std.proofs.Common.{◌≡◌, pos, false, List, [], ◌++◌, Some, refl, ap, ◌∙◌}
+use Rattle.std.proofs.Common.{◌≡◌, false, List, [], ◌++◌, ap, ◌∙◌}
 use Rattle.aerie_base.specs.declared.expressions.Expr.{Expr}
 use Rattle.aerie_base.specs.declared.expressions.Expr as expr
 use Rattle.aerie_base.specs.declared.expressions.Operator.{Operator}

@@ -1,9 +1,8 @@
 -- An expression is made of its parts, and what is wrong with it is noted part by part.
-use Rattle.std.proofs.Common.{◌≡◌, List, ◌++◌, Option, refl, sym, ap, ◌∙◌}
+use Rattle.std.proofs.Common.{◌≡◌, List, ◌++◌, Option, sym, ap, ◌∙◌}
 use Rattle.aerie_base.specs.declared.expressions.Expr.{Expr}
 use Rattle.aerie_base.specs.declared.expressions.Expr as expr
 use Rattle.aerie_base.specs.declared.expressions.Operator.{Operator}
-use Rattle.aerie_base.specs.declared.values.Kind.{Kind}
 use Rattle.aerie_base.specs.declared.values.Kind.TheVariants.{Int, Truth}
 use Rattle.model_reader.specs.declared.raw.expressions.RawExpr.{RawExpr}
 use Rattle.model_reader.specs.declared.raw.expressions.RawExprKind.{Not, Negate, Binary}

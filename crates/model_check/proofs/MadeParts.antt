@@ -1,5 +1,5 @@
 -- The parts of a model are made declaration by declaration, and what is wrong with it is noted so.
-use Rattle.std.proofs.Common.{◌≡◌, List, [], ◌++◌, Option, Result, IfOk, subst, refl, sym, ap, ◌∙◌}
+use Rattle.std.proofs.Common.{◌≡◌, List, [], ◌++◌, Option, refl, sym, ap, ◌∙◌}
 use Rattle.model_reader.specs.declared.raw.items.RawItem.{RawItem}
 use Rattle.model_reader.specs.declared.raw.models.RawModel.{RawModel}
 use Rattle.model_check.specs.declared.diagnostics.Diagnostic.{Diagnostic}

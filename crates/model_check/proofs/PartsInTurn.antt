@@ -1,5 +1,5 @@
 -- Parts that are made one declaration after another are those of all declarations.
-use Rattle.std.proofs.Common.{◌≡◌, ℕ, List, [], ◌∷◌, ◌++◌, Option, refl, sym, ap, ◌∙◌, append_assoc}
+use Rattle.std.proofs.Common.{◌≡◌, ℕ, List, [], ◌∷◌, ◌++◌, Option, sym, ap, ◌∙◌, append_assoc}
 use Rattle.std.proofs.lemmas.List.{append-nil}
 use Rattle.aerie_base.specs.declared.models.Activity.{Activity}
 use Rattle.aerie_base.specs.declared.models.CellStart.{CellStart}

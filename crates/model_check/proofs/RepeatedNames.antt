@@ -1,12 +1,11 @@
 -- Names that were met earlier, one list of names after another.
 use Rattle.std.proofs.Common.{◌≡◌, ℕ, not, List, [], ◌∷◌, ◌++◌, refl, sym, ap, ◌∙◌, append_assoc}
 use Rattle.aerie_base.specs.models.Names.{is_name_among}
-use Rattle.model_reader.specs.declared.raw.items.RawItem.{RawItem}
 use Rattle.model_reader.specs.declared.raw.names.RawName.{RawName}
 use Rattle.model_check.specs.declared.diagnostics.Cause.TheVariants.{Duplicate}
 use Rattle.model_check.specs.declared.diagnostics.Diagnostic.{Diagnostic}
 use Rattle.model_check.specs.Diagnostics.{refused_unless}
-use Rattle.model_check.specs.ModelDiagnostics.{repeated_diagnostics, names_in}
+use Rattle.model_check.specs.ModelDiagnostics.{repeated_diagnostics}
 use Rattle.model_check.specs.ModelSymbols.{with_names}
 use Rattle.model_check.specs.NameLists.{with_name}
 

@@ -1,6 +1,6 @@
 -- One turn of a loop over a list, whose invariant says what is left: what is noted of the rest, the state behind the rest,
 -- and what the rest makes.
-use Rattle.std.proofs.Common.{◌≡◌, ℕ, ◌+◌, ◌<◌, List, [], ◌∷◌, ◌++◌, Option, length, get_or, drop, refl, sym, ap, ◌∙◌, append_assoc}
+use Rattle.std.proofs.Common.{◌≡◌, ℕ, ◌+◌, ◌<◌, List, [], ◌∷◌, ◌++◌, Option, length, get_or, drop, sym, ap, ◌∙◌, append_assoc}
 use Rattle.std.proofs.lemmas.List.{drop_more}
 use Rattle.model_check.specs.declared.diagnostics.Diagnostic.{Diagnostic}
 use Rattle.model_check.specs.Diagnostics.{noted}

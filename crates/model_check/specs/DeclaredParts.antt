@@ -6,7 +6,6 @@ use Rattle.aerie_base.specs.declared.models.EnumType.{EnumType}
 use Rattle.model_reader.specs.declared.raw.literals.RawLiteral.{RawLiteral}
 use Rattle.model_reader.specs.declared.raw.names.RawName.{RawName}
 use Rattle.model_reader.specs.declared.raw.types.RawType.{RawType}
-use Rattle.model_check.specs.declared.diagnostics.Diagnostic.{Diagnostic}
 use Rattle.model_check.specs.declared.symbols.Symbols.{Symbols}
 use Rattle.model_check.specs.Literals.{literal_value}
 use Rattle.model_check.specs.ModelMeaning.{names_of, kind_written, rate_of}

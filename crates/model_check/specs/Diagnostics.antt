@@ -1,5 +1,5 @@
 -- What is wrong with a model, and what of it comes first: by place, and at one place by number.
-use Rattle.std.specs.Prelude.{◌≡◌, ℕ, ◌==◌, Bool, ◌&&◌, ◌||◌, not, List, [], ◌∷◌, ◌++◌, Option, Some, None, nat_lt, if◌then◌else◌, refl}
+use Rattle.std.specs.Prelude.{◌≡◌, ℕ, ◌==◌, Bool, ◌&&◌, ◌||◌, not, List, [], ◌∷◌, Option, Some, None, nat_lt, if◌then◌else◌}
 use Rattle.aerie_base.specs.declared.places.Place.{Place}
 use Rattle.model_check.specs.declared.diagnostics.Cause.{Cause}
 use Rattle.model_check.specs.declared.diagnostics.Cause.TheVariants.{Unknown, Duplicate, WrongType, NotLinear, OutOfRange, TooManyLocals, TooManyTerms}

@@ -1,5 +1,5 @@
 -- What was given of arguments so far: for each parameter its value, where it has one.
-use Rattle.std.specs.Prelude.{◌≡◌, ℕ, ◌<◌, ◌||◌, Bool, not, List, [], ◌∷◌, ◌++◌, Option, Some, None, is_some, slice_index_or, slice_set, if◌then◌else◌}
+use Rattle.std.specs.Prelude.{ℕ, ◌||◌, not, List, [], ◌∷◌, ◌++◌, Option, Some, None, is_some, slice_index_or, slice_set, if◌then◌else◌}
 use Rattle.aerie_base.specs.declared.expressions.Expr.{Expr}
 use Rattle.aerie_base.specs.declared.places.Place.{Place}
 use Rattle.model_reader.specs.declared.raw.names.RawName.{RawName}

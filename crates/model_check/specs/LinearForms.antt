@@ -1,5 +1,5 @@
 -- Linear forms: their leaves, what is wrong with one, and what it means.
-use Rattle.std.specs.Prelude.{◌≡◌, ℕ, ℤ, pos, negsuc, neg_ℤ, ◌+ℤ◌, ◌*ℤ◌, ◌+◌, Bool, true, false, List, [], ◌∷◌, ◌++◌, Option, Some, None, option_to_list, nat_le, nat_lt, take, if◌then◌else◌}
+use Rattle.std.specs.Prelude.{ℕ, ℤ, pos, neg_ℤ, ◌+ℤ◌, ◌+◌, Bool, true, false, List, [], ◌∷◌, ◌++◌, Option, Some, None, option_to_list, nat_le, nat_lt, take, if◌then◌else◌}
 use Rattle.std.specs.Int.RustNames.{unsigned_abs}
 use Rattle.aerie_base.specs.declared.expressions.Operator.{Operator}
 use Rattle.aerie_base.specs.declared.expressions.Operator.TheVariants as operator

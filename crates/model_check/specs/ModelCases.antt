@@ -1,11 +1,11 @@
 -- Worked cases of what is wrong with models. Each place is a column of one line.
-use Rattle.std.specs.Prelude.{◌≡◌, ℕ, ℤ, pos, true, List, [], ◌∷◌, Option, Some, None, codes, refl}
+use Rattle.std.specs.Prelude.{◌≡◌, ℕ, pos, true, List, [], ◌∷◌, Option, Some, None, codes, refl}
 use Rattle.aerie_base.specs.declared.expressions.Comparison.TheVariants as by
 use Rattle.aerie_base.specs.declared.expressions.Operator.{Operator}
 use Rattle.aerie_base.specs.declared.expressions.Operator.TheVariants as operator
 use Rattle.aerie_base.specs.declared.places.Place.{Place}
 use Rattle.model_reader.specs.declared.raw.expressions.RawExpr.{RawExpr}
-use Rattle.model_reader.specs.declared.raw.expressions.RawExprKind.{RawExprKind, Literal, Read, Not, Binary}
+use Rattle.model_reader.specs.declared.raw.expressions.RawExprKind.{RawExprKind, Literal, Read, Binary}
 use Rattle.model_reader.specs.declared.raw.expressions.RawExprKind.TheBlock.{hidden-the_row-RawExpr-0, shape-the_row-RawExpr-0}
 use Rattle.model_reader.specs.declared.raw.items.RawItem.{RawItem}
 use Rattle.model_reader.specs.declared.raw.items.RawItem.TheVariants as item
@@ -18,7 +18,6 @@ use Rattle.model_reader.specs.declared.raw.reads.RawPart.TheVariants.{Whole, Con
 use Rattle.model_reader.specs.declared.raw.statements.RawStmt.{RawStmt}
 use Rattle.model_reader.specs.declared.raw.statements.RawStmtKind.{RawStmtKind, Let, Assign, Add, Put, Delay, WaitUntil, Spawn, If}
 use Rattle.model_reader.specs.declared.raw.statements.RawStmtKind.TheBlock.{hidden-the_row-RawStmt-0, shape-the_row-RawStmt-0}
-use Rattle.model_reader.specs.declared.raw.types.RawType.{RawType}
 use Rattle.model_reader.specs.declared.raw.types.RawType.TheVariants as type
 use denote.Hole.Carrier.{hidden}
 use Rattle.model_check.specs.declared.diagnostics.Cause.{Cause}

@@ -17,13 +17,12 @@ use Rattle.model_reader.specs.declared.raw.reads.RawPart.{RawPart}
 use Rattle.model_reader.specs.declared.raw.reads.RawPart.TheVariants.{Whole, Volume, Rate, Conflicted}
 use Rattle.model_reader.specs.declared.raw.reads.RawRead.{RawRead}
 use Rattle.model_reader.specs.declared.raw.statements.RawStmt.{RawStmt}
-use Rattle.model_reader.specs.declared.raw.statements.RawStmtKind.{RawStmtKind, Let, LetCall, Assign, Add, Put, AddVolume, AddRate, Delay, WaitUntil, Spawn, Call, If', While', Return}
+use Rattle.model_reader.specs.declared.raw.statements.RawStmtKind.{RawStmtKind, Return}
 use Rattle.model_reader.specs.declared.raw.types.RawType.{RawType}
 use Rattle.model_check.specs.declared.diagnostics.Cause.TheVariants.{Duplicate, WrongType, OutOfRange}
 use Rattle.model_check.specs.declared.diagnostics.Diagnostic.{Diagnostic}
 use Rattle.model_check.specs.declared.leaves.FormUse.TheVariants.{Resource}
 use Rattle.model_check.specs.declared.scopes.BodyScope.{BodyScope}
-use Rattle.model_check.specs.declared.symbols.ResultSymbol.{ResultSymbol}
 use Rattle.model_check.specs.declared.symbols.Symbols.{Symbols}
 use Rattle.model_check.specs.BodyScopes.{empty_scope, with_new_local, local_diagnostics}
 use Rattle.model_check.specs.CellReads.{FoundCell, read_diagnostics}

@@ -1,5 +1,5 @@
 -- Names in the order in which they are first seen, and what goes by a name.
-use Rattle.std.specs.Prelude.{ℕ, Bool, List, [], ◌∷◌, ◌++◌, Option, Some, None, option_and_then, option_map, position, slice_get, min, if◌then◌else◌}
+use Rattle.std.specs.Prelude.{ℕ, List, [], ◌∷◌, ◌++◌, Option, position, if◌then◌else◌}
 use Rattle.aerie_base.specs.models.Names.{same_name, is_name_among}
 
 -- the names with one more, where it is not among them

@@ -115,7 +115,7 @@ item_places (item.Linear name sum) = name.at ∷ expr_places sum
 item_places (item.Activity name parameters result requires_ body) =
     name.at
     ∷ (places_in_all parameter_places parameters
-        ++ (places_if_any type_places result ++ (places_in_all expr_places requires_ ++ places_in_all stmt_places body)))
+    ++ (places_if_any type_places result ++ (places_in_all expr_places requires_ ++ places_in_all stmt_places body)))
 item_places (item.Daemon body) = places_in_all stmt_places body
 
 -- ---- models

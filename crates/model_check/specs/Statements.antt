@@ -1,5 +1,5 @@
 -- Statements: what is wrong with one, and what it means.
-use Rattle.std.specs.Prelude.{ℕ, Bool, true, false, not, List, [], ◌∷◌, ◌++◌, Option, Some, None, is_some, if◌then◌else◌}
+use Rattle.std.specs.Prelude.{ℕ, not, List, [], ◌∷◌, ◌++◌, Option, Some, None}
 use Rattle.aerie_base.specs.declared.places.Place.{Place}
 use Rattle.aerie_base.specs.declared.statements.Emission.TheVariants as emission
 use Rattle.aerie_base.specs.declared.statements.Stmt.{Stmt}
@@ -26,7 +26,7 @@ use Rattle.model_check.specs.Invokes.{invoke_diagnostics, result_diagnostics, in
 use Rattle.model_check.specs.Literals.{mismatch}
 use Rattle.model_check.specs.NameTables.{entry_in}
 use Rattle.model_check.specs.RawStatements.{StmtLevel, raw_stmt_gives}
-use Rattle.model_check.specs.StatementScopes.{scope_behind, scope_behind_block, scope_behind_all}
+use Rattle.model_check.specs.StatementScopes.{scope_behind, scope_behind_block}
 use Rattle.model_check.specs.Waits.{wait_diagnostics, cond_of}
 
 -- ---- what is assigned to

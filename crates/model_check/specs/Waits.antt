@@ -1,5 +1,5 @@
 -- Conditions of `wait until`: what is wrong with one, and what it means.
-use Rattle.std.specs.Prelude.{◌≡◌, Bool, true, false, List, [], ◌++◌, Option, Some, None, if◌then◌else◌}
+use Rattle.std.specs.Prelude.{Bool, true, false, List, [], ◌++◌, Option, Some, None}
 use Rattle.aerie_base.specs.declared.conditions.Cond.{Cond}
 use Rattle.aerie_base.specs.declared.conditions.Cond as cond
 use Rattle.aerie_base.specs.declared.conditions.Simple.{Simple}
@@ -18,8 +18,7 @@ use Rattle.model_reader.specs.declared.raw.expressions.RawExprKind.TheOpen.{RawE
 use Rattle.model_reader.specs.declared.raw.literals.RawLiteralKind.{RawLiteralKind}
 use Rattle.model_reader.specs.declared.raw.literals.RawLiteralKind.TheVariants as literal
 use Rattle.model_reader.specs.declared.raw.reads.RawPart.{RawPart}
-use Rattle.model_reader.specs.declared.raw.reads.RawPart.TheVariants.{Whole, Volume, Rate, Conflicted}
-use Rattle.model_reader.specs.declared.raw.reads.RawRead.{RawRead}
+use Rattle.model_reader.specs.declared.raw.reads.RawPart.TheVariants.{Whole}
 use Rattle.model_check.specs.declared.diagnostics.Cause.TheVariants.{NotLinear}
 use Rattle.model_check.specs.declared.diagnostics.Diagnostic.{Diagnostic}
 use Rattle.model_check.specs.declared.leaves.FormUse.TheVariants.{Comparison as InComparison}

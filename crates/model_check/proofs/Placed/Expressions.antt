@@ -1,6 +1,5 @@
 -- Refusals of expressions stand at places of theirs.
-use Rattle.std.proofs.Common.{◌≡◌, List, [], ◌∷◌, ◌++◌, Option, Some, None, refl}
-use Rattle.std.specs.List.{AllByRecursion}
+use Rattle.std.proofs.Common.{List, [], ◌++◌, Option, Some, None}
 use Rattle.aerie_base.specs.declared.places.Place.{Place}
 use Rattle.aerie_base.specs.declared.values.Kind.{Kind}
 use Rattle.aerie_base.specs.declared.values.Kind.TheVariants.{Int, Truth}

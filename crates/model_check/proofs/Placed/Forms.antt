@@ -1,8 +1,7 @@
 -- Refusals of linear forms and of conditions stand at places of theirs.
-use Rattle.std.proofs.Common.{◌≡◌, ℕ, ◌+◌, ℤ, pos, Bool, true, false, List, [], ◌∷◌, ◌++◌, Option, Some, None, option_to_list, nat_le, nat_lt, if◌then◌else◌, refl}
+use Rattle.std.proofs.Common.{ℕ, ◌+◌, ℤ, pos, Bool, true, false, List, [], ◌∷◌, Option, Some, None, option_to_list, nat_le, nat_lt, if◌then◌else◌}
 use Rattle.std.specs.Int.RustNames.{unsigned_abs}
 use Rattle.std.specs.List.{AllByRecursion}
-use Rattle.aerie_base.specs.declared.expressions.Operator.{Operator}
 use Rattle.aerie_base.specs.declared.expressions.Operator.TheVariants as operator
 use Rattle.aerie_base.specs.declared.places.Place.{Place}
 use Rattle.aerie_base.specs.declared.values.Kind.{Kind}
@@ -28,7 +27,7 @@ use Rattle.model_check.specs.RawExpressions.{raw_gives, raw_row_gives}
 use Rattle.model_check.specs.RawPlaces.{expr_places}
 use Rattle.model_check.specs.Waits.{is_side, side_diagnostics, compared_diagnostics, forms_compared, is_truth, cond_diagnostics_step, cond_diagnostics, wait_diagnostics}
 use Rattle.model_check.proofs.Placed.Parts.{in_front, behind, in_both, Places, Stand, stand_both, unless}
-use Rattle.model_check.proofs.Placed.Expressions.{placed, row_placed, own_place, row_place, row_expr, first_of, typed_placed}
+use Rattle.model_check.proofs.Placed.Expressions.{placed, row_placed, row_place, row_expr, first_of, typed_placed}
 
 module _ (P : Place → Type 0) where
   -- ---- leaves
@@ -103,9 +102,11 @@ module _ (P : Place → Type 0) where
       leaves_placed at (Binary' operator.Minus _ left _ right) negative all =
           in_both Leafed _ _ (row_leafed left negative (in_front P (row_placed left).1 (row_placed right).1 all.1))
           (row_leafed right (joint_sign true negative) (behind P (row_placed left).1 (row_placed right).1 all.1))
-      leaves_placed at (Binary' operator.Times _ left _ right) negative all =
-          (product at (row_leaves left).0.at negative (signed_number (row_leaves left).0.what) (read_in (row_leaves right).0.what) all.0
-          (row_place P Leaves no_leaves (leaves_step use_ symbols scope) left (in_front P (row_placed left).1 (row_placed right).1 all.1)), tt)
+      leaves_placed at (Binary' operator.Times _ left _ right) negative all = (
+        product at (row_leaves left).0.at negative (signed_number (row_leaves left).0.what) (read_in (row_leaves right).0.what) all.0
+            (row_place P Leaves no_leaves (leaves_step use_ symbols scope) left (in_front P (row_placed left).1 (row_placed right).1 all.1)),
+        tt,
+      )
       leaves_placed at (Binary' operator.Or _ left _ right) negative all = (unfit at all.0, tt)
       leaves_placed at (Binary' operator.And _ left _ right) negative all = (unfit at all.0, tt)
       leaves_placed at (Binary' (operator.Compare how) _ left _ right) negative all = (unfit at all.0, tt)

@@ -1,10 +1,9 @@
 -- Refusals of literals, reads and types stand at places of theirs; and what holds of places in lists.
-use Rattle.std.proofs.Common.{◌≡◌, ℕ, zero, suc, Bool, true, false, List, [], ◌∷◌, ◌++◌, Option, Some, None, option_map, option_and_then, option_to_list, slice_get, if◌then◌else◌, refl}
+use Rattle.std.proofs.Common.{ℕ, zero, suc, Bool, true, false, List, [], ◌∷◌, ◌++◌, Option, Some, None, option_map, option_and_then, slice_get}
 use Rattle.std.specs.List.{AllByRecursion}
 use Rattle.aerie_base.specs.declared.places.Place.{Place}
 use Rattle.aerie_base.specs.declared.values.Kind.{Kind}
 use Rattle.aerie_base.specs.expressions.Typing.{same_kind}
-use Rattle.model_reader.specs.declared.raw.literals.RawLiteral.{RawLiteral}
 use Rattle.model_reader.specs.declared.raw.literals.RawLiteralKind.{RawLiteralKind}
 use Rattle.model_reader.specs.declared.raw.literals.RawLiteralKind.TheVariants as literal
 use Rattle.model_reader.specs.declared.raw.names.RawName.{RawName}
@@ -18,12 +17,11 @@ use Rattle.model_check.specs.declared.diagnostics.Diagnostic.{Diagnostic}
 use Rattle.model_check.specs.declared.scopes.BodyScope.{BodyScope}
 use Rattle.model_check.specs.declared.symbols.CellSort.{CellSort}
 use Rattle.model_check.specs.declared.symbols.CellSort.TheVariants.{Counter, Register, Accumulator}
-use Rattle.model_check.specs.declared.symbols.CellSymbol.{CellSymbol}
 use Rattle.model_check.specs.declared.symbols.EnumSymbol.{EnumSymbol}
 use Rattle.model_check.specs.declared.symbols.Symbols.{Symbols}
 use Rattle.model_check.specs.declared.tables.NameTable.{NameTable}
 use Rattle.model_check.specs.CellReads.{FoundLocal, FoundCell, whole_sort, flow_sort, flag_sort, on_cell, part_diagnostics, read_diagnostics}
-use Rattle.model_check.specs.Diagnostics.{at_place, refused_unless}
+use Rattle.model_check.specs.Diagnostics.{refused_unless}
 use Rattle.model_check.specs.Literals.{mismatch, no_variant, variant_diagnostics, literal_diagnostics}
 use Rattle.model_check.specs.ModelSymbols.{Enums, known_enum, type_diagnostics}
 use Rattle.model_check.specs.NameLists.{name_number}

@@ -1,5 +1,5 @@
 -- Refusals of statements stand at places of theirs, or where an enumeration or a cell is declared.
-use Rattle.std.proofs.Common.{◌≡◌, ℕ, ◌+◌, Bool, true, false, not, ◌||◌, List, [], ◌∷◌, ◌++◌, Option, Some, None, option_map, is_some, nat_lt, if◌then◌else◌, refl}
+use Rattle.std.proofs.Common.{ℕ, ◌+◌, Bool, true, false, not, ◌||◌, List, [], ◌∷◌, ◌++◌, Option, Some, None, option_map, is_some, nat_lt, if◌then◌else◌}
 use Rattle.std.specs.List.{AllByRecursion}
 use Rattle.aerie_base.specs.declared.places.Place.{Place}
 use Rattle.aerie_base.specs.declared.values.Kind.{Kind}
@@ -12,9 +12,7 @@ use Rattle.model_reader.specs.declared.raw.names.RawName.{RawName}
 use Rattle.model_reader.specs.declared.raw.statements.RawStmt.{RawStmt}
 use Rattle.model_reader.specs.declared.raw.statements.RawStmtKind.{RawStmtKind, Let, LetCall, Assign, Add, Put, AddVolume, AddRate, Delay, WaitUntil, Spawn, Call, If', While', Return, Row_of-RawStmt, end_of-RawStmt, more_of-RawStmt}
 use Rattle.model_check.specs.declared.diagnostics.Cause.TheVariants.{Duplicate, WrongType}
-use Rattle.model_check.specs.declared.diagnostics.Diagnostic.{Diagnostic}
 use Rattle.model_check.specs.declared.scopes.BodyScope.{BodyScope}
-use Rattle.model_check.specs.declared.symbols.CellSort.{CellSort}
 use Rattle.model_check.specs.declared.symbols.CellSort.TheVariants.{Counter, Register, Accumulator}
 use Rattle.model_check.specs.declared.symbols.CellSymbol.{CellSymbol}
 use Rattle.model_check.specs.declared.symbols.EnumSymbol.{EnumSymbol}
@@ -24,15 +22,14 @@ use Rattle.model_check.specs.declared.symbols.Symbols.{Symbols}
 use Rattle.model_check.specs.declared.symbols.TypeSymbol.{TypeSymbol}
 use Rattle.model_check.specs.BodyScopes.{later_place, clash, enum_place, cell_place, local_diagnostics, let_diagnostics}
 use Rattle.model_check.specs.CellReads.{FoundLocal, on_cell, flow_sort}
-use Rattle.model_check.specs.Diagnostics.{is_place_before, at_place, refused_unless}
+use Rattle.model_check.specs.Diagnostics.{is_place_before, refused_unless}
 use Rattle.model_check.specs.Expressions.{raw_kind, expr_diagnostics, typed_diagnostics}
-use Rattle.model_check.specs.Invokes.{NamedArgument, Parameters, given_value, parameter_kind, argument_name_diagnostics, argument_diagnostics, arguments_diagnostics, missing_diagnostics, values_diagnostics, known_diagnostics, invoked_diagnostics, invoke_diagnostics, result_wanted, result_diagnostics}
-use Rattle.model_check.specs.Literals.{mismatch}
+use Rattle.model_check.specs.Invokes.{NamedArgument, Parameters, given_value, parameter_kind, argument_name_diagnostics, argument_diagnostics, arguments_diagnostics, missing_diagnostics, values_diagnostics, invoked_diagnostics, invoke_diagnostics, result_wanted}
 use Rattle.model_check.specs.NameTables.{entry_in}
 use Rattle.model_check.specs.RawPlaces.{places_in_all, places_if_any, expr_places, argument_places, invoke_places, given_places, stmt_places_step, stmt_places}
 use Rattle.model_check.specs.RawStatements.{raw_stmt_gives, block_gives}
 use Rattle.model_check.specs.StatementScopes.{scope_behind, scope_behind_block}
-use Rattle.model_check.specs.Statements.{local_in, cell_in, assigned_diagnostics, local_kind, counter_sort, register_sort, valued_diagnostics, return_diagnostics, assign_diagnostics, add_diagnostics, put_diagnostics, flow_diagnostics, Judging, judged_in_turn, statements_in, stmt_diagnostics_step, stmt_diagnostics, block_diagnostics}
+use Rattle.model_check.specs.Statements.{local_in, cell_in, assigned_diagnostics, local_kind, counter_sort, register_sort, valued_diagnostics, return_diagnostics, flow_diagnostics, Judging, judged_in_turn, statements_in, stmt_diagnostics_step, stmt_diagnostics, block_diagnostics}
 use Rattle.model_check.proofs.Placed.Parts.{in_front, behind, IfFound, found_by_name, Places, Stand, stand_both, unless, mismatched, Judges, flow_judges, cell_placed}
 use Rattle.model_check.proofs.Placed.Expressions.{first_of, expr_placed, typed_placed}
 use Rattle.model_check.proofs.Placed.Forms.{wait_placed}

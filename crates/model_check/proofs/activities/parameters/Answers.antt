@@ -1,7 +1,6 @@
 use Rattle.std.proofs.Common.{refl}
 use Rattle.model_reader.specs.declared.raw.items.RawParameter.{RawParameter}
 use Rattle.model_check.specs.CheckedParameters.{parameter_of, with_parameter}
-use Rattle.model_check.specs.declared.scopes.BodyScope.{BodyScope}
 use Rattle.model_check.specs.ModelDiagnostics.{parameter_diagnostics, parameter_scope, parameters_diagnostics}
 use Rattle.model_check.specs.ModelMeaning.{model_parameters}
 use Rattle.model_check.proofs.Turns.{state_turn, judged_turn, made_turn}

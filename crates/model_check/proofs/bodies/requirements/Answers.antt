@@ -1,4 +1,4 @@
-use Rattle.std.proofs.Common.{Option, List, refl, ap, ◌∙◌}
+use Rattle.std.proofs.Common.{refl, ap, ◌∙◌}
 use Rattle.aerie_base.specs.declared.values.Kind.TheVariants.{Truth}
 use Rattle.model_reader.specs.declared.raw.expressions.RawExpr.{RawExpr}
 use Rattle.model_check.specs.declared.symbols.Symbols.{Symbols}

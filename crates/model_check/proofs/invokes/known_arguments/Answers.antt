@@ -1,8 +1,7 @@
-use Rattle.std.proofs.Common.{◌≡◌, List, [], Option, None, IfOk, replicate, length, ap, sym, subst, ◌∙◌}
-use Rattle.aerie_base.specs.declared.expressions.Expr.{Expr}
+use Rattle.std.proofs.Common.{List, None, replicate, length, ap, sym, subst, ◌∙◌}
 use Rattle.model_check.specs.declared.symbols.ParameterSymbol.{ParameterSymbol}
 use Rattle.model_check.specs.Diagnostics.{noted, Makes}
-use Rattle.model_check.specs.GivenArguments.{GivenValues, given_with_all, arguments_found, filled_values, missing_found}
+use Rattle.model_check.specs.GivenArguments.{given_with_all, arguments_found, filled_values, missing_found}
 use Rattle.model_check.specs.Invokes.{NamedArgument}
 use Rattle.model_check.proofs.Arguments.{AreGiven, given_in_all, known_made}
 use Rattle.model_check.proofs.Results.{if_ok}

@@ -1,4 +1,4 @@
-use Rattle.std.proofs.Common.{◌≡◌, ◌<◌, None, replicate}
+use Rattle.std.proofs.Common.{◌≡◌, None, replicate}
 use Rattle.model_check.proofs.invokes.no_arguments.Given as goal
 
 abbrev pub invariant-loop : goal.invariant-loop

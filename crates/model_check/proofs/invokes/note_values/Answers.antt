@@ -1,5 +1,4 @@
-use Rattle.std.proofs.Common.{List, refl, ap, ◌∙◌}
-use Rattle.model_check.specs.declared.diagnostics.Diagnostic.{Diagnostic}
+use Rattle.std.proofs.Common.{refl}
 use Rattle.model_check.specs.Expressions.{expr_diagnostics}
 use Rattle.model_check.specs.Invokes.{NamedArgument, values_diagnostics}
 use Rattle.model_check.proofs.Turns.{judged_turn}

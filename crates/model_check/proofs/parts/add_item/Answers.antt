@@ -1,10 +1,6 @@
-use Rattle.std.proofs.Common.{◌≡◌, ◌∷◌, ◌++◌, List, [], refl, sym, ap, ◌∙◌}
-use Rattle.aerie_base.specs.declared.models.Activity.{Activity}
+use Rattle.std.proofs.Common.{◌∷◌, List, [], refl, ap, ◌∙◌}
 use Rattle.aerie_base.specs.declared.models.CellStart.{CellStart}
 use Rattle.aerie_base.specs.declared.models.CellStart.TheVariants as cell
-use Rattle.aerie_base.specs.declared.models.Daemon.{Daemon}
-use Rattle.aerie_base.specs.declared.models.EnumType.{EnumType}
-use Rattle.aerie_base.specs.declared.models.Resource.{Resource}
 use Rattle.aerie_base.specs.declared.models.Resource.TheVariants as resource
 use Rattle.aerie_base.specs.declared.operands.CellRead.{CellRead}
 use Rattle.model_reader.specs.declared.raw.items.RawItem.TheVariants.{Enum, Counter, Register, Accumulator, Discrete, Linear, Activity as RawActivity, Daemon as RawDaemon}

@@ -1,9 +1,8 @@
-use Rattle.std.proofs.Common.{◌≡◌, refl, ap, sym, ◌∙◌}
+use Rattle.std.proofs.Common.{refl}
 use Rattle.model_reader.specs.declared.raw.statements.RawStmtKind.{Let, LetCall, Assign, Add, Put, AddVolume, AddRate, Delay, WaitUntil, Spawn, Call, Return}
-use Rattle.std.proofs.lemmas.List.{drop_all}
 use Rattle.model_check.specs.StatementScopes.{scope_behind, scope_behind_all}
 use Rattle.model_check.specs.Statements.{stmt_diagnostics, block_diagnostics, stmt_of, block_of}
-use Rattle.model_check.proofs.StatementForms.{as_form, made_if, made_while, made_block}
+use Rattle.model_check.proofs.StatementForms.{as_form, made_if, made_while}
 use Rattle.model_check.proofs.Turns.{state_turn, judged_turn, made_turn}
 use Rattle.model_check.proofs.statements.+statement.Goals as goal
 

@@ -1,4 +1,4 @@
-use Rattle.std.proofs.Common.{Option, refl, ap, sym, ◌∙◌}
+use Rattle.std.proofs.Common.{Option, ap, sym, ◌∙◌}
 use Rattle.aerie_base.specs.declared.values.Kind.{Kind}
 use Rattle.model_reader.specs.declared.raw.expressions.RawExpr.{RawExpr}
 use Rattle.model_reader.specs.declared.raw.expressions.RawExprKind.{Not, Binary}
