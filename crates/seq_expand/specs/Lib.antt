@@ -1,0 +1,5 @@
+pub mod Cases
+pub mod Closeness
+pub mod Expanding
+pub mod OfModel
+pub mod Sending
