@@ -1,0 +1,5 @@
+pub mod Recursion
+pub mod RecursionLaws
+pub mod GivenSeries
+pub mod OfModel
+pub mod reading

@@ -1,0 +1,7 @@
+pub mod Refusals
+pub mod RuleNames
+pub mod RawWindows
+pub mod WindowRefusals
+pub mod ConstraintRefusals
+pub mod Meaning
+pub mod ConstraintAnswers
