@@ -1,0 +1,12 @@
+pub mod ArgumentOrder
+pub mod EditRefusals
+pub mod Fields
+pub mod Outcomes
+pub mod PathTexts
+pub mod ProfileLines
+pub mod RefusalCases
+pub mod Refusals
+pub mod ReportCases
+pub mod ShownPlans
+pub mod SpanLines
+pub mod Wordings

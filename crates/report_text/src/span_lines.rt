@@ -1,0 +1,58 @@
+//! How spans are written.
+
+ghost use Rattle.std.specs.Prelude.{◌≡◌, ◌++◌, OnOk};
+ghost use Rattle.json_line.specs.Parts.{data_tokens};
+ghost use Rattle.span_table.specs.AsDefined.{defined_span};
+ghost use Rattle.report_text.specs.SpanLines.{span_data, spans_data};
+
+use crate::arguments::Arguments;
+use crate::wordings::Wording;
+use aerie_base::OutOfMemory;
+use epoch_text::{Start, day_text};
+use json_line::{JsonIn, JsonLine};
+use run_data::Run;
+use span_table::{Span, spans};
+
+/// A plan's start in the calendar, with the wording of its model.
+#[derive(Drop)]
+pub struct Calendar<'a> {
+    /// How its model is worded.
+    pub wording: Wording<'a>,
+    /// The instant of the plan's time 0.
+    pub start: Start,
+}
+
+impl<'a> JsonIn<Calendar<'a>> for Span {
+    ghost data_in = { λ calendar span. span_data calendar.wording calendar.start (defined_span span) };
+
+    fn write_in(&self, calendar: &Calendar<'a>, line: &mut JsonLine) -> Result<(), OutOfMemory> {
+        let wording = &calendar.wording;
+        let utc = day_text(wording.alloc(), &calendar.start, self.start)?;
+        let arguments = Arguments {
+            kind: self.kind,
+            values: &self.arguments,
+        };
+        line.begin_object()?;
+        line.member_in("arguments", wording, &arguments)?;
+        line.member("end", &self.end)?;
+        line.member_in("path", wording, &self.path)?;
+        line.member_in("result", wording, &self.result)?;
+        line.member("start", &self.start)?;
+        line.text_member("type", wording.type_name(self.kind))?;
+        line.member("utc", &utc)?;
+        line.end_object()
+    }
+}
+
+/// The spans of a run, in their order. They are computed once.
+pub fn write_spans<'a>(
+    line: &mut JsonLine,
+    calendar: &Calendar<'a>,
+    run: &Run,
+) -> Result<(), OutOfMemory>
+    ensures { OnOk result (line.new ≡ line.old ++ data_tokens (spans_data calendar.now.wording calendar.now.start run.now)) }
+{
+    let wording = &calendar.wording;
+    let spans = spans(wording.alloc(), wording.model(), run)?;
+    line.list_in(calendar, spans.as_slice())
+}
