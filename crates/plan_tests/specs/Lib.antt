@@ -1,1 +1,4 @@
 pub mod Models
+pub mod LoadedDirectives
+pub mod PlanForms
+pub mod ShownPlans
