@@ -3,7 +3,7 @@
 ghost use Rattle.std.specs.Prelude.{◌<◌, length};
 ghost use Rattle.aerie_text.specs.Marks.{AreTokensWithin};
 
-use aerie_text::{TextError, Token, place_of, tokens};
+use aerie_text::{TextError, Token, tokens};
 use session_grammar::{RawSection, RawSession, read_raw_session};
 use std::alloc::Global;
 
