@@ -1,0 +1,13 @@
+pub mod Plain
+pub mod Turns
+pub mod Serial
+pub mod Same
+pub mod Named
+pub mod Lasts
+pub mod Following
+pub mod Histories
+pub mod Isolation
+pub mod Places
+pub mod Standings
+pub mod Counts
+pub mod KeptFields

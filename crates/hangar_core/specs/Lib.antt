@@ -1,2 +1,14 @@
 pub mod Replies
 pub mod Commands
+pub mod HeldPlans
+pub mod Workspaces
+pub mod Opening
+pub mod Changing
+pub mod Edits
+pub mod Steps
+pub mod Standing
+pub mod Journals
+pub mod Fits
+pub mod Serial
+pub mod laws
+pub mod Cases

@@ -21,3 +21,22 @@ takes_memory (Unmapped id) = false
 takes_memory (Misfit id number) = false
 takes_memory (Edit refusal) = true
 takes_memory (Stale seen now) = false
+
+-- how many actions were accepted with this reply: one, or none where it is a refusal; a Fetch is not counted
+abbrev pub accepted_with : Reply → ℕ
+accepted_with (Opened revision) = 1
+accepted_with Dropped = 1
+accepted_with (Added id revision) = 1
+accepted_with (Edited revision) = 1
+accepted_with (Loaded first count revision) = 1
+accepted_with (Fetched revision plan kept) = 0
+accepted_with Attached = 1
+accepted_with (Placed revision) = 1
+accepted_with NoBranch = 0
+accepted_with BranchExists = 0
+accepted_with TooManyBranches = 0
+accepted_with NoMapping = 0
+accepted_with (Unmapped id) = 0
+accepted_with (Misfit id number) = 0
+accepted_with (Edit refusal) = 0
+accepted_with (Stale seen now) = 0

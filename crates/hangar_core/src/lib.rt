@@ -3,11 +3,22 @@
 
 mod actions;
 mod arguments;
+mod branches;
+mod changes;
 mod commands;
+mod edits;
 mod entries;
+mod hangar;
+mod held_plans;
+mod journal;
+mod last_revisions;
+pub mod laws;
 mod replies;
+mod workspaces;
 
 pub use actions::Action;
 pub use commands::Command;
 pub use entries::Entry;
+pub use hangar::Hangar;
+pub use journal::Journal;
 pub use replies::Reply;

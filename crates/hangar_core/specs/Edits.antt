@@ -1,0 +1,40 @@
+-- The edits of a plan, and what is answered of them.
+use Rattle.std.specs.Prelude.{ℕ, Result}
+use Rattle.aerie_base.specs.declared.models.model.Parts.{Parts}
+use Rattle.aerie_base.specs.declared.plans.Plan.{Plan}
+use Rattle.plan_edit.specs.declared.errors.EditError.{EditError}
+use Rattle.plan_edit.specs.Editing.{add_of, remove_of, move_of, set_of}
+use Rattle.plan_edit.specs.Loading.{load_of}
+use Rattle.hangar_core.specs.declared.changes.Change.{Change}
+use Rattle.hangar_core.specs.declared.changes.Change.TheVariants as change
+use Rattle.hangar_core.specs.declared.edits.Edit.{Edit}
+use Rattle.hangar_core.specs.declared.edits.Edit.TheVariants.{Add, Remove, Move, Set, Load}
+use Rattle.hangar_core.specs.declared.branches.Branch.{Branch}
+use Rattle.hangar_core.specs.declared.replies.Reply.{Reply}
+use Rattle.plan_edit.specs.declared.mappings.Mapping.{Mapping}
+use Rattle.hangar_core.specs.Changing.{Told, attached, edited, fetched, migrated, placed, told_added, told_edited, told_loaded}
+use Rattle.std.specs.Prelude.{List}
+
+-- the edited plan, by its model
+abbrev pub edit_of : Edit → Parts → Plan → Result Plan EditError
+edit_of (Add at kind arguments) model plan = add_of model plan at kind arguments
+edit_of (Remove id) model plan = remove_of plan id
+edit_of (Move id at) model plan = move_of plan id at
+edit_of (Set id parameter value) model plan = set_of model plan id parameter value
+edit_of (Load text) model plan = load_of model plan text
+
+-- what is answered, from the old plan, the new one and the revision
+abbrev pub told_of : Edit → Plan → Plan → ℕ → Reply
+told_of (Add at kind arguments) = told_added
+told_of (Remove id) = told_edited
+told_of (Move id at) = told_edited
+told_of (Set id parameter value) = told_edited
+told_of (Load text) = told_loaded
+
+-- what becomes of a branch by a change
+abbrev pub change_of : List Parts → List Mapping → Change → Branch → Told
+change_of models mappings (change.Edit edit) = edited models (edit_of edit) (told_of edit)
+change_of models mappings (change.Migrate model) = migrated models mappings model
+change_of models mappings change.Fetch = fetched
+change_of models mappings (change.Attach kept) = attached kept
+change_of models mappings (change.Place seen plan) = placed seen plan

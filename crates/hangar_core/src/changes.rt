@@ -1,0 +1,210 @@
+//! What becomes of a branch by an action on it.
+
+ghost use Rattle.std.specs.Prelude.{◌≡◌, ◌<◌, ◌^◌, ℕ, Some, IfOk, IfSome, OnErr, option_and_then, slice_get, length};
+ghost use Rattle.hangar_core.specs.Changing.{attached as attached_by, edited as edited_by, fetched as fetched_by, is_named as is_named_by, mapping_to as mapping_to_by, migrated as migrated_to_by, migrated_by as migrated_by_mapping, placed as placed_by};
+ghost use Rattle.hangar_core.specs.Edits.{change_of, edit_of, told_of};
+ghost use Rattle.hangar_core.specs.Standing.{AreModels, IsBranchIn, IsChangeOn, IsMappingIn, IsPlanAmong, IsPlanIn};
+
+use crate::branches::Branch;
+use crate::edits::Edit;
+use crate::held_plans::HeldPlan;
+use crate::replies::{Reply, share_run};
+use aerie_base::{Model, Name, OutOfMemory, Plan, Shared};
+use plan_edit::{EditError, Mapping, MigrateError};
+use run_data::Kept;
+use std::alloc::Global;
+
+/// An action on a branch, without the branch's name.
+#[derive(Drop)]
+pub enum Change {
+    /// An edit of its plan.
+    Edit(Edit),
+    /// Its plan is taken to the model with a name.
+    Migrate {
+        /// The model.
+        model: Name,
+    },
+    /// It is read.
+    Fetch,
+    /// A run is kept on it.
+    Attach {
+        /// The run.
+        kept: Shared<Kept>,
+    },
+    /// It gets another plan.
+    Place {
+        /// The revision that was fetched.
+        seen: u64,
+        /// The plan.
+        plan: Plan,
+    },
+}
+
+/// Changes a branch, and answers what tells of it.
+pub fn changed(
+    alloc: Global,
+    models: &[Shared<Model>],
+    mappings: &[Mapping],
+    branch: &mut Branch,
+    change: Change,
+) -> Result<Reply, OutOfMemory>
+    requires models { AreModels models.now mappings.now }
+    requires plan { IsPlanAmong models.now branch.old.plan }
+    requires few { branch.old.revision < 2 ^ 63 }
+    ensures made { IfOk result (λ reply. (reply, branch.new) ≡ change_of models.now mappings.now change branch.old) }
+    ensures unchanged { OnErr result (branch.new ≡ branch.old) }
+    ensures stays { (duration : ℕ) → IsChangeOn models.now duration change → IsBranchIn models.now duration branch.old → IsBranchIn models.now duration branch.new }
+{
+    match change {
+        Change::Edit(edit) => edited(alloc, models, branch, &edit),
+        Change::Migrate { model } => migrated(alloc, models, mappings, branch, &model),
+        Change::Fetch => fetched(alloc, branch),
+        Change::Attach { kept } => Ok(attached(branch, kept)),
+        Change::Place { seen, plan } => Ok(placed(branch, seen, plan)),
+    }
+}
+
+/// Edits the plan of a branch by its model.
+fn edited(
+    alloc: Global,
+    models: &[Shared<Model>],
+    branch: &mut Branch,
+    edit: &Edit,
+) -> Result<Reply, OutOfMemory>
+    requires plan { IsPlanAmong models.now branch.old.plan }
+    requires few { branch.old.revision < 2 ^ 63 }
+    ensures made { IfOk result (λ reply. (reply, branch.new) ≡ edited_by models.now (edit_of edit.now) (told_of edit.now) branch.old) }
+    ensures unchanged { OnErr result (branch.new ≡ branch.old) }
+    ensures stays { (duration : ℕ) → IsBranchIn models.now duration branch.old → IsBranchIn models.now duration branch.new }
+{
+    let model = &models[usize::from(branch.plan.get().model)];
+    let revision = branch.revision + 1;
+    match branch.plan.edit(alloc, model.get(), edit, revision) {
+        Ok(reply) => {
+            branch.revision = revision;
+            Ok(reply)
+        }
+        Err(EditError::OutOfMemory) => Err(OutOfMemory),
+        Err(refusal) => Ok(Reply::Edit(refusal)),
+    }
+}
+
+/// The place of the first mapping from the model at a place to one with a name.
+fn mapping_to(
+    models: &[Shared<Model>],
+    mappings: &[Mapping],
+    from: u16,
+    name: &Name,
+) -> Option<usize>
+    ensures found { option_and_then (slice_get mappings.now) result ≡ mapping_to_by models.now mappings.now from name.now }
+    ensures within { IfSome result (λ place. place < length mappings.now) }
+{
+    for place in 0..mappings.len() {
+        let mapping = &mappings[place];
+        if mapping.from == from && is_named(models, mapping.to, name) {
+            return Some(place);
+        }
+    }
+    None
+}
+
+/// Whether the model at a place has a name.
+fn is_named(models: &[Shared<Model>], place: u16, name: &Name) -> bool
+    ensures { result ≡ is_named_by (slice_get models.now place) name.now }
+{
+    match models.get(usize::from(place)) {
+        Some(model) => *model.get().name() == *name,
+        None => false,
+    }
+}
+
+/// Takes the plan of a branch to the model with a name.
+fn migrated(
+    alloc: Global,
+    models: &[Shared<Model>],
+    mappings: &[Mapping],
+    branch: &mut Branch,
+    name: &Name,
+) -> Result<Reply, OutOfMemory>
+    requires models { AreModels models.now mappings.now }
+    requires plan { IsPlanAmong models.now branch.old.plan }
+    requires few { branch.old.revision < 2 ^ 63 }
+    ensures made { IfOk result (λ reply. (reply, branch.new) ≡ migrated_to_by models.now mappings.now name.now branch.old) }
+    ensures unchanged { OnErr result (branch.new ≡ branch.old) }
+    ensures stays { (duration : ℕ) → IsBranchIn models.now duration branch.old → IsBranchIn models.now duration branch.new }
+{
+    match mapping_to(models, mappings, branch.plan.get().model, name) {
+        Some(place) => migrated_by(alloc, models, &mappings[place], branch),
+        None => Ok(Reply::NoMapping),
+    }
+}
+
+/// Takes the plan of a branch to another model.
+fn migrated_by(
+    alloc: Global,
+    models: &[Shared<Model>],
+    mapping: &Mapping,
+    branch: &mut Branch,
+) -> Result<Reply, OutOfMemory>
+    requires mapping { IsMappingIn models.now mapping.now }
+    requires from { mapping.now.from ≡ branch.old.plan.model }
+    requires plan { IsPlanAmong models.now branch.old.plan }
+    requires few { branch.old.revision < 2 ^ 63 }
+    ensures made { IfOk result (λ reply. (reply, branch.new) ≡ migrated_by_mapping models.now branch.old (Some mapping.now)) }
+    ensures unchanged { OnErr result (branch.new ≡ branch.old) }
+    ensures stays { (duration : ℕ) → IsBranchIn models.now duration branch.old → IsBranchIn models.now duration branch.new }
+{
+    let old = &models[usize::from(mapping.from)];
+    let new = &models[usize::from(mapping.to)];
+    match branch.plan.migrate(alloc, old.get(), new.get(), mapping) {
+        Ok(()) => {
+            branch.revision += 1;
+            Ok(Reply::Edited {
+                revision: branch.revision,
+            })
+        }
+        Err(MigrateError::Unmapped { id }) => Ok(Reply::Unmapped { id }),
+        Err(MigrateError::Misfit { id, number }) => Ok(Reply::Misfit { id, number }),
+        Err(MigrateError::OutOfMemory) => Err(OutOfMemory),
+    }
+}
+
+/// Reads a branch.
+fn fetched(alloc: Global, branch: &mut Branch) -> Result<Reply, OutOfMemory>
+    ensures made { IfOk result (λ reply. (reply, branch.new) ≡ fetched_by branch.old) }
+    ensures same { branch.new ≡ branch.old }
+{
+    let plan = branch.plan.share(alloc)?;
+    let kept = share_run(&branch.kept)?;
+    Ok(Reply::Fetched {
+        revision: branch.revision,
+        plan,
+        kept,
+    })
+}
+
+/// Keeps a run on a branch.
+fn attached(branch: &mut Branch, kept: Shared<Kept>) -> Reply
+    ensures { (result, branch.new) ≡ attached_by kept branch.old }
+{
+    branch.kept = Some(kept);
+    Reply::Attached
+}
+
+/// Gives a branch another plan, where its revision is the one that was fetched.
+fn placed(branch: &mut Branch, seen: u64, plan: Plan) -> Reply
+    requires few { branch.old.revision < 2 ^ 63 }
+    ensures { (result, branch.new) ≡ placed_by seen plan branch.old }
+{
+    if branch.revision != seen {
+        return Reply::Stale {
+            seen,
+            now: branch.revision,
+        };
+    }
+    branch.revision += 1;
+    branch.plan = HeldPlan::of(plan);
+    Reply::Placed {
+        revision: branch.revision,
+    }
+}

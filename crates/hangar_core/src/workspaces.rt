@@ -1,0 +1,284 @@
+//! The workspace of one thread.
+
+ghost use Rattle.std.specs.Prelude.{◌≡◌, ◌<◌, None, Some, IfOk, IfSome, OnErr, option_and_then, slice_get, length};
+ghost use Rattle.std.specs.List.{find};
+ghost use Rattle.hangar_core.specs.Edits.{change_of};
+ghost use Rattle.hangar_core.specs.Opening.{dropped_branch, dropped_where, empty_plan as empty_plan_by, forked, forked_from, IsForkOf, new_branch, refusal_to_open as refusal_by, opened_with};
+ghost use Rattle.hangar_core.specs.Standing.{AreRevisionsWithin, IsActionOn, IsBranchIn, IsChangeOn, IsWorkspace};
+ghost use Rattle.hangar_core.specs.Steps.{step as step_of};
+ghost use Rattle.hangar_core.specs.Workspaces.{branch_named, has_name, on_branch as on_branch_by};
+
+use crate::actions::Action;
+use crate::branches::Branch;
+use crate::changes::{Change, changed};
+use crate::edits::Edit;
+use crate::held_plans::HeldPlan;
+use crate::last_revisions::LastRevisions;
+use crate::replies::{Reply, share_run};
+use aerie_base::{List, Model, Name, OutOfMemory, Plan, Shared, Time};
+use plan_edit::Mapping;
+use run_data::Kept;
+use std::alloc::Global;
+
+/// The most branches that stand at a time.
+const MOST_BRANCHES: usize = 64;
+
+/// Branches of plans.
+#[derive(Drop)]
+pub struct Workspace {
+    /// The models of the session, of different names.
+    pub models: List<Shared<Model>>,
+    /// The mappings between them.
+    pub mappings: List<Mapping>,
+    /// How long each plan lasts.
+    pub duration: Time,
+    /// The branches, in the order in which they began.
+    pub branches: List<Branch>,
+    /// The last revision of each name that was dropped.
+    pub dropped: LastRevisions,
+}
+
+impl Workspace {
+    /// Why no branch with a name can begin.
+    fn refusal_to_open(&self, name: &Name) -> Option<Reply>
+        ensures { result ≡ refusal_by self.now name.now }
+{
+        if position_of(self.branches.as_slice(), name).is_some() {
+            return Some(Reply::BranchExists);
+        }
+        if self.branches.len() < MOST_BRANCHES {
+            return None;
+        }
+        Some(Reply::TooManyBranches)
+    }
+
+    /// A branch begins, with a name that is free.
+    fn add_branch(&mut self, branch: Branch) -> Result<Reply, OutOfMemory>
+        requires workspace { IsWorkspace self.old }
+        requires free { refusal_by self.old branch.name ≡ None }
+        requires stands { IsBranchIn self.old.models self.old.duration branch }
+        ensures made { IfOk result (λ reply. (reply, self.new) ≡ opened_with self.old branch) }
+        ensures unchanged { OnErr result (self.new ≡ self.old) }
+        ensures stands { IsWorkspace self.new }
+    {
+        let revision = branch.revision;
+        self.branches.push(branch)?;
+        Ok(Reply::Opened { revision })
+    }
+
+    /// Begins a branch with an empty plan of the first model.
+    fn begin(&mut self, alloc: Global, name: Name) -> Result<Reply, OutOfMemory>
+        requires workspace { IsWorkspace self.old }
+        requires few { AreRevisionsWithin 9_223_372_036_854_775_807 self.old }
+        ensures made { IfOk result (λ reply. (reply, self.new) ≡ new_branch self.old name) }
+        ensures unchanged { OnErr result (self.new ≡ self.old) }
+        ensures stands { IsWorkspace self.new }
+    {
+        if let Some(refusal) = self.refusal_to_open(&name) {
+            return Ok(refusal);
+        }
+        let revision = self.dropped.first(&name);
+        self.add_branch(Branch {
+            name,
+            revision,
+            plan: HeldPlan::of(empty_plan(alloc, self.duration)),
+            kept: None,
+        })
+    }
+
+    /// Begins a branch with the plan and the kept run of another.
+    fn fork(&mut self, alloc: Global, name: Name, source: &Name) -> Result<Reply, OutOfMemory>
+        requires workspace { IsWorkspace self.old }
+        requires few { AreRevisionsWithin 9_223_372_036_854_775_807 self.old }
+        ensures made { IfOk result (λ reply. (reply, self.new) ≡ forked self.old name source.now) }
+        ensures unchanged { OnErr result (self.new ≡ self.old) }
+        ensures stands { IsWorkspace self.new }
+    {
+        match position_of(self.branches.as_slice(), source) {
+            Some(at) => self.fork_from(alloc, at, name),
+            None => Ok(Reply::NoBranch),
+        }
+    }
+
+    /// Begins a branch with the plan and the kept run of the one at a place.
+    fn fork_from(&mut self, alloc: Global, at: usize, name: Name) -> Result<Reply, OutOfMemory>
+        requires workspace { IsWorkspace self.old }
+        requires few { AreRevisionsWithin 9_223_372_036_854_775_807 self.old }
+        requires within { at < length self.old.branches }
+        ensures made { IfOk result (λ reply. (reply, self.new) ≡ forked_from self.old name (slice_get self.old.branches at)) }
+        ensures unchanged { OnErr result (self.new ≡ self.old) }
+        ensures stands { IsWorkspace self.new }
+    {
+        if let Some(refusal) = self.refusal_to_open(&name) {
+            return Ok(refusal);
+        }
+        let revision = self.dropped.first(&name);
+        let branch = forked_branch(alloc, &mut self.branches, at, name, revision)?;
+        self.add_branch(branch)
+    }
+
+    /// Takes a branch away, and remembers its revision.
+    fn drop_branch(&mut self, name: Name) -> Result<Reply, OutOfMemory>
+        requires workspace { IsWorkspace self.old }
+        ensures made { IfOk result (λ reply. (reply, self.new) ≡ dropped_branch self.old name) }
+        ensures unchanged { OnErr result (self.new ≡ self.old) }
+        ensures stands { IsWorkspace self.new }
+{
+        match position_of(self.branches.as_slice(), &name) {
+            Some(at) => self.drop_at(at, name),
+            None => Ok(Reply::NoBranch),
+        }
+    }
+
+    /// Takes the branch at a place away.
+    fn drop_at(&mut self, at: usize, name: Name) -> Result<Reply, OutOfMemory>
+        requires workspace { IsWorkspace self.old }
+        requires found { branch_named self.old name ≡ slice_get self.old.branches at }
+        requires within { at < length self.old.branches }
+        ensures made { IfOk result (λ reply. (reply, self.new) ≡ dropped_where self.old name (slice_get self.old.branches at)) }
+        ensures unchanged { OnErr result (self.new ≡ self.old) }
+        ensures stands { IsWorkspace self.new }
+{
+        let revision = self.branches.items[at].revision;
+        self.dropped.remember(name, revision)?;
+        self.branches.items.remove(at);
+        Ok(Reply::Dropped)
+    }
+
+    /// Changes the branch with a name.
+    fn on_branch(
+        &mut self,
+        alloc: Global,
+        name: &Name,
+        change: Change,
+    ) -> Result<Reply, OutOfMemory>
+        requires workspace { IsWorkspace self.old }
+        requires few { AreRevisionsWithin 9_223_372_036_854_775_807 self.old }
+        requires change { IsChangeOn self.old.models self.old.duration change }
+        ensures made { IfOk result (λ reply. (reply, self.new) ≡ on_branch_by self.old name.now (change_of self.old.models self.old.mappings change)) }
+        ensures unchanged { OnErr result (self.new ≡ self.old) }
+        ensures stands { IsWorkspace self.new }
+{
+        match position_of(self.branches.as_slice(), name) {
+            Some(at) => changed(
+                alloc,
+                self.models.as_slice(),
+                self.mappings.as_slice(),
+                &mut self.branches.items[at],
+                change,
+            ),
+            None => Ok(Reply::NoBranch),
+        }
+    }
+
+    /// One step. After want of memory the workspace is as it was.
+    pub fn step(&mut self, alloc: Global, action: Action) -> Result<Reply, OutOfMemory>
+        requires workspace { IsWorkspace self.old }
+        requires few { AreRevisionsWithin 9_223_372_036_854_775_807 self.old }
+        requires action { IsActionOn self.old action }
+        ensures made { IfOk result (λ reply. (reply, self.new) ≡ step_of self.old action) }
+        ensures unchanged { OnErr result (self.new ≡ self.old) }
+        ensures stands { IsWorkspace self.new }
+{
+        match action {
+            Action::New { branch } => self.begin(alloc, branch),
+            Action::Fork { branch, source } => self.fork(alloc, branch, &source),
+            Action::Drop { branch } => self.drop_branch(branch),
+            Action::Add {
+                branch,
+                at,
+                kind,
+                arguments,
+            } => self.on_branch(
+                alloc,
+                &branch,
+                Change::Edit(Edit::Add {
+                    at,
+                    kind,
+                    arguments,
+                }),
+            ),
+            Action::Remove { branch, id } => {
+                self.on_branch(alloc, &branch, Change::Edit(Edit::Remove { id }))
+            }
+            Action::Move { branch, id, at } => {
+                self.on_branch(alloc, &branch, Change::Edit(Edit::Move { id, at }))
+            }
+            Action::Set {
+                branch,
+                id,
+                parameter,
+                value,
+            } => self.on_branch(
+                alloc,
+                &branch,
+                Change::Edit(Edit::Set {
+                    id,
+                    parameter,
+                    value,
+                }),
+            ),
+            Action::Load { branch, text } => {
+                self.on_branch(alloc, &branch, Change::Edit(Edit::Load { text }))
+            }
+            Action::Migrate { branch, model } => {
+                self.on_branch(alloc, &branch, Change::Migrate { model })
+            }
+            Action::Fetch { branch } => self.on_branch(alloc, &branch, Change::Fetch),
+            Action::Attach { branch, kept } => {
+                self.on_branch(alloc, &branch, Change::Attach { kept })
+            }
+            Action::Place { branch, seen, plan } => {
+                self.on_branch(alloc, &branch, Change::Place { seen, plan })
+            }
+        }
+    }
+}
+
+/// The place of the branch with a name. It scans them all.
+fn position_of(branches: &[Branch], name: &Name) -> Option<usize>
+    ensures found { option_and_then (slice_get branches.now) result ≡ find (has_name name.now) branches.now }
+    ensures within { IfSome result (λ at. at < length branches.now) }
+{
+    for at in 0..branches.len() {
+        if branches[at].name == *name {
+            return Some(at);
+        }
+    }
+    None
+}
+
+/// A branch with the plan and the kept run of the one at a place.
+fn forked_branch(
+    alloc: Global,
+    branches: &mut List<Branch>,
+    at: usize,
+    name: Name,
+    revision: u64,
+) -> Result<Branch, OutOfMemory>
+    requires within { at < length branches.old }
+    ensures made { IfOk result (λ branch. IsForkOf branch name revision (slice_get branches.old at)) }
+    ensures same { branches.new ≡ branches.old }
+{
+    let source = &mut branches.items[at];
+    let plan = source.plan.share(alloc)?;
+    let kept = share_run(&source.kept)?;
+    Ok(Branch {
+        name,
+        revision,
+        plan: HeldPlan::of_shared(plan),
+        kept,
+    })
+}
+
+/// A plan of the first model with no directive.
+fn empty_plan(alloc: Global, duration: Time) -> Plan
+    ensures { result ≡ empty_plan_by duration }
+{
+    Plan {
+        model: 0,
+        duration,
+        next_id: 1,
+        directives: List::new(alloc),
+    }
+}
