@@ -69,7 +69,7 @@ changed_past before name workspace on change follows h = go (branch_named worksp
 
 -- ---- a branch begins
 
-free_name : (workspace : Workspace) (name : List ℕ) → refusal_to_open workspace name ≡ None → branch_named workspace name ≡ None
+pub free_name : (workspace : Workspace) (name : List ℕ) → refusal_to_open workspace name ≡ None → branch_named workspace name ≡ None
 free_name workspace name e = go (branch_named workspace name) refl
   where
     go : (found : Option Branch) → branch_named workspace name ≡ found → branch_named workspace name ≡ None

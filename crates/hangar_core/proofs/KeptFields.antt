@@ -5,6 +5,7 @@ use Rattle.aerie_base.specs.declared.plans.Directive.{Directive}
 use Rattle.aerie_base.specs.declared.plans.Plan.{Plan}
 use Rattle.aerie_base.specs.plans.OfModel.{with_id}
 use Rattle.plan_edit.specs.declared.errors.EditError.{EditError}
+use Rattle.plan_edit.specs.declared.errors.EditError.TheVariants as error
 use Rattle.plan_edit.specs.declared.errors.MigrateError.{MigrateError}
 use Rattle.plan_edit.specs.declared.mappings.Mapping.{Mapping}
 use Rattle.plan_edit.specs.Answers.{PossibleRefusal, then_made_of, unless_refused}
@@ -38,7 +39,7 @@ made_of : {A : Type 0} (model duration : ℕ) (make : A → Plan) → ((a : A) �
 made_of model duration make keeps (Ok a) new e = subst (Keeps model duration) (ok_is (Ok (make a)) (make a) new refl e) (keeps a)
 made_of model duration make keeps (Err refusal) new e = absurd (err_ok (Err refusal) refusal new refl e)
 
-one_of : (model duration : ℕ) (plan new : Plan) → Keeps model duration plan → Ok plan ≡ Ok new → Keeps model duration new
+one_of : (model duration : ℕ) (plan new : Plan) → Keeps model duration plan → ◌≡◌ {A = Result Plan EditError} (Ok plan) (Ok new) → Keeps model duration new
 one_of model duration plan new keeps e = subst (Keeps model duration) (ok_is (Ok plan) plan new refl e) keeps
 
 not_refused : (model duration : ℕ) (refusals : List PossibleRefusal) (plan new : Plan) → Keeps model duration plan →
@@ -69,7 +70,9 @@ edit_keeps (Remove id) model plan new e =
     (λ directive k. not_anchored plan.model plan.duration (find (is_anchored_to id) plan.directives) (without plan id) new (refl, refl) k) e
 edit_keeps (Move id at) model plan new e =
     of_one plan.model plan.duration _ (with_id plan.directives id) new
-    (λ directive k. not_refused plan.model plan.duration _ (with_changed plan id (moved_directive at)) new (refl, refl) k) e
+    (λ directive k. not_refused plan.model plan.duration
+    ((is_outside plan at.start, error.OutsidePlan) ∷ (is_loose plan at.anchor, error.NoAnchor) ∷ (leads_to plan id at.anchor, error.Cycle) ∷ [])
+    (with_changed plan id (moved_directive at)) new (refl, refl) k) e
 edit_keeps (Set id parameter value) model plan new e =
     of_one plan.model plan.duration _ (with_id plan.directives id) new
     (λ directive k. made_of plan.model plan.duration (λ values. with_changed plan id (with_arguments values)) (λ values. (refl, refl))

@@ -11,3 +11,5 @@ pub mod Places
 pub mod Standings
 pub mod Counts
 pub mod KeptFields
+pub mod EditedBranches
+pub mod Working

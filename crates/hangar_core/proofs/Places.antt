@@ -83,9 +83,9 @@ pub distinct_behind : (y : Branch) (ys : List Branch) → IsTrue (are_distinct (
 distinct_behind y ys d = (both (not (is_name_among y.name (names_of ys))) (are_distinct (names_of ys)) d).1
 
 -- at what place it stands
-data IsAt (name : List ℕ) (y : Branch) (ys : List Branch) : ℕ → Type 0 where
-  first : has_name name y ≡ true → IsAt name y ys zero
-  behind : (at : ℕ) → has_name name y ≡ false → slice_get ys at ≡ find (has_name name) ys → IsAt name y ys (suc at)
+abbrev IsAt : List ℕ → Branch → List Branch → ℕ → Type 0
+IsAt name y ys zero = has_name name y ≡ true
+IsAt name y ys (suc at) = (has_name name y ≡ false) × (slice_get ys at ≡ find (has_name name) ys)
 
 get_passes : (name : List ℕ) (ys : List Branch) (at : ℕ) (y : Branch) → slice_get ys at ≡ Some y → has_name name y ≡ true → find (has_name name) ys ≡ None → ⊥
 get_passes name [] at y g h f = none_some None y refl g
@@ -102,13 +102,13 @@ place_of : (name : List ℕ) (y : Branch) (ys : List Branch) (at : ℕ) → IsTr
 place_of name y ys zero d l e = go (has_name name y) refl e
   where
     go : (r : Bool) → has_name name y ≡ r → Some y ≡ cond (has_name name y) (Some y) (find (has_name name) ys) → IsAt name y ys zero
-    go true h k = first h
-    go false h k = first (found_passes name ys y (sym (k ∙ ap (λ s. cond s (Some y) (find (has_name name) ys)) h)))
+    go true h k = h
+    go false h k = (found_passes name ys y (sym (k ∙ ap (λ s. cond s (Some y) (find (has_name name) ys)) h)))
 place_of name y ys (suc at) d l e = go (has_name name y) refl e
   where
     go : (r : Bool) → has_name name y ≡ r → slice_get ys at ≡ cond (has_name name y) (Some y) (find (has_name name) ys) → IsAt name y ys (suc at)
     go true h k = absurd (get_passes name ys at y (k ∙ ap (λ s. cond s (Some y) (find (has_name name) ys)) h) h (none_behind name y ys d h))
-    go false h k = behind at h (k ∙ ap (λ s. cond s (Some y) (find (has_name name) ys)) h)
+    go false h k = (h, k ∙ ap (λ s. cond s (Some y) (find (has_name name) ys)) h)
 
 pub put_is_set : (name : List ℕ) (b : Branch) (xs : List Branch) (at : ℕ) → IsTrue (are_distinct (names_of xs)) → at < length xs →
     slice_get xs at ≡ find (has_name name) xs → map (put_where_named name b) xs ≡ set xs at b
@@ -118,9 +118,9 @@ put_is_set name b (y ∷ ys) at d l e = go at (place_of name y ys at d l e) (λ 
     go : (at : ℕ) → IsAt name y ys at →
         ((k : ℕ) → k < length ys → slice_get ys k ≡ find (has_name name) ys → map (put_where_named name b) ys ≡ set ys k b) →
         at < length (y ∷ ys) → map (put_where_named name b) (y ∷ ys) ≡ set (y ∷ ys) at b
-    go zero (first h) more l =
+    go zero h more l =
         ap (λ s. cond s b y ∷ map (put_where_named name b) ys) h ∙ ap (λ r. b ∷ r) (put_none name b ys (none_behind name y ys d h))
-    go (suc k) (behind k h f) more l = ap (λ s. cond s b y ∷ map (put_where_named name b) ys) h ∙ ap (λ r. y ∷ r) (more k (omega (arith, l)) f)
+    go (suc k) (h, f) more l = ap (λ s. cond s b y ∷ map (put_where_named name b) ys) h ∙ ap (λ r. y ∷ r) (more k (omega (arith, l)) f)
 
 pub left_is_removed : (name : List ℕ) (xs : List Branch) (at : ℕ) → IsTrue (are_distinct (names_of xs)) → at < length xs →
     slice_get xs at ≡ find (has_name name) xs → filter (has_other_name name) xs ≡ remove xs at
@@ -130,9 +130,9 @@ left_is_removed name (y ∷ ys) at d l e = go at (place_of name y ys at d l e) (
     go : (at : ℕ) → IsAt name y ys at →
         ((k : ℕ) → k < length ys → slice_get ys k ≡ find (has_name name) ys → filter (has_other_name name) ys ≡ remove ys k) →
         at < length (y ∷ ys) → filter (has_other_name name) (y ∷ ys) ≡ remove (y ∷ ys) at
-    go zero (first h) more l =
+    go zero h more l =
         ap (λ s. cond (not s) (y ∷ filter (has_other_name name) ys) (filter (has_other_name name) ys)) h ∙ left_all name ys (none_behind name y ys d h)
-    go (suc k) (behind k h f) more l =
+    go (suc k) (h, f) more l =
         ap (λ s. cond (not s) (y ∷ filter (has_other_name name) ys) (filter (has_other_name name) ys)) h ∙ ap (λ r. y ∷ r) (more k (omega (arith, l)) f)
 
 -- a branch put in its own place changes nothing

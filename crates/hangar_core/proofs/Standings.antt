@@ -26,7 +26,8 @@ module _ {X : Type 0} (P : X → Type 0) where
   all_set (y ∷ ys) (suc at) x h p = (h.0, all_set ys at x h.1 p)
 
   pub all_removed : (xs : List X) (at : ℕ) → AllByRecursion P xs → AllByRecursion P (remove xs at)
-  all_removed [] at h = h
+  all_removed [] zero h = h
+  all_removed [] (suc at) h = h
   all_removed (y ∷ ys) zero h = h.1
   all_removed (y ∷ ys) (suc at) h = (h.0, all_removed ys at h.1)
 
@@ -47,7 +48,8 @@ names_added [] x = refl
 names_added (y ∷ ys) x = ap (λ (names : List (List ℕ)). y.name ∷ names) (names_added ys x)
 
 none_among : (name : List ℕ) (names : List (List ℕ)) (at : ℕ) → is_name_among name names ≡ false → is_name_among name (remove names at) ≡ false
-none_among name [] at h = h
+none_among name [] zero h = h
+none_among name [] (suc at) h = h
 none_among name (y ∷ ys) zero h = go (same_name name y) h
   where
     go : (r : Bool) → (r || is_name_among name ys) ≡ false → is_name_among name ys ≡ false
@@ -61,12 +63,14 @@ none_among name (y ∷ ys) (suc at) h = go (same_name name y) h (none_among name
     go false k more = more k
 
 removed_names : (xs : List Branch) (at : ℕ) → names_of (remove xs at) ≡ remove (names_of xs) at
-removed_names [] at = refl
+removed_names [] zero = refl
+removed_names [] (suc at) = refl
 removed_names (y ∷ ys) zero = refl
 removed_names (y ∷ ys) (suc at) = ap (λ (names : List (List ℕ)). y.name ∷ names) (removed_names ys at)
 
 distinct_left : (names : List (List ℕ)) (at : ℕ) → IsTrue (are_distinct names) → IsTrue (are_distinct (remove names at))
-distinct_left [] at h = h
+distinct_left [] zero h = h
+distinct_left [] (suc at) h = h
 distinct_left (y ∷ ys) zero h = (both (not (is_name_among y ys)) (are_distinct ys) h).1
 distinct_left (y ∷ ys) (suc at) h =
     let parts = both (not (is_name_among y ys)) (are_distinct ys) h in
@@ -79,7 +83,7 @@ distinct_added : (names : List (List ℕ)) (name : List ℕ) → IsTrue (are_dis
 distinct_added [] name h n = refl
 distinct_added (y ∷ ys) name h n =
     let parts = both (not (is_name_among y ys)) (are_distinct ys) h in
-    go (same_name name y) refl n parts
+    go (same_name name y) refl n parts (distinct_added ys name parts.1)
   where
     apart : (r : Bool) → same_name y name ≡ r → same_name name y ≡ false → same_name y name ≡ false
     apart true e f = absurd (true≢false (sym (ap (λ (x : List ℕ). same_name x y) (sym (name_is y name e)) ∙ own y) ∙ f))
@@ -88,14 +92,14 @@ distinct_added (y ∷ ys) name h n =
         own x = same_when x x refl
     apart false e f = e
     go : (r : Bool) → same_name name y ≡ r → (r || is_name_among name ys) ≡ false → (not (is_name_among y ys) ≡ true) × (are_distinct ys ≡ true) →
-        IsTrue (are_distinct ((y ∷ ys) ++ name ∷ []))
-    go true e k parts = absurd (true≢false k)
-    go false e k parts =
+        (is_name_among name ys ≡ false → IsTrue (are_distinct (ys ++ name ∷ []))) → IsTrue (are_distinct ((y ∷ ys) ++ name ∷ []))
+    go true e k parts more = absurd (true≢false k)
+    go false e k parts more =
         let here : is_name_among y (ys ++ name ∷ []) ≡ false =
             among_appended y ys (name ∷ [])
             ∙ ap (λ r. r || is_name_among y (name ∷ [])) (is_not (is_name_among y ys) parts.0)
             ∙ ap (λ r. r || false) (apart (same_name y name) refl e) in
-        ap (λ r. not r && are_distinct (ys ++ name ∷ [])) here ∙ distinct_added ys name parts.1 k
+        ap (λ r. not r && are_distinct (ys ++ name ∷ [])) here ∙ more k
 
 pub distinct_opened : (xs : List Branch) (x : Branch) → IsTrue (are_distinct (names_of xs)) → find (has_name x.name) xs ≡ None →
     IsTrue (are_distinct (names_of (xs ++ x ∷ [])))

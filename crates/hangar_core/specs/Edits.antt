@@ -1,8 +1,10 @@
 -- The edits of a plan, and what is answered of them.
-use Rattle.std.specs.Prelude.{ℕ, Result}
+use Rattle.std.specs.Prelude.{◌≡◌, ℕ, List, set, slice_get, Option, Some, None, Result, Ok, Err}
+use Rattle.aerie_base.specs.declared.memory.OutOfMemory.{OutOfMemory}
 use Rattle.aerie_base.specs.declared.models.model.Parts.{Parts}
 use Rattle.aerie_base.specs.declared.plans.Plan.{Plan}
 use Rattle.plan_edit.specs.declared.errors.EditError.{EditError}
+use Rattle.plan_edit.specs.declared.errors.EditError.TheVariants as error
 use Rattle.plan_edit.specs.Editing.{add_of, remove_of, move_of, set_of}
 use Rattle.plan_edit.specs.Loading.{load_of}
 use Rattle.hangar_core.specs.declared.changes.Change.{Change}
@@ -11,9 +13,9 @@ use Rattle.hangar_core.specs.declared.edits.Edit.{Edit}
 use Rattle.hangar_core.specs.declared.edits.Edit.TheVariants.{Add, Remove, Move, Set, Load}
 use Rattle.hangar_core.specs.declared.branches.Branch.{Branch}
 use Rattle.hangar_core.specs.declared.replies.Reply.{Reply}
+use Rattle.hangar_core.specs.declared.replies.Reply.TheVariants as told
 use Rattle.plan_edit.specs.declared.mappings.Mapping.{Mapping}
 use Rattle.hangar_core.specs.Changing.{Told, attached, edited, fetched, migrated, placed, told_added, told_edited, told_loaded}
-use Rattle.std.specs.Prelude.{List}
 
 -- the edited plan, by its model
 abbrev pub edit_of : Edit → Parts → Plan → Result Plan EditError
@@ -31,6 +33,11 @@ told_of (Move id at) = told_edited
 told_of (Set id parameter value) = told_edited
 told_of (Load text) = told_loaded
 
+-- a refusal is told as it is, and want of memory is none
+abbrev pub IsToldRefusal : EditError → Result Reply OutOfMemory → Type 0
+IsToldRefusal refusal (Ok reply) = (reply ≡ told.Edit refusal) × (refusal ≡ error.OutOfMemory → ⊥)
+IsToldRefusal refusal (Err memory) = Unit {0}
+
 -- what becomes of a branch by a change
 abbrev pub change_of : List Parts → List Mapping → Change → Branch → Told
 change_of models mappings (change.Edit edit) = edited models (edit_of edit) (told_of edit)
@@ -38,3 +45,18 @@ change_of models mappings (change.Migrate model) = migrated models mappings mode
 change_of models mappings change.Fetch = fetched
 change_of models mappings (change.Attach kept) = attached kept
 change_of models mappings (change.Place seen plan) = placed seen plan
+
+-- what becomes of the branch at a place by a change; all others stay
+abbrev pub IsMadeOf : Told → ℕ → List Branch → List Branch → Reply → Type 0
+IsMadeOf made at before after reply = (reply ≡ made.0) × (after ≡ set before at made.1)
+
+abbrev pub IsMadeWhere : List Parts → List Mapping → Change → ℕ → List Branch → List Branch → Reply → Option Branch → Type 0
+IsMadeWhere models mappings change at before after reply None = ⊥
+IsMadeWhere models mappings change at before after reply (Some branch) = IsMadeOf (change_of models mappings change branch) at before after reply
+
+abbrev pub IsMadeAt : List Parts → List Mapping → Change → ℕ → List Branch → List Branch → Reply → Type 0
+IsMadeAt models mappings change at before after reply = IsMadeWhere models mappings change at before after reply (slice_get before at)
+
+abbrev pub IsRevisionOf : ℕ → Option Branch → Type 0
+IsRevisionOf revision None = ⊥
+IsRevisionOf revision (Some branch) = revision ≡ branch.revision

@@ -1,5 +1,5 @@
 -- What holds of every workspace, of the actions that it takes, and of what it answers.
-use Rattle.std.specs.Prelude.{◌≡◌, ℕ, ◌+◌, ◌≤◌, IsTrue, List, [], ◌∷◌, map, length, slice_get, Option, Some, None}
+use Rattle.std.specs.Prelude.{◌≡◌, ℕ, ◌+◌, ◌≤◌, ◌<◌, ◌^◌, IsTrue, List, [], ◌∷◌, map, length, slice_get, Option, Some, None}
 use Rattle.std.specs.List.{AllByRecursion}
 use Rattle.aerie_base.specs.declared.models.model.Parts.{Parts}
 use Rattle.aerie_base.specs.declared.plans.Plan.{Plan}
@@ -127,6 +127,11 @@ IsChangeOn models duration (change.Migrate model) = Unit {0}
 IsChangeOn models duration change.Fetch = Unit {0}
 IsChangeOn models duration (change.Attach kept) = IsKeptIn models kept
 IsChangeOn models duration (change.Place seen plan) = IsPlanIn models duration plan
+
+-- a branch whose plan is of one of the models, and whose revision may rise
+abbrev pub MayChange : List Parts → Option Branch → Type 0
+MayChange models None = ⊥
+MayChange models (Some branch) = IsPlanAmong models branch.plan × (branch.revision < 2 ^ 63)
 
 -- what a Fetch answers is of one of the models
 abbrev pub IsReplyOf : List Parts → ℕ → Reply → Type 0

@@ -2,7 +2,7 @@
 
 ghost use Rattle.std.specs.Prelude.{◌≡◌, ◌<◌, ◌^◌, ℕ, Some, IfOk, IfSome, OnErr, option_and_then, slice_get, length};
 ghost use Rattle.hangar_core.specs.Changing.{attached as attached_by, edited as edited_by, fetched as fetched_by, is_named as is_named_by, mapping_to as mapping_to_by, migrated as migrated_to_by, migrated_by as migrated_by_mapping, placed as placed_by};
-ghost use Rattle.hangar_core.specs.Edits.{change_of, edit_of, told_of};
+ghost use Rattle.hangar_core.specs.Edits.{change_of, edit_of, IsToldRefusal, told_of};
 ghost use Rattle.hangar_core.specs.Standing.{AreModels, IsBranchIn, IsChangeOn, IsMappingIn, IsPlanAmong, IsPlanIn};
 
 use crate::branches::Branch;
@@ -54,6 +54,7 @@ pub fn changed(
     ensures made { IfOk result (λ reply. (reply, branch.new) ≡ change_of models.now mappings.now change branch.old) }
     ensures unchanged { OnErr result (branch.new ≡ branch.old) }
     ensures stays { (duration : ℕ) → IsChangeOn models.now duration change → IsBranchIn models.now duration branch.old → IsBranchIn models.now duration branch.new }
+    ensures name { branch.new.name ≡ branch.old.name }
 {
     match change {
         Change::Edit(edit) => edited(alloc, models, branch, &edit),
@@ -76,6 +77,7 @@ fn edited(
     ensures made { IfOk result (λ reply. (reply, branch.new) ≡ edited_by models.now (edit_of edit.now) (told_of edit.now) branch.old) }
     ensures unchanged { OnErr result (branch.new ≡ branch.old) }
     ensures stays { (duration : ℕ) → IsBranchIn models.now duration branch.old → IsBranchIn models.now duration branch.new }
+    ensures name { branch.new.name ≡ branch.old.name }
 {
     let model = &models[usize::from(branch.plan.get().model)];
     let revision = branch.revision + 1;
@@ -84,8 +86,17 @@ fn edited(
             branch.revision = revision;
             Ok(reply)
         }
-        Err(EditError::OutOfMemory) => Err(OutOfMemory),
-        Err(refusal) => Ok(Reply::Edit(refusal)),
+        Err(refusal) => refused(refusal),
+    }
+}
+
+/// What tells that an edit is refused, or that memory was wanted.
+fn refused(refusal: EditError) -> Result<Reply, OutOfMemory>
+    ensures { IsToldRefusal refusal result }
+{
+    match refusal {
+        EditError::OutOfMemory => Err(OutOfMemory),
+        _ => Ok(Reply::Edit(refusal)),
     }
 }
 
@@ -132,6 +143,7 @@ fn migrated(
     ensures made { IfOk result (λ reply. (reply, branch.new) ≡ migrated_to_by models.now mappings.now name.now branch.old) }
     ensures unchanged { OnErr result (branch.new ≡ branch.old) }
     ensures stays { (duration : ℕ) → IsBranchIn models.now duration branch.old → IsBranchIn models.now duration branch.new }
+    ensures name { branch.new.name ≡ branch.old.name }
 {
     match mapping_to(models, mappings, branch.plan.get().model, name) {
         Some(place) => migrated_by(alloc, models, &mappings[place], branch),
@@ -153,6 +165,7 @@ fn migrated_by(
     ensures made { IfOk result (λ reply. (reply, branch.new) ≡ migrated_by_mapping models.now branch.old (Some mapping.now)) }
     ensures unchanged { OnErr result (branch.new ≡ branch.old) }
     ensures stays { (duration : ℕ) → IsBranchIn models.now duration branch.old → IsBranchIn models.now duration branch.new }
+    ensures name { branch.new.name ≡ branch.old.name }
 {
     let old = &models[usize::from(mapping.from)];
     let new = &models[usize::from(mapping.to)];

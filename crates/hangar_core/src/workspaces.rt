@@ -1,10 +1,10 @@
 //! The workspace of one thread.
 
-ghost use Rattle.std.specs.Prelude.{◌≡◌, ◌<◌, None, Some, IfOk, IfSome, OnErr, option_and_then, slice_get, length};
-ghost use Rattle.std.specs.List.{find};
-ghost use Rattle.hangar_core.specs.Edits.{change_of};
+ghost use Rattle.std.specs.Prelude.{◌≡◌, ◌<◌, ℕ, remove, None, Some, IfOk, IfSome, OnErr, option_and_then, slice_get, length};
+ghost use Rattle.std.specs.List.{AllByRecursion, find};
+ghost use Rattle.hangar_core.specs.Edits.{change_of, IsMadeAt, IsRevisionOf};
 ghost use Rattle.hangar_core.specs.Opening.{dropped_branch, dropped_where, empty_plan as empty_plan_by, forked, forked_from, IsForkOf, new_branch, refusal_to_open as refusal_by, opened_with};
-ghost use Rattle.hangar_core.specs.Standing.{AreRevisionsWithin, IsActionOn, IsBranchIn, IsChangeOn, IsWorkspace};
+ghost use Rattle.hangar_core.specs.Standing.{AreModels, AreRevisionsWithin, IsActionOn, IsBranchIn, IsChangeOn, IsWorkspace, MayChange, names_of};
 ghost use Rattle.hangar_core.specs.Steps.{step as step_of};
 ghost use Rattle.hangar_core.specs.Workspaces.{branch_named, has_name, on_branch as on_branch_by};
 
@@ -133,15 +133,15 @@ impl Workspace {
     /// Takes the branch at a place away.
     fn drop_at(&mut self, at: usize, name: Name) -> Result<Reply, OutOfMemory>
         requires workspace { IsWorkspace self.old }
-        requires found { branch_named self.old name ≡ slice_get self.old.branches at }
+        requires found { slice_get self.old.branches at ≡ branch_named self.old name }
         requires within { at < length self.old.branches }
         ensures made { IfOk result (λ reply. (reply, self.new) ≡ dropped_where self.old name (slice_get self.old.branches at)) }
         ensures unchanged { OnErr result (self.new ≡ self.old) }
         ensures stands { IsWorkspace self.new }
-{
-        let revision = self.branches.items[at].revision;
+    {
+        let revision = revision_at(self.branches.as_slice(), at);
         self.dropped.remember(name, revision)?;
-        self.branches.items.remove(at);
+        take_out(&mut self.branches, at);
         Ok(Reply::Dropped)
     }
 
@@ -158,13 +158,14 @@ impl Workspace {
         ensures made { IfOk result (λ reply. (reply, self.new) ≡ on_branch_by self.old name.now (change_of self.old.models self.old.mappings change)) }
         ensures unchanged { OnErr result (self.new ≡ self.old) }
         ensures stands { IsWorkspace self.new }
-{
+    {
         match position_of(self.branches.as_slice(), name) {
-            Some(at) => changed(
+            Some(at) => changed_at(
                 alloc,
                 self.models.as_slice(),
                 self.mappings.as_slice(),
-                &mut self.branches.items[at],
+                &mut self.branches,
+                at,
                 change,
             ),
             None => Ok(Reply::NoBranch),
@@ -172,6 +173,7 @@ impl Workspace {
     }
 
     /// One step. After want of memory the workspace is as it was.
+    #[tactic(auto, unfolding(crate::specs::Steps::step))]
     pub fn step(&mut self, alloc: Global, action: Action) -> Result<Reply, OutOfMemory>
         requires workspace { IsWorkspace self.old }
         requires few { AreRevisionsWithin 9_223_372_036_854_775_807 self.old }
@@ -246,6 +248,43 @@ fn position_of(branches: &[Branch], name: &Name) -> Option<usize>
         }
     }
     None
+}
+
+/// The revision of the branch at a place.
+fn revision_at(branches: &[Branch], at: usize) -> u64
+    requires within { at < length branches.now }
+    ensures { IsRevisionOf result (slice_get branches.now at) }
+{
+    branches[at].revision
+}
+
+/// Takes the branch at a place out.
+fn take_out(branches: &mut List<Branch>, at: usize)
+    requires within { at < length branches.old }
+    ensures { branches.new ≡ remove branches.old at }
+{
+    branches.items.remove(at);
+}
+
+/// Changes the branch at a place, and answers what tells of it.
+fn changed_at(
+    alloc: Global,
+    models: &[Shared<Model>],
+    mappings: &[Mapping],
+    branches: &mut List<Branch>,
+    at: usize,
+    change: Change,
+) -> Result<Reply, OutOfMemory>
+    requires models { AreModels models.now mappings.now }
+    requires within { at < length branches.old }
+    requires plan { MayChange models.now (slice_get branches.old at) }
+    ensures made { IfOk result (λ reply. IsMadeAt models.now mappings.now change at branches.old branches.new reply) }
+    ensures unchanged { OnErr result (branches.new ≡ branches.old) }
+    ensures stays { (duration : ℕ) → IsChangeOn models.now duration change → AllByRecursion (IsBranchIn models.now duration) branches.old → AllByRecursion (IsBranchIn models.now duration) branches.new }
+    ensures names { names_of branches.new ≡ names_of branches.old }
+{
+    let branch = &mut branches.items[at];
+    changed(alloc, models, mappings, branch, change)
 }
 
 /// A branch with the plan and the kept run of the one at a place.
