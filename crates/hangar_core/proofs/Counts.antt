@@ -26,8 +26,8 @@ use Rattle.hangar_core.specs.declared.workspaces.Workspace.{Workspace}
 use Rattle.hangar_core.specs.Replies.{accepted_with}
 use Rattle.hangar_core.specs.Workspaces.{branch_limit, branch_named, has_name, on_branch, on_found, put_where_named, with_branch}
 use Rattle.hangar_core.specs.Opening.{LastRevisions, dropped_branch, dropped_where, empty_plan, first_revision, forked_from, has_other_name, last_revision, opened, opened_branch, opened_unless, refusal_to_open, remembered, revision_after}
-use Rattle.hangar_core.specs.Changing.{Told, attached, by_model, edited, fetched, if_edited, if_migrated, mapping_to, migrated, migrated_by, migrated_to, placed, told_added, told_edited, told_loaded, with_plan}
-use Rattle.hangar_core.specs.Standing.{AreRevisionsWithin, names_of}
+use Rattle.hangar_core.specs.Changing.{Told, attached, by_model, edited, fetched, if_edited, if_migrated, mapping_to, migrated_branch, migrated_by, migrated_to, placed_branch, told_added, told_edited, told_loaded, with_plan}
+use Rattle.hangar_core.specs.Standing.{AreRevisionsWithin, branch_names}
 use Rattle.hangar_core.specs.Steps.{step}
 use Rattle.hangar_core.proofs.Plain.{none_some, some_same}
 use Rattle.hangar_core.proofs.Named.{found_passes}
@@ -41,13 +41,13 @@ pub record Tells (branch : Branch) (told : Told) : Type 0 where
 nothing : (branch : Branch) (refusal : Reply) → accepted_with refusal ≡ 0 → Tells branch (refusal, branch)
 nothing branch refusal e = record { counts = omega arith; stays = λ _. refl }
 
-more : (branch : Branch) (plan : Plan) (told : Reply) → accepted_with told ≡ 1 → Tells branch (told, with_plan branch plan)
-more branch plan told e = record { counts = omega (arith, e); stays = λ z. absurd (omega (arith, e, z)) }
+raised : (branch : Branch) (plan : Plan) (told : Reply) → accepted_with told ≡ 1 → Tells branch (told, with_plan branch plan)
+raised branch plan told e = record { counts = omega (arith, e); stays = λ z. absurd (omega (arith, e, z)) }
 
 if_edited_tells : (branch : Branch) (told : Plan → ℕ → Reply) → ((plan : Plan) (revision : ℕ) → accepted_with (told plan revision) ≡ 1) →
     (made : Result Plan EditError) → Tells branch (if_edited branch told made)
 if_edited_tells branch told one (Err refusal) = nothing branch (reply.Edit refusal) refl
-if_edited_tells branch told one (Ok plan) = more branch plan (told plan (branch.revision + 1)) (one plan (branch.revision + 1))
+if_edited_tells branch told one (Ok plan) = raised branch plan (told plan (branch.revision + 1)) (one plan (branch.revision + 1))
 
 pub edited_tells : (models : List Parts) (edit : Parts → Plan → Result Plan EditError) (told : Plan → Plan → ℕ → Reply) →
     ((old new : Plan) (revision : ℕ) → accepted_with (told old new revision) ≡ 1) → (branch : Branch) → Tells branch (edited models edit told branch)
@@ -55,7 +55,7 @@ edited_tells models edit told one branch =
     if_edited_tells branch (told branch.plan) (one branch.plan) (by_model (slice_get models branch.plan.model) (λ model. edit model branch.plan))
 
 if_migrated_tells : (branch : Branch) (made : Result Plan MigrateError) → Tells branch (if_migrated branch made)
-if_migrated_tells branch (Ok plan) = more branch plan (reply.Edited (branch.revision + 1)) refl
+if_migrated_tells branch (Ok plan) = raised branch plan (reply.Edited (branch.revision + 1)) refl
 if_migrated_tells branch (Err (migration.Unmapped id)) = nothing branch (reply.Unmapped id) refl
 if_migrated_tells branch (Err (migration.Misfit id number)) = nothing branch (reply.Misfit id number) refl
 if_migrated_tells branch (Err migration.OutOfMemory) = nothing branch reply.NoMapping refl
@@ -74,16 +74,16 @@ fetched_tells branch = record { counts = omega arith; stays = λ _. refl }
 attached_tells : (kept : KeptRun) (branch : Branch) → Tells branch (attached kept branch)
 attached_tells kept branch = record { counts = omega arith; stays = λ z. absurd (omega (arith, z)) }
 
-placed_tells : (seen : ℕ) (plan : Plan) (branch : Branch) → Tells branch (placed seen plan branch)
+placed_tells : (seen : ℕ) (plan : Plan) (branch : Branch) → Tells branch (placed_branch seen plan branch)
 placed_tells seen plan branch = go (nat_eq branch.revision seen)
   where
     go : (r : Bool) → Tells branch (if r then (reply.Placed (branch.revision + 1), with_plan branch plan) else (reply.Stale seen branch.revision, branch))
-    go true = more branch plan (reply.Placed (branch.revision + 1)) refl
+    go true = raised branch plan (reply.Placed (branch.revision + 1)) refl
     go false = nothing branch (reply.Stale seen branch.revision) refl
 
 -- ---- a refusal changes nothing
 
-found_stays : (w : Workspace) (name : List ℕ) (change : Branch → Told) → ((branch : Branch) → Tells branch (change branch)) → IsTrue (are_distinct (names_of w.branches)) →
+found_stays : (w : Workspace) (name : List ℕ) (change : Branch → Told) → ((branch : Branch) → Tells branch (change branch)) → IsTrue (are_distinct (branch_names w.branches)) →
     accepted_with (on_branch w name change).0 ≡ 0 → (on_branch w name change).1 ≡ w
 found_stays w name change tells d = go (branch_named w name) refl
   where
@@ -109,7 +109,7 @@ dropped_stays : (w : Workspace) (name : List ℕ) (found : Option Branch) → ac
 dropped_stays w name None z = refl
 dropped_stays w name (Some now) z = absurd (omega (arith, z))
 
-pub step_stays : (w : Workspace) (action : Action) → IsTrue (are_distinct (names_of w.branches)) → accepted_with (step w action).0 ≡ 0 → (step w action).1 ≡ w
+pub step_stays : (w : Workspace) (action : Action) → IsTrue (are_distinct (branch_names w.branches)) → accepted_with (step w action).0 ≡ 0 → (step w action).1 ≡ w
 unfolding step
 step_stays w (New branch) d z = opened_stays w branch (empty_plan w.duration) None z
 step_stays w (Fork branch source) d z = forked_stays w branch (branch_named w source) z
@@ -128,7 +128,7 @@ step_stays w (Migrate branch model) d z =
     found_stays w branch _ (λ b. migrated_by_tells w.models b (mapping_to w.models w.mappings b.plan.model model)) d z
 step_stays w (Fetch branch) d z = found_stays w branch fetched fetched_tells d z
 step_stays w (Attach branch kept) d z = found_stays w branch (attached kept) (attached_tells kept) d z
-step_stays w (Place branch seen plan) d z = found_stays w branch (placed seen plan) (placed_tells seen plan) d z
+step_stays w (Place branch seen plan) d z = found_stays w branch (placed_branch seen plan) (placed_tells seen plan) d z
 
 -- ---- no revision is above the number of accepted actions
 
@@ -190,7 +190,7 @@ last_put most name revision (e ∷ es) l h = go (slice_cmp nat_cmp name e.0) (la
   where
     go : (o : Ordering) → LastWithin most (remembered es name revision) →
         LastWithin most (match_ordering o ((name, revision) ∷ e ∷ es) ((e.0, revision) ∷ es) (e ∷ insert_entry (slice_cmp nat_cmp) es name revision))
-    go Less more = (l, h.0, h.1)
+    go Less more = (l, h)
     go Equal more = (l, h.1)
     go Greater more = (h.0, more)
 
@@ -261,4 +261,4 @@ step_counts most w (Migrate branch model) h =
     found_counts most w branch _ (λ b. migrated_by_tells w.models b (mapping_to w.models w.mappings b.plan.model model)) h
 step_counts most w (Fetch branch) h = found_counts most w branch fetched fetched_tells h
 step_counts most w (Attach branch kept) h = found_counts most w branch (attached kept) (attached_tells kept) h
-step_counts most w (Place branch seen plan) h = found_counts most w branch (placed seen plan) (placed_tells seen plan) h
+step_counts most w (Place branch seen plan) h = found_counts most w branch (placed_branch seen plan) (placed_tells seen plan) h

@@ -12,7 +12,7 @@ use Rattle.run_data.specs.KeptRuns.{KeptRun}
 use Rattle.hangar_core.specs.declared.branches.Branch.{Branch}
 use Rattle.hangar_core.specs.declared.replies.Reply.{Reply}
 use Rattle.hangar_core.specs.declared.replies.Reply.TheVariants as reply
-use Rattle.hangar_core.specs.Changing.{Told, attached, by_model, edited, fetched, if_edited, if_migrated, mapping_to, migrated, migrated_by, migrated_to, placed, with_plan}
+use Rattle.hangar_core.specs.Changing.{Told, attached, by_model, edited, fetched, if_edited, if_migrated, mapping_to, migrated_branch, migrated_by, migrated_to, placed_branch, with_plan}
 
 -- the name stays, the revision does not fall, and where it stays the plan stays
 pub record Follows (before after : Branch) : Type 0 where
@@ -48,7 +48,7 @@ migrated_by_follows : (models : List Parts) (branch : Branch) (mapping : Option 
 migrated_by_follows models branch None = itself branch
 migrated_by_follows models branch (Some mapping) = migrated_to_follows branch mapping (slice_get models mapping.to)
 
-pub migrated_follows : (models : List Parts) (mappings : List Mapping) (name : List ℕ) (branch : Branch) → Follows branch (migrated models mappings name branch).1
+pub migrated_follows : (models : List Parts) (mappings : List Mapping) (name : List ℕ) (branch : Branch) → Follows branch (migrated_branch models mappings name branch).1
 migrated_follows models mappings name branch = migrated_by_follows models branch (mapping_to models mappings branch.plan.model name)
 
 pub attached_follows : (kept : KeptRun) (branch : Branch) → Follows branch (attached kept branch).1
@@ -57,7 +57,7 @@ attached_follows kept branch = record { name = refl; rises = omega arith; plan =
 abbrev FollowsTold : Branch → Told → Type 0
 FollowsTold branch told = Follows branch told.1
 
-pub placed_follows : (seen : ℕ) (plan : Plan) (branch : Branch) → Follows branch (placed seen plan branch).1
+pub placed_follows : (seen : ℕ) (plan : Plan) (branch : Branch) → Follows branch (placed_branch seen plan branch).1
 placed_follows seen plan branch = go (nat_eq branch.revision seen)
   where
     go : (r : Bool) → FollowsTold branch (if r then (reply.Placed (branch.revision + 1), with_plan branch plan) else (reply.Stale seen branch.revision, branch))

@@ -12,7 +12,7 @@ use Rattle.hangar_core.specs.declared.replies.Reply.TheVariants.{BranchExists, T
 use Rattle.hangar_core.specs.declared.workspaces.Workspace.{Workspace}
 use Rattle.hangar_core.specs.Workspaces.{branch_limit, branch_named, has_name, on_branch, on_found, with_branch}
 use Rattle.hangar_core.specs.Opening.{LastRevisions, dropped_branch, dropped_where, empty_plan, first_revision, forked, forked_from, last_revision, new_branch, opened, opened_branch, opened_unless, refusal_to_open, remembered, revision_after, without_branch}
-use Rattle.hangar_core.specs.Changing.{Told, attached, edited, fetched, migrated, placed, told_added, told_edited, told_loaded}
+use Rattle.hangar_core.specs.Changing.{Told, attached, edited, fetched, migrated_branch, placed_branch, told_added, told_edited, told_loaded}
 use Rattle.hangar_core.specs.Steps.{step, after_actions}
 use Rattle.hangar_core.specs.laws.Histories.{Meets, RevisionsNeverFall, RevisionsNamePlans}
 use Rattle.hangar_core.proofs.Plain.{none_some, some_same}
@@ -56,15 +56,15 @@ changed_past before name workspace on change follows h = go (branch_named worksp
     go (Some now) e (one k) =
         let now_there : branch_named workspace name ≡ Some now = subst (λ n. branch_named workspace n ≡ Some now) k e in
         let passes : has_name on (change now).1 ≡ true =
-            ap (λ n. same_name n on) (follows now).name ∙ found_passes on workspace.branches now e in
+        ap (λ n. same_name n on) (follows now).name ∙ found_passes on workspace.branches now e in
         let after_there : branch_named (with_branch workspace on (change now).1) name ≡ Some (change now).1 =
-            subst (λ n. branch_named (with_branch workspace on (change now).1) n ≡ Some (change now).1) k
-            (put_found on (change now).1 passes workspace.branches now e) in
+        subst (λ n. branch_named (with_branch workspace on (change now).1) n ≡ Some (change now).1) k
+        (put_found on (change now).1 passes workspace.branches now e) in
         subst (PastOf before workspace.dropped name) (sym after_there)
         (past_on before now (change now).1 (subst (PastOf before workspace.dropped name) now_there h) (follows now))
     go (Some now) e (two n) =
         let passes : has_name on (change now).1 ≡ true =
-            ap (λ n. same_name n on) (follows now).name ∙ found_passes on workspace.branches now e in
+        ap (λ n. same_name n on) (follows now).name ∙ found_passes on workspace.branches now e in
         subst (PastOf before workspace.dropped name) (sym (put_other on name n (change now).1 passes workspace.branches)) h
 
 -- ---- a branch begins
@@ -76,7 +76,7 @@ free_name workspace name e = go (branch_named workspace name) refl
     go None h = h
     go (Some branch) h = absurd (none_some (refusal_to_open workspace name) BranchExists e
         (ap (λ (o : Option Branch). if is_some o then Some BranchExists
-            else if nat_lt (length workspace.branches) branch_limit then None else Some TooManyBranches) h))
+        else if nat_lt (length workspace.branches) branch_limit then None else Some TooManyBranches) h))
 
 opened_past : (before : Branch) (name : List ℕ) (workspace : Workspace) (on : List ℕ) (plan : Plan) (kept : Option KeptRun) →
     IsPast before name workspace → IsPast before name (opened workspace on plan kept).1
@@ -88,9 +88,9 @@ opened_past before name workspace on plan kept h = go (refusal_to_open workspace
     go None e (one k) =
         let free : branch_named workspace on ≡ None = free_name workspace on e in
         let there = subst (λ n. branch_named (opened_unless workspace on plan kept None).1 n ≡ Some (opened_branch workspace on plan kept)) k
-            (last_found on workspace.branches (opened_branch workspace on plan kept) free (same_when on on refl)) in
+        (last_found on workspace.branches (opened_branch workspace on plan kept) free (same_when on on refl)) in
         let past : before.revision < first_revision workspace.dropped name =
-            subst (PastOf before workspace.dropped name) (subst (λ n. branch_named workspace n ≡ None) k free) h in
+        subst (PastOf before workspace.dropped name) (subst (λ n. branch_named workspace n ≡ None) k free) h in
         let own : first_revision workspace.dropped on ≡ first_revision workspace.dropped name = ap (first_revision workspace.dropped) k in
         subst (PastOf before workspace.dropped name) (sym there)
         (omega (arith, past, own), λ same. absurd (omega (arith, past, own, same)))
@@ -118,16 +118,16 @@ dropped_past before name workspace on h = go (branch_named workspace on) refl (c
     go None e c = h
     go (Some now) e (one k) =
         let gone : branch_named (without_branch workspace on now.revision) name ≡ None =
-            subst (λ n. branch_named (without_branch workspace on now.revision) n ≡ None) k (none_left on workspace.branches) in
+        subst (λ n. branch_named (without_branch workspace on now.revision) n ≡ None) k (none_left on workspace.branches) in
         let past = subst (PastOf before workspace.dropped name) (subst (λ n. branch_named workspace n ≡ Some now) k e) h in
         let first : first_revision (remembered workspace.dropped on now.revision) name ≡ now.revision + 1 =
-            subst (λ n. first_revision (remembered workspace.dropped on now.revision) n ≡ now.revision + 1) k
-            (ap revision_after (last_of_own on now.revision workspace.dropped)) in
+        subst (λ n. first_revision (remembered workspace.dropped on now.revision) n ≡ now.revision + 1) k
+        (ap revision_after (last_of_own on now.revision workspace.dropped)) in
         subst (PastOf before (remembered workspace.dropped on now.revision) name) (sym gone) (omega (arith, past.0, first))
     go (Some now) e (two n) =
         let still = others_left on name n workspace.branches in
         let first : first_revision (remembered workspace.dropped on now.revision) name ≡ first_revision workspace.dropped name =
-            ap revision_after (last_of_other name on n now.revision workspace.dropped) in
+        ap revision_after (last_of_other name on n now.revision workspace.dropped) in
         subst (PastOf before (remembered workspace.dropped on now.revision) name) (sym still)
         (still_past before workspace.dropped (remembered workspace.dropped on now.revision) name (branch_named workspace name) first h)
 
@@ -147,7 +147,7 @@ step_past before name w (Load branch text) h = changed_past before name w branch
 step_past before name w (Migrate branch model) h = changed_past before name w branch _ (migrated_follows w.models w.mappings model) h
 step_past before name w (Fetch branch) h = changed_past before name w branch fetched itself h
 step_past before name w (Attach branch kept) h = changed_past before name w branch (attached kept) (attached_follows kept) h
-step_past before name w (Place branch seen plan) h = changed_past before name w branch (placed seen plan) (placed_follows seen plan) h
+step_past before name w (Place branch seen plan) h = changed_past before name w branch (placed_branch seen plan) (placed_follows seen plan) h
 
 actions_past : (before : Branch) (name : List ℕ) (workspace : Workspace) (actions : List Action) →
     IsPast before name workspace → IsPast before name (after_actions workspace actions)
@@ -159,7 +159,7 @@ meeting : (workspace : Workspace) (name : List ℕ) (actions : List Action) (bef
     (before.revision ≤ after.revision) × (before.revision ≡ after.revision → before.plan ≡ after.plan)
 meeting workspace name actions before after m =
     let begins : IsPast before name workspace =
-        subst (PastOf before workspace.dropped name) (sym m.now) (omega arith, λ e. refl) in
+    subst (PastOf before workspace.dropped name) (sym m.now) (omega arith, λ e. refl) in
     subst (PastOf before (after_actions workspace actions).dropped name) m.then (actions_past before name workspace actions begins)
 
 pub never_fall : RevisionsNeverFall

@@ -11,9 +11,9 @@ use Rattle.hangar_core.specs.declared.branches.Branch.{Branch}
 use Rattle.hangar_core.specs.declared.workspaces.Workspace.{Workspace}
 use Rattle.hangar_core.specs.Workspaces.{Answered, branch_named, has_name, on_branch, on_found, with_branch}
 use Rattle.hangar_core.specs.Opening.{dropped_branch, dropped_where, without_branch}
-use Rattle.hangar_core.specs.Changing.{Told, attached, edited, fetched, migrated, placed, told_added, told_edited, told_loaded}
+use Rattle.hangar_core.specs.Changing.{Told, attached, edited, fetched, migrated_branch, placed_branch, told_added, told_edited, told_loaded}
 use Rattle.hangar_core.specs.Steps.{step}
-use Rattle.hangar_core.specs.laws.Isolation.{ActsAlikeOn, AreAlikeOn, BranchesAreIsolated, only_branch, OthersStay}
+use Rattle.hangar_core.specs.laws.Isolation.{ActsAlikeOn, AreAlikeOn, BranchesAreIsolated, only_branch, OtherBranchesStay}
 use Rattle.hangar_core.proofs.Plain.{none_some, some_same}
 use Rattle.hangar_core.proofs.Named.{found_passes, put_found, put_other, none_left, others_left}
 use Rattle.hangar_core.proofs.Following.{Follows, itself, edited_follows, migrated_follows, attached_follows, placed_follows}
@@ -43,6 +43,7 @@ made_alike make keeps name w v alike = go (branch_named w name) refl (sym alike.
   where
     same : (now : Branch) → make w.models w.mappings now ≡ make v.models v.mappings now
     same now = ap (λ models. make models w.mappings now) alike.models ∙ ap (λ mappings. make v.models mappings now) alike.mappings
+
     go : (found : Option Branch) → branch_named w name ≡ found → branch_named v name ≡ branch_named w name →
         Alike name (on_branch w name (make w.models w.mappings)) (on_branch v name (make v.models v.mappings))
     go None e f = rw (f, e) record { reply = refl; after = alike }
@@ -105,13 +106,13 @@ steps_alike (Load branch text) name w v e alike =
     (made_alike (λ models mappings. edited models (λ model plan. load_of model plan text) told_loaded) (λ models mappings. edited_follows models _ told_loaded) branch w v) alike
 steps_alike (Migrate branch model) name w v e alike =
     on_own (Migrate branch model) branch name w v e
-    (made_alike (λ models mappings. migrated models mappings model) (λ models mappings. migrated_follows models mappings model) branch w v) alike
+    (made_alike (λ models mappings. migrated_branch models mappings model) (λ models mappings. migrated_follows models mappings model) branch w v) alike
 steps_alike (Fetch branch) name w v e alike =
     on_own (Fetch branch) branch name w v e (made_alike (λ models mappings. fetched) (λ models mappings. itself) branch w v) alike
 steps_alike (Attach branch kept) name w v e alike =
     on_own (Attach branch kept) branch name w v e (made_alike (λ models mappings. attached kept) (λ models mappings. attached_follows kept) branch w v) alike
 steps_alike (Place branch seen plan) name w v e alike =
-    on_own (Place branch seen plan) branch name w v e (made_alike (λ models mappings. placed seen plan) (λ models mappings. placed_follows seen plan) branch w v) alike
+    on_own (Place branch seen plan) branch name w v e (made_alike (λ models mappings. placed_branch seen plan) (λ models mappings. placed_follows seen plan) branch w v) alike
 
 pub isolated : BranchesAreIsolated
 isolated action name w v e alike =
@@ -140,7 +141,7 @@ dropped_others name another n w = go (branch_named w name)
 apart_too : (branch name another : List ℕ) → Some branch ≡ Some name → (name ≡ another → ⊥) → branch ≡ another → ⊥
 apart_too branch name another e n k = n (sym (some_same (Some branch) branch name refl e) ∙ k)
 
-pub others_stay : OthersStay
+pub others_stay : OtherBranchesStay
 unfolding step
 others_stay (New branch) name another w e n = absurd (none_some _ name refl e)
 others_stay (Fork branch source) name another w e n = absurd (none_some _ name refl e)
@@ -153,4 +154,4 @@ others_stay (Load branch text) name another w e n = made_others _ (edited_follow
 others_stay (Migrate branch model) name another w e n = made_others _ (migrated_follows w.models w.mappings model) branch another (apart_too branch name another e n) w
 others_stay (Fetch branch) name another w e n = made_others fetched itself branch another (apart_too branch name another e n) w
 others_stay (Attach branch kept) name another w e n = made_others (attached kept) (attached_follows kept) branch another (apart_too branch name another e n) w
-others_stay (Place branch seen plan) name another w e n = made_others (placed seen plan) (placed_follows seen plan) branch another (apart_too branch name another e n) w
+others_stay (Place branch seen plan) name another w e n = made_others (placed_branch seen plan) (placed_follows seen plan) branch another (apart_too branch name another e n) w

@@ -13,3 +13,4 @@ pub mod Counts
 pub mod KeptFields
 pub mod EditedBranches
 pub mod Working
+pub mod Stepping

@@ -7,7 +7,7 @@ use Rattle.aerie_base.specs.models.Names.{same_name, is_name_among, are_distinct
 use Rattle.hangar_core.specs.declared.branches.Branch.{Branch}
 use Rattle.hangar_core.specs.Workspaces.{has_name, put_where_named}
 use Rattle.hangar_core.specs.Opening.{has_other_name}
-use Rattle.hangar_core.specs.Standing.{names_of}
+use Rattle.hangar_core.specs.Standing.{branch_names}
 use Rattle.hangar_core.proofs.Plain.{cons_head, none_some, some_same}
 
 -- ---- names
@@ -48,6 +48,7 @@ put_found name b same (y ∷ ys) x e = go (has_name name y) refl e (put_found na
   where
     rest : Option Branch
     rest = find (has_name name) (map (put_where_named name b) ys)
+
     go : (r : Bool) → has_name name y ≡ r → cond (has_name name y) (Some y) (find (has_name name) ys) ≡ Some x →
         (find (has_name name) ys ≡ Some x → find (has_name name) (map (put_where_named name b) ys) ≡ Some b) →
         find (has_name name) (map (put_where_named name b) (y ∷ ys)) ≡ Some b

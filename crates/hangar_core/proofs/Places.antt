@@ -6,7 +6,7 @@ use Rattle.aerie_base.specs.models.Names.{same_name, is_name_among, are_distinct
 use Rattle.hangar_core.specs.declared.branches.Branch.{Branch}
 use Rattle.hangar_core.specs.Workspaces.{has_name, put_where_named}
 use Rattle.hangar_core.specs.Opening.{has_other_name}
-use Rattle.hangar_core.specs.Standing.{names_of}
+use Rattle.hangar_core.specs.Standing.{branch_names}
 use Rattle.hangar_core.proofs.Plain.{none_some, some_same}
 use Rattle.hangar_core.proofs.Named.{same_when, name_is, found_passes}
 
@@ -25,24 +25,24 @@ either true b h = absurd (true≢false h)
 either false b h = (refl, h)
 
 -- none of other branches has the name of a branch
-pub none_has : (name : List ℕ) (xs : List Branch) → is_name_among name (names_of xs) ≡ false → find (has_name name) xs ≡ None
+pub none_has : (name : List ℕ) (xs : List Branch) → is_name_among name (branch_names xs) ≡ false → find (has_name name) xs ≡ None
 none_has name [] h = refl
 none_has name (y ∷ ys) h =
-    let parts = either (same_name name y.name) (is_name_among name (names_of ys)) h in
+    let parts = either (same_name name y.name) (is_name_among name (branch_names ys)) h in
     ap (λ s. cond s (Some y) (find (has_name name) ys)) (turned (has_name name y) refl parts.0) ∙ none_has name ys parts.1
   where
     turned : (r : Bool) → has_name name y ≡ r → same_name name y.name ≡ false → has_name name y ≡ false
     turned true e f = absurd (true≢false (sym (same_when name y.name (sym (name_is y.name name e))) ∙ f))
     turned false e f = e
 
-pub absent_name : (name : List ℕ) (xs : List Branch) → find (has_name name) xs ≡ None → is_name_among name (names_of xs) ≡ false
+pub absent_name : (name : List ℕ) (xs : List Branch) → find (has_name name) xs ≡ None → is_name_among name (branch_names xs) ≡ false
 absent_name name [] h = refl
 absent_name name (y ∷ ys) h = go (has_name name y) refl h (absent_name name ys)
   where
     go : (r : Bool) → has_name name y ≡ r → cond (has_name name y) (Some y) (find (has_name name) ys) ≡ None →
-        (find (has_name name) ys ≡ None → is_name_among name (names_of ys) ≡ false) → (same_name name y.name || is_name_among name (names_of ys)) ≡ false
+        (find (has_name name) ys ≡ None → is_name_among name (branch_names ys) ≡ false) → (same_name name y.name || is_name_among name (branch_names ys)) ≡ false
     go true e k more = absurd (none_some (Some y) y (sym (ap (λ s. cond s (Some y) (find (has_name name) ys)) e) ∙ k) refl)
-    go false e k more = ap (λ s. s || is_name_among name (names_of ys)) (turned (same_name name y.name) refl e)
+    go false e k more = ap (λ s. s || is_name_among name (branch_names ys)) (turned (same_name name y.name) refl e)
         ∙ more (sym (ap (λ s. cond s (Some y) (find (has_name name) ys)) e) ∙ k)
       where
         turned : (r : Bool) → same_name name y.name ≡ r → has_name name y ≡ false → same_name name y.name ≡ false
@@ -74,13 +74,13 @@ left_all name (y ∷ ys) h = go (has_name name y) refl h (left_all name ys)
 -- ---- the branch of a name, where names differ
 
 -- behind the branch with a name there is none of it
-none_behind : (name : List ℕ) (y : Branch) (ys : List Branch) → IsTrue (are_distinct (names_of (y ∷ ys))) → has_name name y ≡ true → find (has_name name) ys ≡ None
+none_behind : (name : List ℕ) (y : Branch) (ys : List Branch) → IsTrue (are_distinct (branch_names (y ∷ ys))) → has_name name y ≡ true → find (has_name name) ys ≡ None
 none_behind name y ys d h =
-    let parts = both (not (is_name_among y.name (names_of ys))) (are_distinct (names_of ys)) d in
-    none_has name ys (subst (λ n. is_name_among n (names_of ys) ≡ false) (name_is y.name name h) (is_not (is_name_among y.name (names_of ys)) parts.0))
+    let parts = both (not (is_name_among y.name (branch_names ys))) (are_distinct (branch_names ys)) d in
+    none_has name ys (subst (λ n. is_name_among n (branch_names ys) ≡ false) (name_is y.name name h) (is_not (is_name_among y.name (branch_names ys)) parts.0))
 
-pub distinct_behind : (y : Branch) (ys : List Branch) → IsTrue (are_distinct (names_of (y ∷ ys))) → IsTrue (are_distinct (names_of ys))
-distinct_behind y ys d = (both (not (is_name_among y.name (names_of ys))) (are_distinct (names_of ys)) d).1
+pub distinct_behind : (y : Branch) (ys : List Branch) → IsTrue (are_distinct (branch_names (y ∷ ys))) → IsTrue (are_distinct (branch_names ys))
+distinct_behind y ys d = (both (not (is_name_among y.name (branch_names ys))) (are_distinct (branch_names ys)) d).1
 
 -- at what place it stands
 abbrev IsAt : List ℕ → Branch → List Branch → ℕ → Type 0
@@ -97,7 +97,7 @@ get_passes name (z ∷ zs) (suc at) y g h f = go (has_name name z) refl f (get_p
     go true e k more = none_some (Some z) z (sym (ap (λ s. cond s (Some z) (find (has_name name) zs)) e) ∙ k) refl
     go false e k more = more (sym (ap (λ s. cond s (Some z) (find (has_name name) zs)) e) ∙ k)
 
-place_of : (name : List ℕ) (y : Branch) (ys : List Branch) (at : ℕ) → IsTrue (are_distinct (names_of (y ∷ ys))) → at < length (y ∷ ys) →
+place_of : (name : List ℕ) (y : Branch) (ys : List Branch) (at : ℕ) → IsTrue (are_distinct (branch_names (y ∷ ys))) → at < length (y ∷ ys) →
     slice_get (y ∷ ys) at ≡ find (has_name name) (y ∷ ys) → IsAt name y ys at
 place_of name y ys zero d l e = go (has_name name y) refl e
   where
@@ -110,7 +110,7 @@ place_of name y ys (suc at) d l e = go (has_name name y) refl e
     go true h k = absurd (get_passes name ys at y (k ∙ ap (λ s. cond s (Some y) (find (has_name name) ys)) h) h (none_behind name y ys d h))
     go false h k = (h, k ∙ ap (λ s. cond s (Some y) (find (has_name name) ys)) h)
 
-pub put_is_set : (name : List ℕ) (b : Branch) (xs : List Branch) (at : ℕ) → IsTrue (are_distinct (names_of xs)) → at < length xs →
+pub put_is_set : (name : List ℕ) (b : Branch) (xs : List Branch) (at : ℕ) → IsTrue (are_distinct (branch_names xs)) → at < length xs →
     slice_get xs at ≡ find (has_name name) xs → map (put_where_named name b) xs ≡ set xs at b
 put_is_set name b [] at d l e = absurd (omega (arith, l))
 put_is_set name b (y ∷ ys) at d l e = go at (place_of name y ys at d l e) (λ k f. put_is_set name b ys k (distinct_behind y ys d) f) l
@@ -122,7 +122,7 @@ put_is_set name b (y ∷ ys) at d l e = go at (place_of name y ys at d l e) (λ 
         ap (λ s. cond s b y ∷ map (put_where_named name b) ys) h ∙ ap (λ r. b ∷ r) (put_none name b ys (none_behind name y ys d h))
     go (suc k) (h, f) more l = ap (λ s. cond s b y ∷ map (put_where_named name b) ys) h ∙ ap (λ r. y ∷ r) (more k (omega (arith, l)) f)
 
-pub left_is_removed : (name : List ℕ) (xs : List Branch) (at : ℕ) → IsTrue (are_distinct (names_of xs)) → at < length xs →
+pub left_is_removed : (name : List ℕ) (xs : List Branch) (at : ℕ) → IsTrue (are_distinct (branch_names xs)) → at < length xs →
     slice_get xs at ≡ find (has_name name) xs → filter (has_other_name name) xs ≡ remove xs at
 left_is_removed name [] at d l e = absurd (omega (arith, l))
 left_is_removed name (y ∷ ys) at d l e = go at (place_of name y ys at d l e) (λ k f. left_is_removed name ys k (distinct_behind y ys d) f) l
@@ -136,7 +136,7 @@ left_is_removed name (y ∷ ys) at d l e = go at (place_of name y ys at d l e) (
         ap (λ s. cond (not s) (y ∷ filter (has_other_name name) ys) (filter (has_other_name name) ys)) h ∙ ap (λ r. y ∷ r) (more k (omega (arith, l)) f)
 
 -- a branch put in its own place changes nothing
-pub put_same : (name : List ℕ) (xs : List Branch) (x : Branch) → IsTrue (are_distinct (names_of xs)) → find (has_name name) xs ≡ Some x →
+pub put_same : (name : List ℕ) (xs : List Branch) (x : Branch) → IsTrue (are_distinct (branch_names xs)) → find (has_name name) xs ≡ Some x →
     map (put_where_named name x) xs ≡ xs
 put_same name [] x d e = refl
 put_same name (y ∷ ys) x d e = go (has_name name y) refl e (put_same name ys x (distinct_behind y ys d))

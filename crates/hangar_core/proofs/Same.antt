@@ -9,7 +9,7 @@ use Rattle.hangar_core.specs.declared.workspaces.Workspace.{Workspace}
 use Rattle.hangar_core.specs.Steps.{step}
 use Rattle.hangar_core.specs.declared.commands.Command.{Command}
 use Rattle.hangar_core.specs.declared.entries.Entry.{Entry}
-use Rattle.hangar_core.specs.Fits.{Meanings, IsCommand, IsWorkOf, commands_of, is_of, Fits, triple_of}
+use Rattle.hangar_core.specs.Fits.{Meanings, IsCommand, IsWorkOf, commands_of, is_of_client, Fits, triple_of}
 use Rattle.hangar_core.specs.Journals.{Entries, IsReplay}
 use Rattle.hangar_core.specs.laws.FittingJournals.{FrontsAreReplayed, TriplesTellAll}
 use Rattle.hangar_core.proofs.Plain.{cons_head, cons_tail, some_same, none_some, no_front, cons_nil, seam}
@@ -51,13 +51,13 @@ same_next meanings client n (c ∷ cs) f t1 t2 x1 x2 w1 w2 =
     command_same meanings client n c cs (same_next meanings client (n + 1) cs) f w1.0 w2.0 w1.1 w2.1 t1 t2 x1 x2 [] w1.2 w2.2 w1.3 w2.3 w1.4 w2.4
 
 abbrev WorksIn : Meanings → List (List Command) → Entries → Type 0
-WorksIn meanings clients j = (client : ℕ) → client < length clients → IsWorkOf meanings client 0 (commands_of client clients) (filter (is_of client) j)
+WorksIn meanings clients j = (client : ℕ) → client < length clients → IsWorkOf meanings client 0 (commands_of client clients) (filter (is_of_client client) j)
 
 abbrev NoOther : List (List Command) → Entries → Type 0
 NoOther clients j = (place : ℕ) (x : X) → slice_get j place ≡ Some x → x.0.client < length clients
 
-own_first : (f t : Entries) (x : X) (client : ℕ) → x.0.client ≡ client → filter (is_of client) (f ++ (x ∷ t)) ≡ filter (is_of client) f ++ (x ∷ filter (is_of client) t)
-own_first f t x client e = rw (filter-append (is_of client) f (x ∷ t), eq-eqb x.0.client client e) refl
+own_first : (f t : Entries) (x : X) (client : ℕ) → x.0.client ≡ client → filter (is_of_client client) (f ++ (x ∷ t)) ≡ filter (is_of_client client) f ++ (x ∷ filter (is_of_client client) t)
+own_first f t x client e = rw (filter-append (is_of_client client) f (x ∷ t), eq-eqb x.0.client client e) refl
 
 abbrev client_of : X → ℕ
 client_of x = x.0.client
@@ -72,7 +72,7 @@ same_rest meanings clients w f (x1 ∷ t1) (x2 ∷ t2) r1 r2 w1 w2 o e =
     let k : c < length clients = o (length f) x1 (seam f x1 t1) in
     let d : x2.0.client ≡ c = sym (cons_head _ _ _ _ e) in
     let W : Entries → Type 0 = IsWorkOf meanings c 0 (commands_of c clients) in
-    let a : x1.0 ≡ x2.0 = same_next meanings c 0 (commands_of c clients) (filter (is_of c) f) (filter (is_of c) t1) (filter (is_of c) t2) x1 x2
+    let a : x1.0 ≡ x2.0 = same_next meanings c 0 (commands_of c clients) (filter (is_of_client c) f) (filter (is_of_client c) t1) (filter (is_of_client c) t2) x1 x2
     (subst W (own_first f t1 x1 c refl) (w1 c k)) (subst W (own_first f t2 x2 c d) (w2 c k)) in
     let b : x1.1 ≡ x2.1 = r1.0 ∙ ap (λ (z : Entry). (step w z.action).0) a ∙ sym r2.0 in
     let g : x1 ≡ x2 = pair_same x1 x2 a b in

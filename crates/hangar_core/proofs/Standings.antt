@@ -7,7 +7,7 @@ use Rattle.aerie_base.specs.models.NameLaws.{among_appended, distinct_appended}
 use Rattle.hangar_core.specs.declared.branches.Branch.{Branch}
 use Rattle.hangar_core.specs.Workspaces.{has_name, put_where_named}
 use Rattle.hangar_core.specs.Opening.{has_other_name}
-use Rattle.hangar_core.specs.Standing.{names_of}
+use Rattle.hangar_core.specs.Standing.{branch_names}
 use Rattle.hangar_core.proofs.Plain.{none_some, some_same}
 use Rattle.hangar_core.proofs.Named.{name_is, same_when}
 use Rattle.hangar_core.proofs.Places.{absent_name, both, is_not}
@@ -37,13 +37,13 @@ module _ {X : Type 0} (P : X → Type 0) where
 
 -- ---- names
 
-pub names_set : (xs : List Branch) (at : ℕ) (old new : Branch) → slice_get xs at ≡ Some old → new.name ≡ old.name → names_of (set xs at new) ≡ names_of xs
+pub names_set : (xs : List Branch) (at : ℕ) (old new : Branch) → slice_get xs at ≡ Some old → new.name ≡ old.name → branch_names (set xs at new) ≡ branch_names xs
 names_set [] at old new e n = refl
 names_set (y ∷ ys) zero old new e n =
-    ap (λ (name : List ℕ). name ∷ names_of ys) (n ∙ sym (ap (λ (b : Branch). b.name) (some_same (Some y) y old refl e)))
+    ap (λ (name : List ℕ). name ∷ branch_names ys) (n ∙ sym (ap (λ (b : Branch). b.name) (some_same (Some y) y old refl e)))
 names_set (y ∷ ys) (suc at) old new e n = ap (λ (names : List (List ℕ)). y.name ∷ names) (names_set ys at old new e n)
 
-names_added : (xs : List Branch) (x : Branch) → names_of (xs ++ x ∷ []) ≡ names_of xs ++ x.name ∷ []
+names_added : (xs : List Branch) (x : Branch) → branch_names (xs ++ x ∷ []) ≡ branch_names xs ++ x.name ∷ []
 names_added [] x = refl
 names_added (y ∷ ys) x = ap (λ (names : List (List ℕ)). y.name ∷ names) (names_added ys x)
 
@@ -62,7 +62,7 @@ none_among name (y ∷ ys) (suc at) h = go (same_name name y) h (none_among name
     go true k more = absurd (true≢false k)
     go false k more = more k
 
-removed_names : (xs : List Branch) (at : ℕ) → names_of (remove xs at) ≡ remove (names_of xs) at
+removed_names : (xs : List Branch) (at : ℕ) → branch_names (remove xs at) ≡ remove (branch_names xs) at
 removed_names [] zero = refl
 removed_names [] (suc at) = refl
 removed_names (y ∷ ys) zero = refl
@@ -76,8 +76,8 @@ distinct_left (y ∷ ys) (suc at) h =
     let parts = both (not (is_name_among y ys)) (are_distinct ys) h in
     ap (λ r. not r && are_distinct (remove ys at)) (none_among y ys at (is_not (is_name_among y ys) parts.0)) ∙ distinct_left ys at parts.1
 
-pub distinct_removed : (xs : List Branch) (at : ℕ) → IsTrue (are_distinct (names_of xs)) → IsTrue (are_distinct (names_of (remove xs at)))
-distinct_removed xs at h = subst (λ names. IsTrue (are_distinct names)) (sym (removed_names xs at)) (distinct_left (names_of xs) at h)
+pub distinct_removed : (xs : List Branch) (at : ℕ) → IsTrue (are_distinct (branch_names xs)) → IsTrue (are_distinct (branch_names (remove xs at)))
+distinct_removed xs at h = subst (λ names. IsTrue (are_distinct names)) (sym (removed_names xs at)) (distinct_left (branch_names xs) at h)
 
 distinct_added : (names : List (List ℕ)) (name : List ℕ) → IsTrue (are_distinct names) → is_name_among name names ≡ false → IsTrue (are_distinct (names ++ name ∷ []))
 distinct_added [] name h n = refl
@@ -91,17 +91,18 @@ distinct_added (y ∷ ys) name h n =
         own : (x : List ℕ) → same_name x x ≡ true
         own x = same_when x x refl
     apart false e f = e
+
     go : (r : Bool) → same_name name y ≡ r → (r || is_name_among name ys) ≡ false → (not (is_name_among y ys) ≡ true) × (are_distinct ys ≡ true) →
         (is_name_among name ys ≡ false → IsTrue (are_distinct (ys ++ name ∷ []))) → IsTrue (are_distinct ((y ∷ ys) ++ name ∷ []))
     go true e k parts more = absurd (true≢false k)
     go false e k parts more =
         let here : is_name_among y (ys ++ name ∷ []) ≡ false =
-            among_appended y ys (name ∷ [])
-            ∙ ap (λ r. r || is_name_among y (name ∷ [])) (is_not (is_name_among y ys) parts.0)
-            ∙ ap (λ r. r || false) (apart (same_name y name) refl e) in
+        among_appended y ys (name ∷ [])
+        ∙ ap (λ r. r || is_name_among y (name ∷ [])) (is_not (is_name_among y ys) parts.0)
+        ∙ ap (λ r. r || false) (apart (same_name y name) refl e) in
         ap (λ r. not r && are_distinct (ys ++ name ∷ [])) here ∙ more k
 
-pub distinct_opened : (xs : List Branch) (x : Branch) → IsTrue (are_distinct (names_of xs)) → find (has_name x.name) xs ≡ None →
-    IsTrue (are_distinct (names_of (xs ++ x ∷ [])))
+pub distinct_opened : (xs : List Branch) (x : Branch) → IsTrue (are_distinct (branch_names xs)) → find (has_name x.name) xs ≡ None →
+    IsTrue (are_distinct (branch_names (xs ++ x ∷ [])))
 distinct_opened xs x h n =
-    subst (λ names. IsTrue (are_distinct names)) (sym (names_added xs x)) (distinct_added (names_of xs) x.name h (absent_name x.name xs n))
+    subst (λ names. IsTrue (are_distinct names)) (sym (names_added xs x)) (distinct_added (branch_names xs) x.name h (absent_name x.name xs n))

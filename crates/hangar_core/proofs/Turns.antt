@@ -5,16 +5,16 @@ use Rattle.std.proofs.lemmas.List.Elements.{filter-append}
 use Rattle.std.proofs.lemmas.Bool.{eq-eqb, ne_eqb}
 use Rattle.hangar_core.specs.declared.commands.Command.{Command}
 use Rattle.hangar_core.specs.Fits.{commands_of}
-use Rattle.hangar_core.specs.Serial.{Turn, heads, tail, longest, turns}
+use Rattle.hangar_core.specs.Serial.{ClientTurn, heads, later_commands, longest, turns}
 
-abbrev pub turn_is : ℕ → Turn → Bool
+abbrev pub turn_is : ℕ → ClientTurn → Bool
 turn_is i t = nat_eq t.client i
 
-abbrev pub numbered : ℕ → ℕ → List Command → List Turn
+abbrev pub numbered : ℕ → ℕ → List Command → List ClientTurn
 numbered i n [] = []
 numbered i n (c ∷ cs) = record { client = i; number = n; command = c } ∷ numbered i (n + 1) cs
 
-abbrev one_of : ℕ → ℕ → List Command → List Turn
+abbrev one_of : ℕ → ℕ → List Command → List ClientTurn
 one_of i n [] = []
 one_of i n (c ∷ cs) = record { client = i; number = n; command = c } ∷ []
 
@@ -37,16 +37,16 @@ heads_own n first i (suc j) ((c ∷ cs) ∷ css) h =
     let e : nat_eq first i ≡ false = ne_eqb first i (λ k. omega (arith, h, k)) in
     rw e (heads_own n (first + 1) i j css (omega (arith, h)))
 
-commands_tail : (j : ℕ) (css : List (List Command)) → commands_of j (map tail css) ≡ tail (commands_of j css)
+commands_tail : (j : ℕ) (css : List (List Command)) → commands_of j (map later_commands css) ≡ later_commands (commands_of j css)
 commands_tail j [] = refl
 commands_tail zero (cs ∷ css) = refl
 commands_tail (suc j) (cs ∷ css) = commands_tail j css
 
-joined : (i n : ℕ) (cs : List Command) → one_of i n cs ++ numbered i (n + 1) (tail cs) ≡ numbered i n cs
+joined : (i n : ℕ) (cs : List Command) → one_of i n cs ++ numbered i (n + 1) (later_commands cs) ≡ numbered i n cs
 joined i n [] = refl
 joined i n (c ∷ cs) = refl
 
-shorter : (k : ℕ) (cs : List Command) → length cs ≤ suc k → length (tail cs) ≤ k
+shorter : (k : ℕ) (cs : List Command) → length cs ≤ suc k → length (later_commands cs) ≤ k
 shorter k [] h = omega arith
 shorter k (c ∷ cs) h = omega (arith, h)
 
@@ -57,13 +57,13 @@ none_left i n (c ∷ cs) h = absurd (omega (arith, h))
 pub turns_own : (k n i : ℕ) (css : List (List Command)) → length (commands_of i css) ≤ k → filter (turn_is i) (turns k n css) ≡ numbered i n (commands_of i css)
 turns_own zero n i css h = none_left i n (commands_of i css) h
 turns_own (suc k) n i css h =
-    let t : commands_of i (map tail css) ≡ tail (commands_of i css) = commands_tail i css in
+    let t : commands_of i (map later_commands css) ≡ later_commands (commands_of i css) = commands_tail i css in
     let a : filter (turn_is i) (heads n 0 css) ≡ one_of i n (commands_of i css) = heads_own n 0 i i css (omega arith) in
-    let b : filter (turn_is i) (turns k (n + 1) (map tail css)) ≡ numbered i (n + 1) (tail (commands_of i css)) =
-    turns_own k (n + 1) i (map tail css) (subst (λ (l : List Command). length l ≤ k) (sym t) (shorter k (commands_of i css) h)) ∙ ap (numbered i (n + 1)) t in
-    filter-append (turn_is i) (heads n 0 css) (turns k (n + 1) (map tail css))
-    ∙ ap (λ (l : List Turn). l ++ filter (turn_is i) (turns k (n + 1) (map tail css))) a
-    ∙ ap (λ (l : List Turn). one_of i n (commands_of i css) ++ l) b
+    let b : filter (turn_is i) (turns k (n + 1) (map later_commands css)) ≡ numbered i (n + 1) (later_commands (commands_of i css)) =
+    turns_own k (n + 1) i (map later_commands css) (subst (λ (l : List Command). length l ≤ k) (sym t) (shorter k (commands_of i css) h)) ∙ ap (numbered i (n + 1)) t in
+    filter-append (turn_is i) (heads n 0 css) (turns k (n + 1) (map later_commands css))
+    ∙ ap (λ (l : List ClientTurn). l ++ filter (turn_is i) (turns k (n + 1) (map later_commands css))) a
+    ∙ ap (λ (l : List ClientTurn). one_of i n (commands_of i css) ++ l) b
     ∙ joined i n (commands_of i css)
 
 pub longest_enough : (i : ℕ) (css : List (List Command)) → length (commands_of i css) ≤ longest css

@@ -11,14 +11,14 @@ use Rattle.aerie_base.specs.models.Names.{are_distinct}
 use Rattle.aerie_base.specs.plans.OfModel.{IsPlanOf}
 use Rattle.plan_edit.specs.declared.mappings.Mapping.{Mapping}
 use Rattle.hangar_core.specs.declared.branches.Branch.{Branch}
-use Rattle.hangar_core.specs.declared.changes.Change.{Change}
+use Rattle.hangar_core.specs.declared.changes.BranchChange.{BranchChange}
 use Rattle.hangar_core.specs.declared.replies.Reply.{Reply}
 use Rattle.hangar_core.specs.declared.replies.Reply.TheVariants as reply
 use Rattle.hangar_core.specs.declared.workspaces.Workspace.{Workspace}
 use Rattle.hangar_core.specs.Changing.{Told}
 use Rattle.hangar_core.specs.Edits.{change_of, IsMadeAt, IsMadeWhere, IsRevisionOf}
 use Rattle.hangar_core.specs.Opening.{dropped_where, empty_plan, has_other_name, IsForkOf, LastRevisions, refusal_to_open, remembered}
-use Rattle.hangar_core.specs.Standing.{AreRevisionsWithin, IsBranchIn, IsChangeOn, IsPlanAmong, IsPlanIn, IsWorkspace, MayChange, names_of}
+use Rattle.hangar_core.specs.Standing.{AreRevisionsWithin, IsBranchIn, IsChangeOn, IsPlanAmong, IsPlanIn, IsWorkspace, MayChange, branch_names}
 use Rattle.hangar_core.specs.Workspaces.{Answered, branch_limit, branch_named, changed_to, has_name, on_branch, on_found, put_where_named}
 use Rattle.hangar_core.proofs.Plain.{none_some, some_same}
 use Rattle.hangar_core.proofs.Named.{found_passes}
@@ -138,7 +138,7 @@ may_change models duration w at h few l =
     let own = all_get (λ branch. branch.revision ≤ 9_223_372_036_854_775_807) w.branches at read.0 few.branches read.1 in
     subst (MayChange models) (sym read.1) ((all_get (IsBranchIn models duration) w.branches at read.0 h read.1).plan.among, omega (arith, own))
 
-made_on : (w : Workspace) (name : List ℕ) (at : ℕ) (change : Change) (branches : List Branch) (told : Reply) → IsTrue (are_distinct (names_of w.branches)) →
+made_on : (w : Workspace) (name : List ℕ) (at : ℕ) (change : BranchChange) (branches : List Branch) (told : Reply) → IsTrue (are_distinct (branch_names w.branches)) →
     at < length w.branches → slice_get w.branches at ≡ branch_named w name → IsMadeAt w.models w.mappings change at w.branches branches told →
     ◌≡◌ {A = Answered} (told, record w { branches = branches }) (on_branch w name (change_of w.models w.mappings change))
 made_on w name at change branches told d l found made =
@@ -150,21 +150,21 @@ made_on w name at change branches told d l found made =
     ∙ ap (λ (bs : List Branch). answered (change_of w.models w.mappings change read.0).0 (record w { branches = bs })) put
     ∙ sym (ap (on_found w name (change_of w.models w.mappings change)) (sym found ∙ read.1))
 
-pub on_made : (result : Result Reply OutOfMemory) (w : Workspace) (name : List ℕ) (at : ℕ) (change : Change) (branches : List Branch) →
+pub on_made : (result : Result Reply OutOfMemory) (w : Workspace) (name : List ℕ) (at : ℕ) (change : BranchChange) (branches : List Branch) →
     IsWorkspace w → at < length w.branches → slice_get w.branches at ≡ branch_named w name →
     IfOk result (λ (told : Reply). IsMadeAt w.models w.mappings change at w.branches branches told) →
     IfOk result (λ (told : Reply). ◌≡◌ {A = Answered} (told, record w { branches = branches }) (on_branch w name (change_of w.models w.mappings change)))
 on_made (Ok told) w name at change branches h l found made = made_on w name at change branches told h.names l found made
 on_made (Err memory) w name at change branches h l found made = tt
 
-same_length : (xs ys : List Branch) → names_of xs ≡ names_of ys → length xs ≡ length ys
+same_length : (xs ys : List Branch) → branch_names xs ≡ branch_names ys → length xs ≡ length ys
 same_length xs ys e = sym (long xs) ∙ ap length e ∙ long ys
   where
-    long : (zs : List Branch) → length (names_of zs) ≡ length zs
+    long : (zs : List Branch) → length (branch_names zs) ≡ length zs
     long [] = refl
     long (z ∷ zs) = ap suc (long zs)
 
-pub on_stands : (w : Workspace) (branches : List Branch) → IsWorkspace w → names_of branches ≡ names_of w.branches →
+pub on_stands : (w : Workspace) (branches : List Branch) → IsWorkspace w → branch_names branches ≡ branch_names w.branches →
     AllByRecursion (IsBranchIn w.models w.duration) branches → IsWorkspace (record w { branches = branches })
 on_stands w branches h names stands = record {
   among = h.among;
@@ -176,7 +176,7 @@ on_stands w branches h names stands = record {
 
 -- ---- as the code shows its parts
 
-pub shown_made : (result : Result Reply OutOfMemory) (w : Workspace) (name : List ℕ) (at : ℕ) (change : Change) (branches : List Branch) →
+pub shown_made : (result : Result Reply OutOfMemory) (w : Workspace) (name : List ℕ) (at : ℕ) (change : BranchChange) (branches : List Branch) →
     IsWorkspace w → (models : List Parts) (mappings : List Mapping) (shown : List Branch) → models ≡ w.models → mappings ≡ w.mappings → shown ≡ w.branches →
     at < length shown → slice_get shown at ≡ find (has_name name) shown →
     IfOk result (λ (told : Reply). IsMadeAt models mappings change at w.branches branches told) →
@@ -189,7 +189,7 @@ shown_made result w name at change branches h models mappings shown e f g l foun
     (subst (λ (mp : List Mapping). IfOk result (λ (told : Reply). IsMadeAt models mp change at w.branches branches told)) f made))
 
 pub shown_stands : (w : Workspace) (branches : List Branch) → IsWorkspace w → (models : List Parts) → models ≡ w.models →
-    names_of branches ≡ names_of w.branches → (change : Change) → IsChangeOn w.models w.duration change →
+    branch_names branches ≡ branch_names w.branches → (change : BranchChange) → IsChangeOn w.models w.duration change →
     ((duration : ℕ) → IsChangeOn models duration change → AllByRecursion (IsBranchIn models duration) w.branches → AllByRecursion (IsBranchIn models duration) branches) →
     IsWorkspace (record w { branches = branches })
 shown_stands w branches h models e names change on stays =
@@ -208,7 +208,7 @@ changed_stays models duration shown now at old new e l is stays h =
     (slice_get_read shown (length shown) at old refl (subst (λ (bs : List Branch). at < length bs) (sym e) l) is)))
 
 pub changed_names : (shown now : List Branch) (at : ℕ) (old new : Branch) → shown ≡ now → at < length now →
-    old ≡ slice_index_or shown at old → new.name ≡ old.name → names_of (set shown at new) ≡ names_of now
+    old ≡ slice_index_or shown at old → new.name ≡ old.name → branch_names (set shown at new) ≡ branch_names now
 changed_names shown now at old new e l is n =
     names_set shown at old new (slice_get_read shown (length shown) at old refl (subst (λ (bs : List Branch). at < length bs) (sym e) l) is) n
-    ∙ ap names_of e
+    ∙ ap branch_names e

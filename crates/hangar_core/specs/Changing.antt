@@ -82,8 +82,8 @@ migrated_by models branch None = (NoMapping, branch)
 migrated_by models branch (Some mapping) = migrated_to branch mapping (slice_get models mapping.to)
 
 -- Migrate: the plan in the model with a name; the kept run stays
-abbrev pub migrated : List Parts → List Mapping → List ℕ → Branch → Told
-migrated models mappings name branch = migrated_by models branch (mapping_to models mappings branch.plan.model name)
+abbrev pub migrated_branch : List Parts → List Mapping → List ℕ → Branch → Told
+migrated_branch models mappings name branch = migrated_by models branch (mapping_to models mappings branch.plan.model name)
 
 -- ---- reading, keeping, placing
 
@@ -96,7 +96,7 @@ abbrev pub attached : KeptRun → Branch → Told
 attached kept branch = (Attached, record branch { kept = Some kept })
 
 -- Place: another plan, where the revision is the one that was seen
-abbrev pub placed : ℕ → Plan → Branch → Told
-placed seen plan branch =
+abbrev pub placed_branch : ℕ → Plan → Branch → Told
+placed_branch seen plan branch =
     if nat_eq branch.revision seen then (Placed (branch.revision + 1), with_plan branch plan)
     else (Stale seen branch.revision, branch)

@@ -7,15 +7,15 @@ use Rattle.plan_edit.specs.declared.errors.EditError.{EditError}
 use Rattle.plan_edit.specs.declared.errors.EditError.TheVariants as error
 use Rattle.plan_edit.specs.Editing.{add_of, remove_of, move_of, set_of}
 use Rattle.plan_edit.specs.Loading.{load_of}
-use Rattle.hangar_core.specs.declared.changes.Change.{Change}
-use Rattle.hangar_core.specs.declared.changes.Change.TheVariants as change
+use Rattle.hangar_core.specs.declared.changes.BranchChange.{BranchChange}
+use Rattle.hangar_core.specs.declared.changes.BranchChange.TheVariants as change
 use Rattle.hangar_core.specs.declared.edits.Edit.{Edit}
 use Rattle.hangar_core.specs.declared.edits.Edit.TheVariants.{Add, Remove, Move, Set, Load}
 use Rattle.hangar_core.specs.declared.branches.Branch.{Branch}
 use Rattle.hangar_core.specs.declared.replies.Reply.{Reply}
 use Rattle.hangar_core.specs.declared.replies.Reply.TheVariants as told
 use Rattle.plan_edit.specs.declared.mappings.Mapping.{Mapping}
-use Rattle.hangar_core.specs.Changing.{Told, attached, edited, fetched, migrated, placed, told_added, told_edited, told_loaded}
+use Rattle.hangar_core.specs.Changing.{Told, attached, edited, fetched, migrated_branch, placed_branch, told_added, told_edited, told_loaded}
 
 -- the edited plan, by its model
 abbrev pub edit_of : Edit → Parts → Plan → Result Plan EditError
@@ -39,22 +39,22 @@ IsToldRefusal refusal (Ok reply) = (reply ≡ told.Edit refusal) × (refusal ≡
 IsToldRefusal refusal (Err memory) = Unit {0}
 
 -- what becomes of a branch by a change
-abbrev pub change_of : List Parts → List Mapping → Change → Branch → Told
+abbrev pub change_of : List Parts → List Mapping → BranchChange → Branch → Told
 change_of models mappings (change.Edit edit) = edited models (edit_of edit) (told_of edit)
-change_of models mappings (change.Migrate model) = migrated models mappings model
+change_of models mappings (change.Migrate model) = migrated_branch models mappings model
 change_of models mappings change.Fetch = fetched
 change_of models mappings (change.Attach kept) = attached kept
-change_of models mappings (change.Place seen plan) = placed seen plan
+change_of models mappings (change.Place seen plan) = placed_branch seen plan
 
 -- what becomes of the branch at a place by a change; all others stay
 abbrev pub IsMadeOf : Told → ℕ → List Branch → List Branch → Reply → Type 0
 IsMadeOf made at before after reply = (reply ≡ made.0) × (after ≡ set before at made.1)
 
-abbrev pub IsMadeWhere : List Parts → List Mapping → Change → ℕ → List Branch → List Branch → Reply → Option Branch → Type 0
+abbrev pub IsMadeWhere : List Parts → List Mapping → BranchChange → ℕ → List Branch → List Branch → Reply → Option Branch → Type 0
 IsMadeWhere models mappings change at before after reply None = ⊥
 IsMadeWhere models mappings change at before after reply (Some branch) = IsMadeOf (change_of models mappings change branch) at before after reply
 
-abbrev pub IsMadeAt : List Parts → List Mapping → Change → ℕ → List Branch → List Branch → Reply → Type 0
+abbrev pub IsMadeAt : List Parts → List Mapping → BranchChange → ℕ → List Branch → List Branch → Reply → Type 0
 IsMadeAt models mappings change at before after reply = IsMadeWhere models mappings change at before after reply (slice_get before at)
 
 abbrev pub IsRevisionOf : ℕ → Option Branch → Type 0

@@ -51,7 +51,7 @@ merge_next meanings target source base first [] = on_fetched first (λ seen plan
 merge_next meanings target source base first (second ∷ []) = on_fetched second (λ revision plan. Some (action.Fetch base))
 merge_next meanings target source base first (second ∷ third ∷ []) =
     on_fetched first (λ seen target_plan. on_fetched second (λ _ source_plan. on_fetched third (λ _ base_plan.
-        place_merged target seen (meanings.merged base_plan source_plan target_plan))))
+    place_merged target seen (meanings.merged base_plan source_plan target_plan))))
 merge_next meanings target source base first (second ∷ third ∷ fourth ∷ replies) = None
 
 -- what a command does behind its first action, by the reply to that one and those to what it did since
@@ -102,15 +102,15 @@ commands_of client [] = []
 commands_of zero (commands ∷ others) = commands
 commands_of (suc client) (commands ∷ others) = commands_of client others
 
-abbrev pub is_of : ℕ → Entry × Reply → Bool
-is_of client x = nat_eq x.0.client client
+abbrev pub is_of_client : ℕ → Entry × Reply → Bool
+is_of_client client x = nat_eq x.0.client client
 
 -- a journal fits the commands of some clients, from a workspace on: its replies are the workspace's, each client's entries are
 -- those of its commands, each once and in order, and there are no others
 pub record Fits (meanings : Meanings) (first : Workspace) (clients : List (List Command)) (entries : Entries) : Type 0 where
   pub replayed : IsReplay first entries
   pub works : (client : ℕ) → client < length clients →
-      IsWorkOf meanings client 0 (commands_of client clients) (filter (is_of client) entries)
+      IsWorkOf meanings client 0 (commands_of client clients) (filter (is_of_client client) entries)
   pub no_other : (place : ℕ) (x : Entry × Reply) → slice_get entries place ≡ Some x → x.0.client < length clients
 
 -- whose part of which command each entry is

@@ -90,9 +90,9 @@ has_other_name name branch = not (has_name name branch)
 -- every branch but the one with a name, whose revision is remembered
 abbrev pub without_branch : Workspace → List ℕ → ℕ → Workspace
 without_branch workspace name revision = record workspace {
-    branches = filter (has_other_name name) workspace.branches;
-    dropped = remembered workspace.dropped name revision
-  }
+  branches = filter (has_other_name name) workspace.branches;
+  dropped = remembered workspace.dropped name revision;
+}
 
 abbrev pub dropped_where : Workspace → List ℕ → Option Branch → Answered
 dropped_where workspace name None = refused workspace NoBranch

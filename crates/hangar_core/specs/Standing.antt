@@ -11,8 +11,8 @@ use Rattle.run_data.specs.KeptRuns.{KeptRun}
 use Rattle.hangar_core.specs.declared.actions.Action.{Action}
 use Rattle.hangar_core.specs.declared.actions.Action.TheVariants.{New, Fork, Drop, Add, Remove, Move, Set, Load, Migrate, Fetch, Attach, Place}
 use Rattle.hangar_core.specs.declared.branches.Branch.{Branch}
-use Rattle.hangar_core.specs.declared.changes.Change.{Change}
-use Rattle.hangar_core.specs.declared.changes.Change.TheVariants as change
+use Rattle.hangar_core.specs.declared.changes.BranchChange.{BranchChange}
+use Rattle.hangar_core.specs.declared.changes.BranchChange.TheVariants as change
 use Rattle.hangar_core.specs.declared.replies.Reply.{Reply}
 use Rattle.hangar_core.specs.declared.replies.Reply.TheVariants as reply
 use Rattle.hangar_core.specs.declared.workspaces.Workspace.{Workspace}
@@ -42,9 +42,9 @@ pub record IsKeptIn (models : List Parts) (kept : KeptRun) : Type 0 where
   pub place : ℕ
   pub of_model : slice_get models place ≡ Some kept.model
 
-abbrev pub AreKeptIn : List Parts → Option KeptRun → Type 0
-AreKeptIn models None = Unit {0}
-AreKeptIn models (Some kept) = IsKeptIn models kept
+abbrev pub IsKeptIfAny : List Parts → Option KeptRun → Type 0
+IsKeptIfAny models None = Unit {0}
+IsKeptIfAny models (Some kept) = IsKeptIn models kept
 
 -- a mapping from one of the models to one of them
 pub record IsMappingIn (models : List Parts) (mapping : Mapping) : Type 0 where
@@ -56,7 +56,7 @@ pub record IsMappingIn (models : List Parts) (mapping : Mapping) : Type 0 where
 
 pub record IsBranchIn (models : List Parts) (duration : ℕ) (branch : Branch) : Type 0 where
   pub plan : IsPlanIn models duration branch.plan
-  pub kept : AreKeptIn models branch.kept
+  pub kept : IsKeptIfAny models branch.kept
 
 -- 1 to 4 models of different names, and mappings between them
 pub record AreModels (models : List Parts) (mappings : List Mapping) : Type 0 where
@@ -65,26 +65,26 @@ pub record AreModels (models : List Parts) (mappings : List Mapping) : Type 0 wh
   pub names : IsTrue (are_distinct (map (λ model. model.name) models))
   pub between : AllByRecursion (IsMappingIn models) mappings
 
-abbrev pub names_of : List Branch → List (List ℕ)
-names_of branches = map (λ branch. branch.name) branches
+abbrev pub branch_names : List Branch → List (List ℕ)
+branch_names branches = map (λ branch. branch.name) branches
 
 -- models and mappings, and at most 64 branches of different names, each with a plan and a kept run of one of the models
 pub record IsWorkspace (workspace : Workspace) : Type 0 where
   pub among : AreModels workspace.models workspace.mappings
   pub lasts : 1 ≤ workspace.duration
   pub few : length workspace.branches ≤ branch_limit
-  pub names : IsTrue (are_distinct (names_of workspace.branches))
+  pub names : IsTrue (are_distinct (branch_names workspace.branches))
   pub branches : AllByRecursion (IsBranchIn workspace.models workspace.duration) workspace.branches
 
 -- the workspace with which a session begins: one branch, at revision 0 and with no kept run
 abbrev pub first_workspace : List Parts → List Mapping → List ℕ → Plan → Workspace
 first_workspace models mappings name plan = record {
-    models = models;
-    mappings = mappings;
-    duration = plan.duration;
-    branches = record { name = name; revision = 0; plan = plan; kept = None } ∷ [];
-    dropped = []
-  }
+  models = models;
+  mappings = mappings;
+  duration = plan.duration;
+  branches = record { name = name; revision = 0; plan = plan; kept = None } ∷ [];
+  dropped = [];
+}
 
 -- ---- how many actions were accepted
 
@@ -121,7 +121,7 @@ IsActionOn workspace (Attach branch kept) = IsKeptIn workspace.models kept
 IsActionOn workspace (Place branch seen plan) = IsPlanIn workspace.models workspace.duration plan
 
 -- a change of a branch, likewise
-abbrev pub IsChangeOn : List Parts → ℕ → Change → Type 0
+abbrev pub IsChangeOn : List Parts → ℕ → BranchChange → Type 0
 IsChangeOn models duration (change.Edit edit) = Unit {0}
 IsChangeOn models duration (change.Migrate model) = Unit {0}
 IsChangeOn models duration change.Fetch = Unit {0}
@@ -135,7 +135,7 @@ MayChange models (Some branch) = IsPlanAmong models branch.plan × (branch.revis
 
 -- what a Fetch answers is of one of the models
 abbrev pub IsReplyOf : List Parts → ℕ → Reply → Type 0
-IsReplyOf models duration (reply.Fetched revision plan kept) = IsPlanIn models duration plan × AreKeptIn models kept
+IsReplyOf models duration (reply.Fetched revision plan kept) = IsPlanIn models duration plan × IsKeptIfAny models kept
 IsReplyOf models duration (reply.Opened revision) = Unit {0}
 IsReplyOf models duration reply.Dropped = Unit {0}
 IsReplyOf models duration (reply.Added id revision) = Unit {0}

@@ -7,7 +7,7 @@ use Rattle.hangar_core.specs.declared.actions.Action.TheVariants.{New, Fork, Dro
 use Rattle.hangar_core.specs.declared.workspaces.Workspace.{Workspace}
 use Rattle.hangar_core.specs.Workspaces.{Answered, on_branch}
 use Rattle.hangar_core.specs.Opening.{new_branch, forked, dropped_branch}
-use Rattle.hangar_core.specs.Changing.{edited, migrated, fetched, attached, placed, told_added, told_edited, told_loaded}
+use Rattle.hangar_core.specs.Changing.{edited, migrated_branch, fetched, attached, placed_branch, told_added, told_edited, told_loaded}
 
 -- one step of the workspace
 unfoldable pub step : Workspace → Action → Answered
@@ -25,10 +25,10 @@ step workspace (Set branch id parameter value) =
 step workspace (Load branch text) =
     on_branch workspace branch (edited workspace.models (λ model plan. load_of model plan text) told_loaded)
 step workspace (Migrate branch model) =
-    on_branch workspace branch (migrated workspace.models workspace.mappings model)
+    on_branch workspace branch (migrated_branch workspace.models workspace.mappings model)
 step workspace (Fetch branch) = on_branch workspace branch fetched
 step workspace (Attach branch kept) = on_branch workspace branch (attached kept)
-step workspace (Place branch seen plan) = on_branch workspace branch (placed seen plan)
+step workspace (Place branch seen plan) = on_branch workspace branch (placed_branch seen plan)
 
 -- the workspace after some actions, one after another
 abbrev pub after_actions : Workspace → List Action → Workspace

@@ -1,7 +1,7 @@
 //! What becomes of a branch by an action on it.
 
 ghost use Rattle.std.specs.Prelude.{◌≡◌, ◌<◌, ◌^◌, ℕ, Some, IfOk, IfSome, OnErr, option_and_then, slice_get, length};
-ghost use Rattle.hangar_core.specs.Changing.{attached as attached_by, edited as edited_by, fetched as fetched_by, is_named as is_named_by, mapping_to as mapping_to_by, migrated as migrated_to_by, migrated_by as migrated_by_mapping, placed as placed_by};
+ghost use Rattle.hangar_core.specs.Changing.{attached as attached_by, edited as edited_by, fetched as fetched_by, is_named as is_named_by, mapping_to as mapping_to_by, migrated_branch as migrated_to_by, migrated_by as migrated_by_mapping, placed_branch as placed_by};
 ghost use Rattle.hangar_core.specs.Edits.{change_of, edit_of, IsToldRefusal, told_of};
 ghost use Rattle.hangar_core.specs.Standing.{AreModels, IsBranchIn, IsChangeOn, IsMappingIn, IsPlanAmong, IsPlanIn};
 
@@ -16,7 +16,7 @@ use std::alloc::Global;
 
 /// An action on a branch, without the branch's name.
 #[derive(Drop)]
-pub enum Change {
+pub enum BranchChange {
     /// An edit of its plan.
     Edit(Edit),
     /// Its plan is taken to the model with a name.
@@ -46,7 +46,7 @@ pub fn changed(
     models: &[Shared<Model>],
     mappings: &[Mapping],
     branch: &mut Branch,
-    change: Change,
+    change: BranchChange,
 ) -> Result<Reply, OutOfMemory>
     requires models { AreModels models.now mappings.now }
     requires plan { IsPlanAmong models.now branch.old.plan }
@@ -57,11 +57,11 @@ pub fn changed(
     ensures name { branch.new.name ≡ branch.old.name }
 {
     match change {
-        Change::Edit(edit) => edited(alloc, models, branch, &edit),
-        Change::Migrate { model } => migrated(alloc, models, mappings, branch, &model),
-        Change::Fetch => fetched(alloc, branch),
-        Change::Attach { kept } => Ok(attached(branch, kept)),
-        Change::Place { seen, plan } => Ok(placed(branch, seen, plan)),
+        BranchChange::Edit(edit) => edited(alloc, models, branch, &edit),
+        BranchChange::Migrate { model } => migrated(alloc, models, mappings, branch, &model),
+        BranchChange::Fetch => fetched(alloc, branch),
+        BranchChange::Attach { kept } => Ok(attached(branch, kept)),
+        BranchChange::Place { seen, plan } => Ok(placed(branch, seen, plan)),
     }
 }
 

@@ -282,12 +282,7 @@ fn migrate(alloc: Global, branch: &Name, model: &Name) -> Result<Command, OutOfM
 }
 
 /// The command to merge the plans of branches.
-fn merge(
-    alloc: Global,
-    target: &Name,
-    source: &Name,
-    base: &Name,
-) -> Result<Command, OutOfMemory>
+fn merge(alloc: Global, target: &Name, source: &Name, base: &Name) -> Result<Command, OutOfMemory>
     ensures { IfOk result (λ made. made ≡ command.Merge target.now source.now base.now) }
 {
     let target = target.copy(alloc)?;

@@ -51,7 +51,7 @@ impl Hangar {
         requires plan { IsPlanAmong models plan }
         ensures opened { IfOk result (λ hangar. hangar ≡ record {
           workspace = first_workspace models mappings branch plan;
-          accepted = 0
+          accepted = 0;
         }) }
     {
         let duration = plan.duration;

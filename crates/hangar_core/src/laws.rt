@@ -2,7 +2,7 @@
 
 ghost use Rattle.hangar_core.specs.laws.FittingJournals.{FrontsAreReplayed, SerialFits, TriplesTellAll};
 ghost use Rattle.hangar_core.specs.laws.Histories.{RevisionsNamePlans, RevisionsNeverFall};
-ghost use Rattle.hangar_core.specs.laws.Isolation.{BranchesAreIsolated, OthersStay};
+ghost use Rattle.hangar_core.specs.laws.Isolation.{BranchesAreIsolated, OtherBranchesStay};
 
 /// Along any list of actions the revisions of a name never fall, also where it is dropped and begun again, and a name and a
 /// revision name at most one plan.
@@ -15,7 +15,7 @@ pub fn revisions_name_plans()
 /// same, and it leaves every other branch as it was.
 pub fn branches_are_isolated()
     ensures alike { BranchesAreIsolated }
-    ensures others { OthersStay }
+    ensures others { OtherBranchesStay }
 {}
 
 /// Of two journals that fit the same commands, with the same triples of client, command and part in the same order, each

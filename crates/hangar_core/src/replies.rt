@@ -160,9 +160,7 @@ pub(crate) fn fetched(
 }
 
 /// One more owner of a run that is kept, where one is.
-pub(crate) fn share_run(
-    kept: &Option<Shared<Kept>>,
-) -> Result<Option<Shared<Kept>>, OutOfMemory>
+pub(crate) fn share_run(kept: &Option<Shared<Kept>>) -> Result<Option<Shared<Kept>>, OutOfMemory>
     ensures { IfOk result (λ shared. shared ≡ kept.now) }
 {
     match kept {

@@ -4,13 +4,13 @@ ghost use Rattle.std.specs.Prelude.{◌≡◌, ◌<◌, ℕ, remove, None, Some,
 ghost use Rattle.std.specs.List.{AllByRecursion, find};
 ghost use Rattle.hangar_core.specs.Edits.{change_of, IsMadeAt, IsRevisionOf};
 ghost use Rattle.hangar_core.specs.Opening.{dropped_branch, dropped_where, empty_plan as empty_plan_by, forked, forked_from, IsForkOf, new_branch, refusal_to_open as refusal_by, opened_with};
-ghost use Rattle.hangar_core.specs.Standing.{AreModels, AreRevisionsWithin, IsActionOn, IsBranchIn, IsChangeOn, IsWorkspace, MayChange, names_of};
+ghost use Rattle.hangar_core.specs.Standing.{AreModels, AreRevisionsWithin, IsActionOn, IsBranchIn, IsChangeOn, IsWorkspace, MayChange, branch_names};
 ghost use Rattle.hangar_core.specs.Steps.{step as step_of};
 ghost use Rattle.hangar_core.specs.Workspaces.{branch_named, has_name, on_branch as on_branch_by};
 
 use crate::actions::Action;
 use crate::branches::Branch;
-use crate::changes::{Change, changed};
+use crate::changes::{BranchChange, changed};
 use crate::edits::Edit;
 use crate::held_plans::HeldPlan;
 use crate::last_revisions::LastRevisions;
@@ -42,7 +42,7 @@ impl Workspace {
     /// Why no branch with a name can begin.
     fn refusal_to_open(&self, name: &Name) -> Option<Reply>
         ensures { result ≡ refusal_by self.now name.now }
-{
+    {
         if position_of(self.branches.as_slice(), name).is_some() {
             return Some(Reply::BranchExists);
         }
@@ -123,7 +123,7 @@ impl Workspace {
         ensures made { IfOk result (λ reply. (reply, self.new) ≡ dropped_branch self.old name) }
         ensures unchanged { OnErr result (self.new ≡ self.old) }
         ensures stands { IsWorkspace self.new }
-{
+    {
         match position_of(self.branches.as_slice(), &name) {
             Some(at) => self.drop_at(at, name),
             None => Ok(Reply::NoBranch),
@@ -150,7 +150,7 @@ impl Workspace {
         &mut self,
         alloc: Global,
         name: &Name,
-        change: Change,
+        change: BranchChange,
     ) -> Result<Reply, OutOfMemory>
         requires workspace { IsWorkspace self.old }
         requires few { AreRevisionsWithin 9_223_372_036_854_775_807 self.old }
@@ -181,7 +181,7 @@ impl Workspace {
         ensures made { IfOk result (λ reply. (reply, self.new) ≡ step_of self.old action) }
         ensures unchanged { OnErr result (self.new ≡ self.old) }
         ensures stands { IsWorkspace self.new }
-{
+    {
         match action {
             Action::New { branch } => self.begin(alloc, branch),
             Action::Fork { branch, source } => self.fork(alloc, branch, &source),
@@ -194,17 +194,17 @@ impl Workspace {
             } => self.on_branch(
                 alloc,
                 &branch,
-                Change::Edit(Edit::Add {
+                BranchChange::Edit(Edit::Add {
                     at,
                     kind,
                     arguments,
                 }),
             ),
             Action::Remove { branch, id } => {
-                self.on_branch(alloc, &branch, Change::Edit(Edit::Remove { id }))
+                self.on_branch(alloc, &branch, BranchChange::Edit(Edit::Remove { id }))
             }
             Action::Move { branch, id, at } => {
-                self.on_branch(alloc, &branch, Change::Edit(Edit::Move { id, at }))
+                self.on_branch(alloc, &branch, BranchChange::Edit(Edit::Move { id, at }))
             }
             Action::Set {
                 branch,
@@ -214,24 +214,24 @@ impl Workspace {
             } => self.on_branch(
                 alloc,
                 &branch,
-                Change::Edit(Edit::Set {
+                BranchChange::Edit(Edit::Set {
                     id,
                     parameter,
                     value,
                 }),
             ),
             Action::Load { branch, text } => {
-                self.on_branch(alloc, &branch, Change::Edit(Edit::Load { text }))
+                self.on_branch(alloc, &branch, BranchChange::Edit(Edit::Load { text }))
             }
             Action::Migrate { branch, model } => {
-                self.on_branch(alloc, &branch, Change::Migrate { model })
+                self.on_branch(alloc, &branch, BranchChange::Migrate { model })
             }
-            Action::Fetch { branch } => self.on_branch(alloc, &branch, Change::Fetch),
+            Action::Fetch { branch } => self.on_branch(alloc, &branch, BranchChange::Fetch),
             Action::Attach { branch, kept } => {
-                self.on_branch(alloc, &branch, Change::Attach { kept })
+                self.on_branch(alloc, &branch, BranchChange::Attach { kept })
             }
             Action::Place { branch, seen, plan } => {
-                self.on_branch(alloc, &branch, Change::Place { seen, plan })
+                self.on_branch(alloc, &branch, BranchChange::Place { seen, plan })
             }
         }
     }
@@ -273,7 +273,7 @@ fn changed_at(
     mappings: &[Mapping],
     branches: &mut List<Branch>,
     at: usize,
-    change: Change,
+    change: BranchChange,
 ) -> Result<Reply, OutOfMemory>
     requires models { AreModels models.now mappings.now }
     requires within { at < length branches.old }
@@ -281,7 +281,7 @@ fn changed_at(
     ensures made { IfOk result (λ reply. IsMadeAt models.now mappings.now change at branches.old branches.new reply) }
     ensures unchanged { OnErr result (branches.new ≡ branches.old) }
     ensures stays { (duration : ℕ) → IsChangeOn models.now duration change → AllByRecursion (IsBranchIn models.now duration) branches.old → AllByRecursion (IsBranchIn models.now duration) branches.new }
-    ensures names { names_of branches.new ≡ names_of branches.old }
+    ensures names { branch_names branches.new ≡ branch_names branches.old }
 {
     let branch = &mut branches.items[at];
     changed(alloc, models, mappings, branch, change)

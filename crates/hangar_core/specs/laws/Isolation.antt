@@ -37,7 +37,7 @@ BranchesAreIsolated = (action : Action) (name : List ℕ) (workspace other : Wor
     only_branch action ≡ Some name → AreAlikeOn name workspace other → ActsAlikeOn name action workspace other
 
 -- and every other branch stays as it was
-abbrev pub OthersStay : Type 0
-OthersStay = (action : Action) (name another : List ℕ) (workspace : Workspace) →
+abbrev pub OtherBranchesStay : Type 0
+OtherBranchesStay = (action : Action) (name another : List ℕ) (workspace : Workspace) →
     only_branch action ≡ Some name → (name ≡ another → ⊥) →
     branch_named (step workspace action).1 another ≡ branch_named workspace another
