@@ -14,3 +14,4 @@ pub mod KeptFields
 pub mod EditedBranches
 pub mod Working
 pub mod Stepping
+pub mod Noting

@@ -1,6 +1,6 @@
 //! The journal.
 
-ghost use Rattle.std.specs.Prelude.{◌≡◌, ◌≤◌, ◌<◌, ◌^◌, [], ◌∷◌, ◌++◌, IfOk, OnErr, vec_len, vec_capacity};
+ghost use Rattle.std.specs.Prelude.{◌≡◌, ◌≤◌, ◌<◌, ◌^◌, [], ◌∷◌, ◌++◌, IfOk, OnErr, OnOk, vec_len, vec_capacity};
 ghost use Rattle.hangar_core.specs.Journals.{accepted_in};
 ghost use Rattle.hangar_core.specs.Standing.{IsActionOn, IsStepped};
 
@@ -76,6 +76,7 @@ impl Journal {
 }
 
 /// Makes room and copies first, then steps the workspace and adds the entry with its reply.
+#[tactic(auto, using(crate::proofs::Noting::kept_after))]
 fn note(
     entries: &mut Vec<(Entry, Reply)>,
     alloc: Global,
@@ -86,15 +87,32 @@ fn note(
     requires action { IsActionOn hangar.old.workspace entry.action }
     ensures stepped { IfOk result (λ reply. IsStepped hangar.old hangar.new entry.action reply) }
     ensures noted { IfOk result (λ reply. entries.new.items ≡ entries.old.items ++ (entry, reply) ∷ []) }
+    ensures kept { hangar.new.accepted ≤ accepted_in entries.new.items }
     ensures unmoved { OnErr result (hangar.new ≡ hangar.old) }
     ensures unchanged { OnErr result (entries.new.items ≡ entries.old.items) }
 {
-    let _length = entries.len();
-    entries.reserve(1)?;
+    make_room(entries)?;
     let copy = entry.copy(alloc)?;
     let (reply, told) = told_twice(alloc, hangar, entry)?;
     add(entries, copy, told);
     Ok(reply)
+}
+
+/// The most entries of a journal; no memory holds more.
+const MOST_ENTRIES: usize = 9_223_372_036_854_775_807;
+
+/// Makes room for one entry more.
+#[tactic(auto, using(crate::proofs::Noting::few_accepted))]
+fn make_room(entries: &mut Vec<(Entry, Reply)>) -> Result<(), OutOfMemory>
+    ensures room { OnOk result (vec_len entries.new < vec_capacity entries.new) }
+    ensures few { OnOk result (accepted_in entries.new.items < 2 ^ 63) }
+    ensures same { entries.new.items ≡ entries.old.items }
+{
+    if entries.len() >= MOST_ENTRIES {
+        return Err(OutOfMemory);
+    }
+    entries.reserve(1)?;
+    Ok(())
 }
 
 /// Steps the workspace, and gives the reply twice.
