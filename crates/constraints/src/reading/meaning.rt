@@ -3,7 +3,7 @@
 ghost use Rattle.std.specs.Prelude.{◌≡◌, IfOk};
 ghost use Rattle.constraints.specs.reading.Meaning.{meant_rule, constraint_of, constraints_of};
 
-use crate::reading::windows::{number_of_type, window_of};
+use crate::reading::window_meaning::{number_of_type, window_of};
 use crate::types::{Constraint, Rule};
 use aerie_base::{List, Model, Name, OutOfMemory, Shared};
 use dataset_in::Series;

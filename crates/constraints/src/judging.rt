@@ -1,0 +1,307 @@
+//! The violations of a constraint.
+
+ghost use Rattle.std.specs.Prelude.{◌≡◌, ◌≤◌, ◌++◌, IsTrue, true, not, None, Some, map, IfOk, OnOk};
+ghost use Rattle.std.specs.List.{All};
+ghost use Rattle.run_data.specs.Fresh.{IsFresh};
+ghost use Rattle.run_data.specs.Spans.{spans_of};
+ghost use Rattle.span_table.specs.AsDefined.{defined_span};
+ghost use Rattle.span_table.specs.SpanLaws.{IsInTime};
+ghost use Rattle.constraints.specs.Holding.{window_holds};
+ghost use Rattle.constraints.specs.Judging.{times_held, times_not_held, violations_if};
+ghost use Rattle.constraints.specs.Local.{is_local as local};
+ghost use Rattle.constraints.specs.OfModel.{is_constraint, is_window};
+ghost use Rattle.constraints.specs.Sources.{AreSources};
+ghost use Rattle.constraints.specs.Violating.{listed, meet, violations_of, violations_of_spans, where_not};
+
+use crate::evaluation::holding;
+use crate::local::is_local;
+use crate::meeting::meetings;
+use crate::sources::Sources;
+use crate::span_times::{is_of_type, times_of};
+use crate::types::{Constraint, Rule, Window};
+use crate::violation::Violation;
+use aerie_base::{List, Model, OutOfMemory, Path, Time};
+use run_data::Run;
+use span_table::{Span, spans};
+use std::alloc::Global;
+use windows::Windows;
+
+/// The violations of a constraint over a fresh run of its model: the times below the run's reach at which it does not
+/// hold, as maximal intervals; of a rule for each span of a type those of each span by itself, in the order of the spans,
+/// with the path of the span. A span for which there is no such time is not listed.
+pub fn violations(
+    alloc: Global,
+    model: &Model,
+    run: &Run,
+    constraint: &Constraint,
+) -> Result<List<Violation>, OutOfMemory>
+    requires fresh { IsFresh model.now run.now.plan run.now.bound run.now }
+    requires constraint { IsTrue (is_constraint model.now constraint.now) }
+    ensures { IfOk result (λ found. found ≡ violations_of model.now run.now constraint.now) }
+{
+    match &constraint.rule {
+        Rule::Plain(window) => plain(alloc, model, run, window),
+        Rule::Each { kind, window } => each(alloc, model, run, *kind, window),
+        Rule::Forbid(one, other) => forbid(alloc, model, run, *one, *other),
+    }
+}
+
+/// The times at which a window holds that speaks of no span which the rule is judged for. It takes steps as what the window
+/// names has pieces, and as what is made of them.
+pub fn window_times(
+    alloc: Global,
+    model: &Model,
+    run: &Run,
+    window: &Window,
+) -> Result<Windows, OutOfMemory>
+    requires fresh { IsFresh model.now run.now.plan run.now.bound run.now }
+    requires window { IsTrue (is_window model.now window.now) }
+    ensures { IfOk result (λ made. made ≡ times_held model.now run.now window.now None) }
+{
+    let sources = Sources::of(alloc, model, run, window)?;
+    let made = held(alloc, &sources, window)?;
+    Ok(made)
+}
+
+/// The times at which a window holds for no span.
+fn held(alloc: Global, sources: &Sources, window: &Window) -> Result<Windows, OutOfMemory>
+    requires sources { AreSources sources.now }
+    requires window { IsTrue (is_window sources.now.model.now window.now) }
+    ensures { IfOk result (λ made. made ≡ times_held sources.now.model.now sources.now.run.now window.now None) }
+{
+    let made = holding(alloc, sources, window, &None)?;
+    Ok(made)
+}
+
+/// The times at which a window does not hold.
+fn not_held(
+    alloc: Global,
+    sources: &Sources,
+    window: &Window,
+    bound: &Option<(Time, Time)>,
+) -> Result<Windows, OutOfMemory>
+    requires sources { AreSources sources.now }
+    requires window { IsTrue (is_window sources.now.model.now window.now) }
+    ensures { IfOk result (λ made. made ≡ times_not_held sources.now.model.now sources.now.run.now window.now bound.now) }
+{
+    let times = holding(alloc, sources, window, bound)?;
+    let made = times.not(alloc)?;
+    Ok(made)
+}
+
+/// Puts a violation at these times behind the others, unless there are none.
+fn put(found: &mut List<Violation>, path: Option<Path>, times: Windows) -> Result<(), OutOfMemory>
+    ensures { OnOk result (found.new ≡ found.old ++ listed path times.reach times.intervals) }
+{
+    if times.intervals().is_empty() {
+        return Ok(());
+    }
+    found.push(Violation {
+        path,
+        intervals: times,
+    })?;
+    Ok(())
+}
+
+/// A violation at these times, unless there are none.
+fn one_violation(alloc: Global, times: Windows) -> Result<List<Violation>, OutOfMemory>
+    ensures { IfOk result (λ found. found ≡ listed None times.reach times.intervals) }
+{
+    let mut found = List::new(alloc);
+    put(&mut found, None, times)?;
+    Ok(found)
+}
+
+/// The violation of a rule that asks for a window at all times. It takes steps as the profiles of the resources that it
+/// names have segments, and as there are spans of the types that it names.
+fn plain(
+    alloc: Global,
+    model: &Model,
+    run: &Run,
+    window: &Window,
+) -> Result<List<Violation>, OutOfMemory>
+    requires fresh { IsFresh model.now run.now.plan run.now.bound run.now }
+    requires window { IsTrue (is_window model.now window.now) }
+    ensures { IfOk result (λ found. found ≡ where_not None run.now.reach (window_holds model.now run.now window.now None)) }
+{
+    let sources = Sources::of(alloc, model, run, window)?;
+    let times = not_held(alloc, &sources, window, &None)?;
+    let found = one_violation(alloc, times)?;
+    Ok(found)
+}
+
+/// The violation of a rule that forbids two types at one time: one sweep over the spans, by their starts.
+fn forbid(
+    alloc: Global,
+    model: &Model,
+    run: &Run,
+    one: u16,
+    other: u16,
+) -> Result<List<Violation>, OutOfMemory>
+    ensures { IfOk result (λ found. found ≡ where_not None run.now.reach (λ t. not (meet run.now.reach one other (spans_of model.now run.now) t))) }
+{
+    let spans = spans(alloc, model, run)?;
+    let all = spans.as_slice();
+    let times = meetings(alloc, all, one, other, run.reach)?;
+    let found = one_violation(alloc, times)?;
+    Ok(found)
+}
+
+/// Puts the violation for a span behind the others, unless it has no times.
+fn put_for_span(
+    alloc: Global,
+    found: &mut List<Violation>,
+    span: &Span,
+    times: Windows,
+) -> Result<(), OutOfMemory>
+    ensures { OnOk result (found.new ≡ found.old ++ listed (Some span.now.path) times.reach times.intervals) }
+{
+    let path = span.path.copy(alloc)?;
+    put(found, Some(path), times)?;
+    Ok(())
+}
+
+/// The times at which a window does not hold for a span: outside of its times those for no span, and within them those for
+/// one that lasts as long as the run. It takes steps as the result has intervals, and three binary searches.
+fn spliced(
+    alloc: Global,
+    sources: &Sources,
+    window: &Window,
+    outside: &Windows,
+    inside: &Windows,
+    times: &(Time, Time),
+) -> Result<Windows, OutOfMemory>
+    requires near { local window.now ≡ true }
+    requires outside { outside.now ≡ times_not_held sources.now.model.now sources.now.run.now window.now None }
+    requires inside { inside.now ≡ times_not_held sources.now.model.now sources.now.run.now window.now (Some (0, sources.now.run.now.reach)) }
+    requires order { times.now.0 ≤ times.now.1 }
+    requires within { times.now.1 ≤ sources.now.run.now.reach }
+    ensures { IfOk result (λ made. made ≡ times_not_held sources.now.model.now sources.now.run.now window.now (Some times.now)) }
+{
+    let made = outside.replaced(alloc, inside, times.0, times.1)?;
+    Ok(made)
+}
+
+/// Puts the violation for a span behind the others, if it is of the type and a local window does not hold for it.
+fn put_spliced(
+    alloc: Global,
+    found: &mut List<Violation>,
+    sources: &Sources,
+    window: &Window,
+    outside: &Windows,
+    inside: &Windows,
+    span: &Span,
+    kind: u16,
+) -> Result<(), OutOfMemory>
+    requires near { local window.now ≡ true }
+    requires outside { outside.now ≡ times_not_held sources.now.model.now sources.now.run.now window.now None }
+    requires inside { inside.now ≡ times_not_held sources.now.model.now sources.now.run.now window.now (Some (0, sources.now.run.now.reach)) }
+    requires in_time { IsInTime sources.now.run.now.reach span.now }
+    ensures { OnOk result (found.new ≡ found.old ++ violations_if sources.now.model.now sources.now.run.now kind window.now (defined_span span.now)) }
+{
+    if !is_of_type(span, kind) {
+        return Ok(());
+    }
+    let times = times_of(span, sources.run.reach);
+    let made = spliced(alloc, sources, window, outside, inside, &times)?;
+    put_for_span(alloc, found, span, made)?;
+    Ok(())
+}
+
+/// The violations of a rule for each span of a type, of a window that is local: it is evaluated twice for all spans, and
+/// each span takes steps as its violation has intervals, and three binary searches.
+fn each_spliced(
+    alloc: Global,
+    sources: &Sources,
+    spans: &[Span],
+    kind: u16,
+    window: &Window,
+) -> Result<List<Violation>, OutOfMemory>
+    requires sources { AreSources sources.now }
+    requires window { IsTrue (is_window sources.now.model.now window.now) }
+    requires near { local window.now ≡ true }
+    requires in_time { All (IsInTime sources.now.run.now.reach) spans.now }
+    ensures { IfOk result (λ found. found ≡ violations_of_spans sources.now.model.now sources.now.run.now kind window.now (map defined_span spans.now)) }
+{
+    let endless = Some((first_time(), sources.run.reach));
+    let outside = not_held(alloc, sources, window, &None)?;
+    let inside = not_held(alloc, sources, window, &endless)?;
+    let mut found = List::new(alloc);
+    for span in spans {
+        put_spliced(
+            alloc, &mut found, sources, window, &outside, &inside, span, kind,
+        )?;
+    }
+    Ok(found)
+}
+
+/// Puts the violation for a span behind the others, if it is of the type and the window does not hold for it.
+fn put_evaluated(
+    alloc: Global,
+    found: &mut List<Violation>,
+    sources: &Sources,
+    window: &Window,
+    span: &Span,
+    kind: u16,
+) -> Result<(), OutOfMemory>
+    requires sources { AreSources sources.now }
+    requires window { IsTrue (is_window sources.now.model.now window.now) }
+    ensures { OnOk result (found.new ≡ found.old ++ violations_if sources.now.model.now sources.now.run.now kind window.now (defined_span span.now)) }
+{
+    if !is_of_type(span, kind) {
+        return Ok(());
+    }
+    let bound = Some(times_of(span, sources.run.reach));
+    let made = not_held(alloc, sources, window, &bound)?;
+    put_for_span(alloc, found, span, made)?;
+    Ok(())
+}
+
+/// The violations of a rule for each span of a type: the window is evaluated for each span, over the whole run. It takes
+/// steps as there are spans of the type, times what the window names.
+fn each_evaluated(
+    alloc: Global,
+    sources: &Sources,
+    spans: &[Span],
+    kind: u16,
+    window: &Window,
+) -> Result<List<Violation>, OutOfMemory>
+    requires sources { AreSources sources.now }
+    requires window { IsTrue (is_window sources.now.model.now window.now) }
+    ensures { IfOk result (λ found. found ≡ violations_of_spans sources.now.model.now sources.now.run.now kind window.now (map defined_span spans.now)) }
+{
+    let mut found = List::new(alloc);
+    for span in spans {
+        put_evaluated(alloc, &mut found, sources, window, span, kind)?;
+    }
+    Ok(found)
+}
+
+/// The violations of a rule for each span of a type, by whether the window speaks of the span under `shift` or `longer`.
+fn each(
+    alloc: Global,
+    model: &Model,
+    run: &Run,
+    kind: u16,
+    window: &Window,
+) -> Result<List<Violation>, OutOfMemory>
+    requires fresh { IsFresh model.now run.now.plan run.now.bound run.now }
+    requires window { IsTrue (is_window model.now window.now) }
+    ensures { IfOk result (λ found. found ≡ violations_of_spans model.now run.now kind window.now (spans_of model.now run.now)) }
+{
+    let sources = Sources::of(alloc, model, run, window)?;
+    let spans = spans(alloc, model, run)?;
+    if is_local(window) {
+        let found = each_spliced(alloc, &sources, spans.as_slice(), kind, window)?;
+        return Ok(found);
+    }
+    let found = each_evaluated(alloc, &sources, spans.as_slice(), kind, window)?;
+    Ok(found)
+}
+
+/// The first time.
+fn first_time() -> Time
+    ensures { result ≡ 0 }
+{
+    Time::new(0).unwrap()
+}
