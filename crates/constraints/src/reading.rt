@@ -11,5 +11,5 @@ mod window_refusals;
 pub use constraints::{form_error, read_constraints, refusal_error};
 pub use names::{place_of_enum, place_of_type, short_number, variant_place};
 pub use refusals::{RuleRefusal, WrongRule, refuse, refuse_unless};
-pub use window_refusals::{judge_name, judge_type, judge_window};
 pub use window_meaning::{number_of_type, window_of};
+pub use window_refusals::{judge_name, judge_type, judge_window};
