@@ -1,0 +1,12 @@
+//! Tests of the engine over the plain stepper, and of the spans and profiles that are read off its runs, through their public
+//! calls. They stand here since a crate with tests inside is proved twice.
+#![tactic(auto)]
+
+#[cfg(test)]
+mod mission;
+#[cfg(test)]
+mod plans;
+#[cfg(test)]
+mod runs;
+#[cfg(test)]
+mod telling;
