@@ -1,10 +1,9 @@
 -- Revisions and the number of accepted actions.
-use Rattle.std.proofs.Common.{Ordering, ◌≡◌, ℕ, zero, suc, ◌+◌, ◌<◌, ◌≤◌, Bool, true, false, IsTrue, List, [], ◌∷◌, ◌++◌, length, map, cond, find, filter, Option, Some, None, Result, Ok, Err, refl, sym, ap, ◌∙◌, subst, nat_eq, slice_get, true≢false, arith, if◌then◌else◌, not}
+use Rattle.std.proofs.Common.{Ordering, ◌≡◌, ℕ, ◌+◌, ◌≤◌, Bool, true, false, IsTrue, List, [], ◌∷◌, ◌++◌, map, cond, find, filter, Option, Some, None, Result, Ok, Err, refl, ap, ◌∙◌, subst, nat_eq, slice_get, arith, if◌then◌else◌, not}
 use Rattle.std.specs.List.{AllByRecursion}
 use Rattle.std.specs.Ordering.{nat_cmp, is_eq, match_ordering}
 use Rattle.std.specs.declared.cmp.Ordering.TheVariants.{Less, Equal, Greater}
-use Rattle.std.specs.Map.{lookup}
-use Rattle.std.specs.BTreeMap.{insert_entry, is_at}
+use Rattle.std.specs.BTreeMap.{insert_entry}
 use Rattle.std.specs.Cmp.Lexicographic.{slice_cmp}
 use Rattle.aerie_base.specs.declared.models.model.Parts.{Parts}
 use Rattle.aerie_base.specs.declared.plans.Plan.{Plan}
@@ -24,13 +23,12 @@ use Rattle.hangar_core.specs.declared.replies.Reply.{Reply}
 use Rattle.hangar_core.specs.declared.replies.Reply.TheVariants as reply
 use Rattle.hangar_core.specs.declared.workspaces.Workspace.{Workspace}
 use Rattle.hangar_core.specs.Replies.{accepted_with}
-use Rattle.hangar_core.specs.Workspaces.{branch_limit, branch_named, has_name, on_branch, on_found, put_where_named, with_branch}
+use Rattle.hangar_core.specs.Workspaces.{branch_named, has_name, on_branch, on_found, put_where_named, with_branch}
 use Rattle.hangar_core.specs.Opening.{LastRevisions, dropped_branch, dropped_where, empty_plan, first_revision, forked_from, has_other_name, last_revision, opened, opened_branch, opened_unless, refusal_to_open, remembered, revision_after}
-use Rattle.hangar_core.specs.Changing.{Told, attached, by_model, edited, fetched, if_edited, if_migrated, mapping_to, migrated_branch, migrated_by, migrated_to, placed_branch, told_added, told_edited, told_loaded, with_plan}
+use Rattle.hangar_core.specs.Changing.{Told, attached, by_model, edited, fetched, if_edited, if_migrated, mapping_to, migrated_by, migrated_to, placed_branch, told_added, told_edited, told_loaded, with_plan}
 use Rattle.hangar_core.specs.Standing.{AreRevisionsWithin, branch_names}
 use Rattle.hangar_core.specs.Steps.{step}
 use Rattle.hangar_core.proofs.Plain.{none_some, some_same}
-use Rattle.hangar_core.proofs.Named.{found_passes}
 use Rattle.hangar_core.proofs.Places.{put_same}
 
 -- what a change answers goes with what it leaves: a revision more is an accepted one, and a refusal leaves the branch

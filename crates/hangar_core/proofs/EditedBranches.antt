@@ -1,5 +1,5 @@
 -- A branch whose plan is edited.
-use Rattle.std.proofs.Common.{◌≡◌, ℕ, zero, suc, ◌+◌, ◌<◌, Bool, true, false, ◌&&◌, List, [], ◌∷◌, drop, length, cond, Option, Some, None, Result, Ok, Err, find, refl, sym, ap, ◌∙◌, subst, slice_get, slice_index_or, nat_eq, if◌then◌else◌, eq-eqb, eqb-true, true≢false}
+use Rattle.std.proofs.Common.{◌≡◌, ℕ, zero, suc, ◌+◌, ◌<◌, Bool, true, false, ◌&&◌, List, [], ◌∷◌, drop, length, cond, Option, Some, None, Result, Ok, Err, find, refl, sym, ap, ◌∙◌, slice_get, slice_index_or, nat_eq, eq-eqb, eqb-true, true≢false}
 use Rattle.std.proofs.lemmas.List.{drop_more}
 use Rattle.std.proofs.lemmas.Option.{slice_get_read}
 use Rattle.std.specs.Prelude.{IfOk}

@@ -1,5 +1,5 @@
 -- What an action on a branch leaves of it.
-use Rattle.std.proofs.Common.{◌≡◌, ℕ, ◌+◌, ◌<◌, ◌≤◌, Bool, true, false, List, [], ◌∷◌, Option, Some, None, Result, Ok, Err, refl, sym, ap, ◌∙◌, subst, arith, nat_eq, slice_get}
+use Rattle.std.proofs.Common.{◌≡◌, ℕ, ◌+◌, ◌≤◌, Bool, true, false, List, Option, Some, None, Result, Ok, Err, refl, arith, nat_eq, slice_get}
 use Rattle.std.specs.Prelude.{if◌then◌else◌}
 use Rattle.aerie_base.specs.declared.models.model.Parts.{Parts}
 use Rattle.aerie_base.specs.declared.plans.Plan.{Plan}
@@ -12,7 +12,7 @@ use Rattle.run_data.specs.KeptRuns.{KeptRun}
 use Rattle.hangar_core.specs.declared.branches.Branch.{Branch}
 use Rattle.hangar_core.specs.declared.replies.Reply.{Reply}
 use Rattle.hangar_core.specs.declared.replies.Reply.TheVariants as reply
-use Rattle.hangar_core.specs.Changing.{Told, attached, by_model, edited, fetched, if_edited, if_migrated, mapping_to, migrated_branch, migrated_by, migrated_to, placed_branch, with_plan}
+use Rattle.hangar_core.specs.Changing.{Told, attached, by_model, edited, if_edited, if_migrated, mapping_to, migrated_branch, migrated_by, migrated_to, placed_branch, with_plan}
 
 -- the name stays, the revision does not fall, and where it stays the plan stays
 pub record Follows (before after : Branch) : Type 0 where

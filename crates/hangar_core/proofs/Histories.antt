@@ -1,5 +1,5 @@
 -- Names, revisions and plans along a list of actions.
-use Rattle.std.proofs.Common.{◌≡◌, ℕ, ◌+◌, ◌<◌, ◌≤◌, Bool, true, false, List, [], ◌∷◌, ◌++◌, length, Option, Some, None, is_some, refl, sym, ap, ◌∙◌, subst, true≢false, arith}
+use Rattle.std.proofs.Common.{◌≡◌, ℕ, ◌+◌, ◌<◌, ◌≤◌, Bool, true, false, List, [], ◌∷◌, length, Option, Some, None, is_some, refl, sym, ap, ◌∙◌, subst, true≢false, arith}
 use Rattle.std.specs.Prelude.{if◌then◌else◌, nat_lt}
 use Rattle.aerie_base.specs.declared.plans.Plan.{Plan}
 use Rattle.aerie_base.specs.models.Names.{same_name}
@@ -11,11 +11,11 @@ use Rattle.hangar_core.specs.declared.replies.Reply.{Reply}
 use Rattle.hangar_core.specs.declared.replies.Reply.TheVariants.{BranchExists, TooManyBranches}
 use Rattle.hangar_core.specs.declared.workspaces.Workspace.{Workspace}
 use Rattle.hangar_core.specs.Workspaces.{branch_limit, branch_named, has_name, on_branch, on_found, with_branch}
-use Rattle.hangar_core.specs.Opening.{LastRevisions, dropped_branch, dropped_where, empty_plan, first_revision, forked, forked_from, last_revision, new_branch, opened, opened_branch, opened_unless, refusal_to_open, remembered, revision_after, without_branch}
-use Rattle.hangar_core.specs.Changing.{Told, attached, edited, fetched, migrated_branch, placed_branch, told_added, told_edited, told_loaded}
+use Rattle.hangar_core.specs.Opening.{LastRevisions, dropped_branch, dropped_where, empty_plan, first_revision, forked_from, opened, opened_branch, opened_unless, refusal_to_open, remembered, revision_after, without_branch}
+use Rattle.hangar_core.specs.Changing.{Told, attached, fetched, placed_branch, told_added, told_edited, told_loaded}
 use Rattle.hangar_core.specs.Steps.{step, after_actions}
 use Rattle.hangar_core.specs.laws.Histories.{Meets, RevisionsNeverFall, RevisionsNamePlans}
-use Rattle.hangar_core.proofs.Plain.{none_some, some_same}
+use Rattle.hangar_core.proofs.Plain.{none_some}
 use Rattle.hangar_core.proofs.Named.{same_when, name_is, apart_when, found_passes, put_found, put_other, last_found, front_found, none_left, others_left}
 use Rattle.hangar_core.proofs.Lasts.{last_of_own, last_of_other}
 use Rattle.hangar_core.proofs.Following.{Follows, itself, edited_follows, migrated_follows, attached_follows, placed_follows}

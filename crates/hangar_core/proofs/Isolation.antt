@@ -9,11 +9,11 @@ use Rattle.hangar_core.specs.declared.actions.Action.{Action}
 use Rattle.hangar_core.specs.declared.actions.Action.TheVariants.{New, Fork, Drop, Add, Remove, Move, Set, Load, Migrate, Fetch, Attach, Place}
 use Rattle.hangar_core.specs.declared.branches.Branch.{Branch}
 use Rattle.hangar_core.specs.declared.workspaces.Workspace.{Workspace}
-use Rattle.hangar_core.specs.Workspaces.{Answered, branch_named, has_name, on_branch, on_found, with_branch}
-use Rattle.hangar_core.specs.Opening.{dropped_branch, dropped_where, without_branch}
+use Rattle.hangar_core.specs.Workspaces.{Answered, branch_named, on_branch, on_found, with_branch}
+use Rattle.hangar_core.specs.Opening.{dropped_branch, dropped_where}
 use Rattle.hangar_core.specs.Changing.{Told, attached, edited, fetched, migrated_branch, placed_branch, told_added, told_edited, told_loaded}
 use Rattle.hangar_core.specs.Steps.{step}
-use Rattle.hangar_core.specs.laws.Isolation.{ActsAlikeOn, AreAlikeOn, BranchesAreIsolated, only_branch, OtherBranchesStay}
+use Rattle.hangar_core.specs.laws.Isolation.{AreAlikeOn, BranchesAreIsolated, only_branch, OtherBranchesStay}
 use Rattle.hangar_core.proofs.Plain.{none_some, some_same}
 use Rattle.hangar_core.proofs.Named.{found_passes, put_found, put_other, none_left, others_left}
 use Rattle.hangar_core.proofs.Following.{Follows, itself, edited_follows, migrated_follows, attached_follows, placed_follows}

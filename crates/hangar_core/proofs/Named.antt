@@ -1,14 +1,13 @@
 -- Branches by name, in lists that are changed.
-use Rattle.std.proofs.Common.{◌≡◌, ℕ, zero, suc, ◌+◌, ◌<◌, Bool, true, false, not, ◌&&◌, ◌||◌, IsTrue, List, [], ◌∷◌, ◌++◌, length, map, Option, Some, None, refl, sym, ap, ◌∙◌, subst, slice_get, true≢false, arith}
-use Rattle.std.specs.Prelude.{cond, slice_set}
+use Rattle.std.proofs.Common.{◌≡◌, ℕ, Bool, true, false, not, List, [], ◌∷◌, ◌++◌, map, Option, Some, None, refl, sym, ap, ◌∙◌, true≢false}
+use Rattle.std.specs.Prelude.{cond}
 use Rattle.std.specs.List.{find, filter}
 use Rattle.std.specs.Cmp.Lexicographic.{bytes_decides}
-use Rattle.aerie_base.specs.models.Names.{same_name, is_name_among, are_distinct}
+use Rattle.aerie_base.specs.models.Names.{same_name}
 use Rattle.hangar_core.specs.declared.branches.Branch.{Branch}
 use Rattle.hangar_core.specs.Workspaces.{has_name, put_where_named}
 use Rattle.hangar_core.specs.Opening.{has_other_name}
-use Rattle.hangar_core.specs.Standing.{branch_names}
-use Rattle.hangar_core.proofs.Plain.{cons_head, none_some, some_same}
+use Rattle.hangar_core.proofs.Plain.{none_some, some_same}
 
 -- ---- names
 

@@ -1,5 +1,5 @@
 -- The branch with a name at its place.
-use Rattle.std.proofs.Common.{◌≡◌, ℕ, zero, suc, ◌+◌, ◌<◌, Bool, true, false, not, ◌&&◌, ◌||◌, IsTrue, List, [], ◌∷◌, ◌++◌, length, map, Option, Some, None, refl, sym, ap, ◌∙◌, subst, slice_get, true≢false, arith}
+use Rattle.std.proofs.Common.{◌≡◌, ℕ, zero, suc, ◌<◌, Bool, true, false, not, ◌&&◌, ◌||◌, IsTrue, List, [], ◌∷◌, length, map, Some, None, refl, sym, ap, ◌∙◌, subst, slice_get, true≢false, arith}
 use Rattle.std.specs.Prelude.{cond, set, remove}
 use Rattle.std.specs.List.{find, filter}
 use Rattle.aerie_base.specs.models.Names.{same_name, is_name_among, are_distinct}

@@ -11,7 +11,7 @@ use Rattle.hangar_core.specs.Steps.{step}
 use Rattle.hangar_core.specs.declared.commands.Command.{Command}
 use Rattle.hangar_core.specs.declared.entries.Entry.{Entry}
 use Rattle.hangar_core.specs.declared.commands.Command.TheVariants.{New, Fork, Drop, Add, Remove, Move, Set, Load, Migrate, Show, Simulate, Schedule, Merge, Expand}
-use Rattle.hangar_core.specs.Fits.{Meanings, next_action, IsCommand, IsWorkOf, commands_of, is_of_client, Fits}
+use Rattle.hangar_core.specs.Fits.{Meanings, next_action, IsCommand, IsWorkOf, commands_of, is_of_client}
 use Rattle.hangar_core.specs.Journals.{Entries, IsReplay}
 use Rattle.hangar_core.specs.Serial.{ClientTurn, heads, later_commands, longest, turns, entry_then, carried_out, one_by_one, serial}
 use Rattle.hangar_core.specs.laws.FittingJournals.{SerialFits}

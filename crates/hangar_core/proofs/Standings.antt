@@ -1,12 +1,11 @@
 -- Workspaces whose branches change stand.
-use Rattle.std.proofs.Common.{◌≡◌, ℕ, zero, suc, ◌+◌, ◌<◌, ◌≤◌, Bool, true, false, not, ◌&&◌, ◌||◌, IsTrue, List, [], ◌∷◌, ◌++◌, length, map, cond, find, filter, Option, Some, None, refl, sym, ap, ◌∙◌, subst, slice_get, true≢false, arith, length-append}
+use Rattle.std.proofs.Common.{◌≡◌, ℕ, zero, suc, Bool, true, false, not, ◌&&◌, ◌||◌, IsTrue, List, [], ◌∷◌, ◌++◌, find, Some, None, refl, sym, ap, ◌∙◌, subst, slice_get, true≢false}
 use Rattle.std.specs.Prelude.{set, remove}
 use Rattle.std.specs.List.{AllByRecursion}
 use Rattle.aerie_base.specs.models.Names.{same_name, is_name_among, are_distinct}
-use Rattle.aerie_base.specs.models.NameLaws.{among_appended, distinct_appended}
+use Rattle.aerie_base.specs.models.NameLaws.{among_appended}
 use Rattle.hangar_core.specs.declared.branches.Branch.{Branch}
-use Rattle.hangar_core.specs.Workspaces.{has_name, put_where_named}
-use Rattle.hangar_core.specs.Opening.{has_other_name}
+use Rattle.hangar_core.specs.Workspaces.{has_name}
 use Rattle.hangar_core.specs.Standing.{branch_names}
 use Rattle.hangar_core.proofs.Plain.{none_some, some_same}
 use Rattle.hangar_core.proofs.Named.{name_is, same_when}

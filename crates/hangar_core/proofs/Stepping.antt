@@ -1,5 +1,5 @@
 -- What a step of a hangar leaves.
-use Rattle.std.proofs.Common.{◌≡◌, ℕ, ◌+◌, ◌<◌, ◌≤◌, Bool, true, false, List, [], ◌∷◌, Option, Some, None, Result, Ok, Err, is_some, nat_lt, nat_eq, length, find, refl, sym, ap, ◌∙◌, subst, slice_get, arith, if◌then◌else◌}
+use Rattle.std.proofs.Common.{◌≡◌, ℕ, ◌+◌, Bool, true, false, List, [], ◌∷◌, Option, Some, None, Result, Ok, Err, is_some, nat_lt, nat_eq, length, find, refl, sym, ap, ◌∙◌, subst, slice_get, arith, if◌then◌else◌}
 use Rattle.std.specs.List.{AllByRecursion}
 use Rattle.aerie_base.specs.declared.models.model.Parts.{Parts}
 use Rattle.aerie_base.specs.declared.plans.Plan.{Plan}
@@ -20,7 +20,7 @@ use Rattle.hangar_core.specs.declared.workspaces.Workspace.{Workspace}
 use Rattle.hangar_core.specs.Replies.{accepted_with}
 use Rattle.hangar_core.specs.Workspaces.{Answered, branch_limit, branch_named, has_name, on_branch, on_found}
 use Rattle.hangar_core.specs.Opening.{dropped_where, empty_plan, forked_from, opened, opened_unless}
-use Rattle.hangar_core.specs.Changing.{Told, attached, by_model, edited, fetched, if_edited, if_migrated, mapping_to, migrated_branch, migrated_by, migrated_to, placed_branch, told_added, told_edited, told_loaded, with_plan}
+use Rattle.hangar_core.specs.Changing.{Told, attached, by_model, edited, fetched, if_edited, if_migrated, mapping_to, migrated_by, migrated_to, placed_branch, told_added, told_edited, told_loaded, with_plan}
 use Rattle.hangar_core.specs.Standing.{AreRevisionsWithin, CountedWorkspace, IsBranchIn, IsHangar, IsReplyOf, IsStepped, IsWorkspace}
 use Rattle.hangar_core.specs.Steps.{step}
 use Rattle.hangar_core.proofs.Plain.{none_some, some_same}

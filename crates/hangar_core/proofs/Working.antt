@@ -1,5 +1,5 @@
 -- What the workspace's functions leave.
-use Rattle.std.proofs.Common.{◌≡◌, ℕ, zero, suc, ◌+◌, ◌<◌, ◌≤◌, ◌^◌, Bool, true, false, IsTrue, List, [], ◌∷◌, ◌++◌, length, map, cond, find, filter, remove, Option, Some, None, Result, Ok, Err, is_some, nat_lt, refl, sym, ap, ◌∙◌, subst, slice_get, true≢false, arith, if◌then◌else◌, ltb-true, length-append}
+use Rattle.std.proofs.Common.{◌≡◌, ℕ, zero, suc, ◌<◌, ◌≤◌, ◌^◌, Bool, true, false, IsTrue, List, [], ◌∷◌, ◌++◌, length, map, cond, find, filter, remove, Option, Some, None, Result, Ok, Err, is_some, nat_lt, refl, sym, ap, ◌∙◌, subst, slice_get, arith, if◌then◌else◌, ltb-true, length-append}
 use Rattle.std.specs.Prelude.{set, IfOk, slice_index_or}
 use Rattle.std.proofs.lemmas.Option.{slice_get_read}
 use Rattle.std.specs.List.{AllByRecursion}
@@ -15,13 +15,11 @@ use Rattle.hangar_core.specs.declared.changes.BranchChange.{BranchChange}
 use Rattle.hangar_core.specs.declared.replies.Reply.{Reply}
 use Rattle.hangar_core.specs.declared.replies.Reply.TheVariants as reply
 use Rattle.hangar_core.specs.declared.workspaces.Workspace.{Workspace}
-use Rattle.hangar_core.specs.Changing.{Told}
 use Rattle.hangar_core.specs.Edits.{change_of, IsMadeAt, IsMadeWhere, IsRevisionOf}
 use Rattle.hangar_core.specs.Opening.{dropped_where, empty_plan, has_other_name, IsForkOf, LastRevisions, refusal_to_open, remembered}
-use Rattle.hangar_core.specs.Standing.{AreRevisionsWithin, IsBranchIn, IsChangeOn, IsPlanAmong, IsPlanIn, IsWorkspace, MayChange, branch_names}
-use Rattle.hangar_core.specs.Workspaces.{Answered, branch_limit, branch_named, changed_to, has_name, on_branch, on_found, put_where_named}
+use Rattle.hangar_core.specs.Standing.{AreRevisionsWithin, IsBranchIn, IsChangeOn, IsWorkspace, MayChange, branch_names}
+use Rattle.hangar_core.specs.Workspaces.{Answered, branch_limit, branch_named, has_name, on_branch, on_found, put_where_named}
 use Rattle.hangar_core.proofs.Plain.{none_some, some_same}
-use Rattle.hangar_core.proofs.Named.{found_passes}
 use Rattle.hangar_core.proofs.Places.{left_is_removed, put_is_set}
 use Rattle.hangar_core.proofs.Standings.{all_added, all_get, all_removed, all_set, distinct_opened, distinct_removed, names_set}
 use Rattle.hangar_core.proofs.Histories.{free_name}

@@ -3,7 +3,6 @@ use Rattle.std.specs.Prelude.{◌≡◌, ℕ, zero, suc, pos, List, [], ◌∷�
 use Rattle.aerie_base.specs.declared.plans.Plan.{Plan}
 use Rattle.run_data.specs.KeptRuns.{KeptRun}
 use Rattle.aerie_base.specs.declared.values.Kind.TheVariants as kind
-use Rattle.aerie_base.specs.declared.values.Value.TheVariants.{Int}
 use Rattle.aerie_base.specs.declared.arguments.RawValue.TheVariants as raw
 use Rattle.aerie_base.specs.declared.models.model.Parts.{Parts}
 use Rattle.plan_edit.specs.declared.errors.EditError.TheVariants.{NoDirective}

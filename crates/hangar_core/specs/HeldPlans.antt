@@ -1,5 +1,5 @@
 -- A plan that a branch holds for itself, or together with those who fetched it, or both.
-use Rattle.std.specs.Prelude.{◌≡◌, ℕ, [], Option, Some, None}
+use Rattle.std.specs.Prelude.{◌≡◌, [], Option, Some, None}
 use Rattle.aerie_base.specs.declared.plans.Plan.{Plan}
 
 -- the plan that is held

@@ -1,5 +1,5 @@
 -- The workspace machine: what each action answers, and the workspace after it.
-use Rattle.std.specs.Prelude.{ℕ, List, [], ◌∷◌, Result, Ok, Err}
+use Rattle.std.specs.Prelude.{List, [], ◌∷◌}
 use Rattle.plan_edit.specs.Editing.{add_of, remove_of, move_of, set_of}
 use Rattle.plan_edit.specs.Loading.{load_of}
 use Rattle.hangar_core.specs.declared.actions.Action.{Action}

@@ -1,5 +1,5 @@
 -- What does not change along a list of actions.
-use Rattle.std.specs.Prelude.{◌≡◌, ℕ, ◌≤◌, List, ◌++◌, Some}
+use Rattle.std.specs.Prelude.{◌≡◌, ℕ, ◌≤◌, List, Some}
 use Rattle.hangar_core.specs.declared.actions.Action.{Action}
 use Rattle.hangar_core.specs.declared.branches.Branch.{Branch}
 use Rattle.hangar_core.specs.declared.workspaces.Workspace.{Workspace}

@@ -1,6 +1,5 @@
-use Rattle.std.proofs.Common.{◌≡◌, ◌+◌, Some, slice_get, sym, ap, ◌∙◌}
+use Rattle.std.proofs.Common.{◌+◌, Some, sym, ap, ◌∙◌}
 use Rattle.aerie_base.specs.declared.plans.Plan.{Plan}
-use Rattle.hangar_core.specs.declared.branches.Branch.{Branch}
 use Rattle.hangar_core.proofs.EditedBranches.{edited_stays, model_at, refusal_made}
 use Rattle.hangar_core.proofs.changes.edited.Goals as goal
 

@@ -1,4 +1,4 @@
-use Rattle.std.proofs.Common.{◌≡◌, Some, Option, sym, subst}
+use Rattle.std.proofs.Common.{◌≡◌, Option, sym, subst}
 use Rattle.std.specs.Prelude.{IfOk}
 use Rattle.plan_edit.specs.declared.mappings.Mapping.{Mapping}
 use Rattle.hangar_core.specs.declared.replies.Reply.{Reply}
