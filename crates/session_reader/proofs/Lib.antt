@@ -1,0 +1,11 @@
+pub mod NotedInTurn
+pub mod Turns
+pub mod Joined
+pub mod Each
+pub mod Found
+pub mod Refusals
+pub mod Quoted
+pub mod Fits
+pub mod DifferentNames
+pub mod SectionRanges
+pub mod GoodSessions

@@ -1,0 +1,9 @@
+use Rattle.session_reader.specs.MappingDiagnostics.{mapping_diagnostics}
+use Rattle.session_reader.proofs.Turns.{each_turn}
+use Rattle.session_reader.proofs.mappings.note_each_mapping.Goals as goal
+
+pub loop-mapping-preserved : goal.loop-mapping-preserved
+loop-mapping-preserved c =
+    each_turn (mapping_diagnostics c.args.models.now)
+    c.args.mappings.now c.loop-mapping.mapping-index c.mapping-item.result c.loop-mapping-test.true c.mapping-item.is
+    _ _ _ c.in_ok-note_mapping.ensures c.loop-mapping.invariant

@@ -1,0 +1,99 @@
+-- What the text of a session means.
+use Rattle.std.specs.Prelude.{ℕ, ℤ, ◌+◌, List, [], ◌∷◌, ◌++◌, Ok, map}
+use Rattle.aerie_base.specs.declared.models.model.Parts.{Parts}
+use Rattle.aerie_base.specs.declared.plans.Plan.{Plan}
+use Rattle.session_grammar.specs.declared.raw.sections.RawSections.{RawSections}
+use Rattle.session_grammar.specs.declared.raw.sessions.RawSession.{RawSession}
+use Rattle.session_reader.specs.declared.diagnostics.Diagnostic.{Diagnostic}
+use Rattle.session_reader.specs.declared.session.ModelPart.{ModelPart}
+use Rattle.session_reader.specs.declared.session.Session.{Session}
+use Rattle.session_reader.specs.declared.sessions.AllSections.{AllSections}
+use Rattle.session_reader.specs.Answers.{Answer, then_made_of, unless_found}
+use Rattle.session_reader.specs.CheckedModels.{models_answer}
+use Rattle.session_reader.specs.ClientCommands.{clients_meant}
+use Rattle.session_reader.specs.ClientNames.{repeated_client, unless_repeated}
+use Rattle.session_reader.specs.DatasetAnswers.{NamedSeries, datasets_answer}
+use Rattle.session_reader.specs.DatasetNames.{datasets_diagnostics}
+use Rattle.session_reader.specs.Diagnostics.{first_diagnostic}
+use Rattle.session_reader.specs.MappingDiagnostics.{mappings_diagnostics}
+use Rattle.session_reader.specs.MeantMappings.{mappings_meant}
+use Rattle.session_reader.specs.PlanSections.{plan_answer}
+use Rattle.session_reader.specs.RepeatedNames.{repeated_diagnostics}
+use Rattle.session_reader.specs.Sections.{no_sections, section_of, sections_by_model, sections_diagnostics}
+use Rattle.session_reader.specs.Starts.{start_answer}
+
+-- ---- names
+
+-- what is wrong with the sections, sort by sort
+abbrev pub all_sections_diagnostics : List Parts → RawSections → List Diagnostic
+all_sections_diagnostics models sections =
+    sections_diagnostics models (no_sections models) sections.constraints
+    ++ sections_diagnostics models (no_sections models) sections.goals
+    ++ sections_diagnostics models (no_sections models) sections.sequences
+
+-- what is wrong with the names of models, mappings, datasets and sections
+abbrev pub session_diagnostics : List Parts → RawSession → List Diagnostic
+session_diagnostics models raw =
+    repeated_diagnostics [] (map (λ model. model.name) raw.models)
+    ++ mappings_diagnostics models raw.mappings
+    ++ datasets_diagnostics models raw.datasets
+    ++ all_sections_diagnostics models raw.sections
+
+-- ---- models with their sections
+
+-- the sections of each sort, by model
+abbrev pub all_sections : List Parts → RawSections → AllSections
+all_sections models raw =
+    record {
+      constraints = sections_by_model models (no_sections models) raw.constraints;
+      goals = sections_by_model models (no_sections models) raw.goals;
+      sequences = sections_by_model models (no_sections models) raw.sequences;
+    }
+
+abbrev pub model_part : AllSections → ℕ → Parts → ModelPart
+model_part sections number model =
+    record {
+      model = model;
+      constraints = section_of sections.constraints number;
+      goals = section_of sections.goals number;
+      sequence = section_of sections.sequences number;
+    }
+
+-- the models from a number on, with their sections
+abbrev pub model_parts : AllSections → ℕ → List Parts → List ModelPart
+model_parts sections number [] = []
+model_parts sections number (model ∷ rest) = model_part sections number model ∷ model_parts sections (number + 1) rest
+
+-- ---- the session
+
+abbrev pub session_made : List Parts → RawSession → ℤ → Plan → List NamedSeries → Session
+session_made models raw start plan datasets =
+    record {
+      models = model_parts (all_sections models raw.sections) 0 models;
+      mappings = mappings_meant models raw.mappings;
+      start = start;
+      branch = raw.plan.branch.name;
+      plan = plan;
+      datasets = datasets;
+      clients = clients_meant raw.clients;
+    }
+
+-- with the plan: clients have different names, and then the datasets are read
+abbrev pub session_planned : List Parts → RawSession → ℤ → Plan → Answer Session
+session_planned models raw start plan =
+    unless_repeated (repeated_client [] raw.clients)
+    (then_made_of (λ datasets. Ok (session_made models raw start plan datasets)) (datasets_answer 0 raw.datasets))
+
+-- with the start: the plan section's directives are added
+abbrev pub session_started : List Parts → RawSession → ℤ → Answer Session
+session_started models raw start = then_made_of (session_planned models raw start) (plan_answer models raw.plan)
+
+-- with the models: names are judged, and then the start
+abbrev pub session_over : RawSession → List Parts → Answer Session
+session_over raw models =
+    unless_found (first_diagnostic (session_diagnostics models raw))
+    (then_made_of (session_started models raw) (start_answer raw.plan.start))
+
+-- the session that is meant, or the first refusal
+abbrev pub session_answer : RawSession → Answer Session
+session_answer raw = then_made_of (session_over raw) (models_answer raw.models)

@@ -1,0 +1,210 @@
+//! Clients and their commands.
+
+ghost use Rattle.std.specs.Prelude.{◌≡◌, [], map, IfOk};
+ghost use Rattle.hangar_core.specs.declared.commands.Command.TheVariants as command;
+ghost use Rattle.session_reader.specs.ClientCommands.{command_meant, client_meant, clients_meant};
+ghost use Rattle.session_reader.specs.ClientNames.{is_client_name as is_client_name_by, repeated_client as repeated_client_by};
+ghost use Rattle.session_reader.specs.Quotes.{unquoted as unquoted_by};
+
+use crate::quotes::{BACKQUOTE, unquoted};
+use crate::session::Client;
+use aerie_base::{List, Name, OutOfMemory, Place, RawArgument, Text, When};
+use hangar_core::Command;
+use session_grammar::{RawClient, RawCommand, RawGiven};
+use std::alloc::Global;
+
+/// Whether one of some clients has the name.
+fn is_client_name(clients: &[RawClient], name: &Name) -> bool
+    ensures { result ≡ is_client_name_by clients.now name.now }
+{
+    clients.iter().any(|client| client.name == *name)
+}
+
+/// The place of the first name that an earlier client has. There are at most 16 clients.
+pub(crate) fn repeated_client(clients: &[RawClient]) -> Option<Place>
+    ensures { result ≡ repeated_client_by [] clients.now }
+{
+    for number in 0..clients.len() {
+        let client = &clients[number];
+        if is_client_name(&clients[..number], &client.name) {
+            return Some(client.at);
+        }
+    }
+    None
+}
+
+/// An equal list of arguments.
+fn copy_arguments(
+    alloc: Global,
+    arguments: &[RawArgument],
+) -> Result<List<RawArgument>, OutOfMemory>
+    ensures { IfOk result (λ copies. copies ≡ arguments.now) }
+{
+    let mut copies = List::with_capacity(alloc, arguments.len())?;
+    for argument in arguments {
+        copies.push(argument.copy(alloc)?)?;
+    }
+    Ok(copies)
+}
+
+/// The command that adds a directive.
+fn add(alloc: Global, branch: &Name, at: When, given: &RawGiven) -> Result<Command, OutOfMemory>
+    ensures { IfOk result (λ made. made ≡ command.Add branch.now at given.now.kind given.now.arguments) }
+{
+    let branch = branch.copy(alloc)?;
+    let kind = given.kind.copy(alloc)?;
+    Ok(Command::Add {
+        branch,
+        at,
+        kind,
+        arguments: copy_arguments(alloc, given.arguments.as_slice())?,
+    })
+}
+
+/// The command that gives a directive another argument.
+fn set(
+    alloc: Global,
+    branch: &Name,
+    id: u32,
+    argument: &RawArgument,
+) -> Result<Command, OutOfMemory>
+    ensures { IfOk result (λ made. made ≡ command.Set branch.now id argument.now.name argument.now.value) }
+{
+    let branch = branch.copy(alloc)?;
+    let parameter = argument.name.copy(alloc)?;
+    Ok(Command::Set {
+        branch,
+        id,
+        parameter,
+        value: argument.value.copy(alloc)?,
+    })
+}
+
+/// The command that puts the directives of a text in place of a branch's.
+fn load(alloc: Global, branch: &Name, text: &Text) -> Result<Command, OutOfMemory>
+    ensures { IfOk result (λ made. made ≡ command.Load branch.now (unquoted_by 96 text.now)) }
+{
+    let branch = branch.copy(alloc)?;
+    Ok(Command::Load {
+        branch,
+        text: Text::new(alloc, unquoted(BACKQUOTE, text.as_str()))?,
+    })
+}
+
+/// Equal names, both of them.
+fn both(alloc: Global, one: &Name, other: &Name) -> Result<(Name, Name), OutOfMemory>
+    ensures { IfOk result (λ names. names ≡ (one.now, other.now)) }
+{
+    let one = one.copy(alloc)?;
+    Ok((one, other.copy(alloc)?))
+}
+
+/// The command that opens a branch as another stands.
+fn fork(alloc: Global, branch: &Name, source: &Name) -> Result<Command, OutOfMemory>
+    ensures { IfOk result (λ made. made ≡ command.Fork branch.now source.now) }
+{
+    let (branch, source) = both(alloc, branch, source)?;
+    Ok(Command::Fork { branch, source })
+}
+
+/// The command that moves a branch to a model.
+fn migrate(alloc: Global, branch: &Name, model: &Name) -> Result<Command, OutOfMemory>
+    ensures { IfOk result (λ made. made ≡ command.Migrate branch.now model.now) }
+{
+    let (branch, model) = both(alloc, branch, model)?;
+    Ok(Command::Migrate { branch, model })
+}
+
+/// The command that merges branches.
+fn merge(alloc: Global, target: &Name, source: &Name, base: &Name) -> Result<Command, OutOfMemory>
+    ensures { IfOk result (λ made. made ≡ command.Merge target.now source.now base.now) }
+{
+    let (target, source) = both(alloc, target, source)?;
+    Ok(Command::Merge {
+        target,
+        source,
+        base: base.copy(alloc)?,
+    })
+}
+
+/// The command that is meant.
+fn command(alloc: Global, raw: &RawCommand) -> Result<Command, OutOfMemory>
+    ensures { IfOk result (λ made. made ≡ command_meant raw.now) }
+{
+    match raw {
+        RawCommand::New { branch } => Ok(Command::New {
+            branch: branch.copy(alloc)?,
+        }),
+        RawCommand::Fork { branch, source } => fork(alloc, branch, source),
+        RawCommand::Drop { branch } => Ok(Command::Drop {
+            branch: branch.copy(alloc)?,
+        }),
+        RawCommand::Add { branch, at, given } => add(alloc, branch, *at, given),
+        RawCommand::Remove { branch, id } => Ok(Command::Remove {
+            branch: branch.copy(alloc)?,
+            id: *id,
+        }),
+        RawCommand::Move { branch, id, at } => Ok(Command::Move {
+            branch: branch.copy(alloc)?,
+            id: *id,
+            at: *at,
+        }),
+        RawCommand::Set {
+            branch,
+            id,
+            argument,
+        } => set(alloc, branch, *id, argument),
+        RawCommand::Load { branch, text } => load(alloc, branch, text),
+        RawCommand::Migrate { branch, model } => migrate(alloc, branch, model),
+        RawCommand::Show { branch } => Ok(Command::Show {
+            branch: branch.copy(alloc)?,
+        }),
+        RawCommand::Simulate { branch } => Ok(Command::Simulate {
+            branch: branch.copy(alloc)?,
+        }),
+        RawCommand::Schedule { branch } => Ok(Command::Schedule {
+            branch: branch.copy(alloc)?,
+        }),
+        RawCommand::Merge {
+            branch,
+            source,
+            base,
+        } => merge(alloc, branch, source, base),
+        RawCommand::Expand { branch } => Ok(Command::Expand {
+            branch: branch.copy(alloc)?,
+        }),
+    }
+}
+
+/// The commands that are meant.
+fn commands(alloc: Global, raw: &[RawCommand]) -> Result<List<Command>, OutOfMemory>
+    ensures { IfOk result (λ made. made ≡ map command_meant raw.now) }
+{
+    let mut made = List::with_capacity(alloc, raw.len())?;
+    for one in raw {
+        made.push(command(alloc, one)?)?;
+    }
+    Ok(made)
+}
+
+/// The client that is meant.
+fn client(alloc: Global, raw: &RawClient) -> Result<Client, OutOfMemory>
+    ensures { IfOk result (λ made. made ≡ client_meant raw.now) }
+{
+    let name = raw.name.copy(alloc)?;
+    Ok(Client {
+        name,
+        commands: commands(alloc, raw.commands.as_slice())?,
+    })
+}
+
+/// The clients that are meant. It takes time linear in their commands.
+pub(crate) fn clients(alloc: Global, raw: &[RawClient]) -> Result<List<Client>, OutOfMemory>
+    ensures { IfOk result (λ made. made ≡ clients_meant raw.now) }
+{
+    let mut made = List::with_capacity(alloc, raw.len())?;
+    for one in raw {
+        made.push(client(alloc, one)?)?;
+    }
+    Ok(made)
+}

@@ -1,0 +1,26 @@
+//! Sessions: what the text of a session means, or the first thing in it that is refused.
+#![tactic(auto)]
+
+mod clients;
+mod dataset_names;
+mod datasets;
+mod diagnostics;
+mod feeds;
+mod known_parts;
+mod literals;
+mod mappings;
+mod meant_mappings;
+mod models;
+mod names;
+mod plans;
+mod quotes;
+mod reading;
+mod sections;
+mod session;
+mod session_error;
+mod sessions;
+mod starts;
+
+pub use reading::read_session;
+pub use session::{Client, ModelPart, Session};
+pub use session_error::SessionError;
