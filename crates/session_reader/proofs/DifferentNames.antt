@@ -1,5 +1,5 @@
 -- Names of which none is refused differ.
-use Rattle.std.proofs.Common.{◌≡◌, ℕ, suc, length, ◌&&◌, Bool, true, false, not, List, [], ◌∷◌, ◌++◌, Option, Some, None, Result, Ok, Err, map, refl, sym, ap, ◌∙◌, subst, append_assoc}
+use Rattle.std.proofs.Common.{◌≡◌, ℕ, suc, length, ◌&&◌, true, false, not, List, [], ◌∷◌, ◌++◌, Some, None, Ok, Err, map, refl, sym, ap, ◌∙◌, subst, append_assoc}
 use Rattle.std.proofs.lemmas.List.Sorted.{IsPermutation-middle}
 use Rattle.aerie_base.specs.declared.models.model.Parts.{Parts}
 use Rattle.aerie_base.specs.models.NameLaws.{distinct_permuted}

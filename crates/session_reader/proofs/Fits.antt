@@ -1,5 +1,5 @@
 -- Mappings of which nothing is refused fit their models.
-use Rattle.std.proofs.Common.{◌≡◌, ℕ, zero, suc, ◌+◌, ◌<◌, ◌≤◌, Bool, true, false, not, ◌&&◌, ◌||◌, List, [], ◌∷◌, ◌++◌, Option, Some, None, is_some, option_map, option_and_then, length, map, position, slice_get, find, nat_le, nat_lt, refl, sym, ap, ◌∙◌, subst, arith, true≢false, leb-true, lt-ltb}
+use Rattle.std.proofs.Common.{◌≡◌, ℕ, zero, suc, ◌<◌, ◌≤◌, Bool, true, false, not, ◌&&◌, ◌||◌, List, [], ◌∷◌, ◌++◌, Option, Some, None, is_some, option_map, option_and_then, length, map, slice_get, find, nat_le, nat_lt, refl, sym, ap, ◌∙◌, subst, arith, true≢false, leb-true, lt-ltb}
 use Rattle.std.proofs.lemmas.Bool.{le-leb}
 use Rattle.std.proofs.lemmas.Option.{none-some, same_Some, slice_get-map}
 use Rattle.std.specs.List.{AllByRecursion, list_all, list_any}
@@ -11,7 +11,6 @@ use Rattle.aerie_base.specs.declared.models.model.Parts.{Parts}
 use Rattle.aerie_base.specs.declared.values.Kind.{Kind}
 use Rattle.aerie_base.specs.declared.values.Kind.TheVariants as kind
 use Rattle.aerie_base.specs.declared.values.Value.{Value}
-use Rattle.aerie_base.specs.declared.values.Value.TheVariants as value
 use Rattle.aerie_base.specs.expressions.Typing.{same_kind}
 use Rattle.aerie_base.specs.models.Activities.{is_default, is_parameter, are_parameters, parameter_names, are_requires, is_result, is_activity, activity_setting}
 use Rattle.aerie_base.specs.models.Bodies.{is_body}
@@ -28,9 +27,7 @@ use Rattle.model_reader.specs.declared.raw.literals.RawLiteralKind.{RawLiteralKi
 use Rattle.model_reader.specs.declared.raw.literals.RawLiteralKind.TheVariants as literal
 use Rattle.model_reader.specs.declared.raw.names.RawName.{RawName}
 use Rattle.plan_edit.specs.declared.mappings.Feed.{Feed}
-use Rattle.plan_edit.specs.declared.mappings.Feed.TheVariants.{Old, Fixed}
-use Rattle.plan_edit.specs.declared.mappings.TypeRule.{TypeRule}
-use Rattle.plan_edit.specs.declared.mappings.Mapping.{Mapping}
+use Rattle.plan_edit.specs.declared.mappings.Feed.TheVariants.{Old}
 use Rattle.plan_edit.specs.Arguments.{parameter_place}
 use Rattle.plan_edit.specs.Editing.{type_place}
 use Rattle.plan_edit.specs.Mappings.{feeds_from, is_feed, are_feeds, is_rule_for, is_type_rule}
@@ -43,14 +40,13 @@ use Rattle.session_grammar.specs.declared.raw.mappings.RawTypeRule.{RawTypeRule}
 use Rattle.session_reader.specs.CheckedModels.{AreValid}
 use Rattle.session_reader.specs.Diagnostics.{all_of, refused_unless}
 use Rattle.session_reader.specs.KnownParts.{model_place, model_named, type_named, parameter_named}
-use Rattle.session_reader.specs.Literals.{enum_place, enum_named, variant_place, variant_diagnostics, literal_diagnostics, literal_kind, literal_value, variant_in, variant_value}
+use Rattle.session_reader.specs.Literals.{enum_place, variant_place, variant_diagnostics, literal_diagnostics, literal_kind, literal_value, variant_in, variant_value}
 use Rattle.session_reader.specs.MappingDiagnostics.{may_feed_if_known, same_if_known, value_fits, value_diagnostics, parameter_diagnostics, feed_diagnostics, gets_a_value, feeds_diagnostics, between_diagnostics, rule_diagnostics, rules_diagnostics, among_diagnostics, mapping_diagnostics}
 use Rattle.session_reader.specs.MeantMappings.{default_of, feed_written, feed_or_default, feed_for, feeds_between, rule_meant, rules_among, mapping_meant, number_at}
 use Rattle.session_reader.specs.RepeatedNames.{repeated_diagnostics}
 use Rattle.hangar_core.specs.Standing.{IsMappingIn}
 use Rattle.session_reader.specs.declared.diagnostics.Cause.TheVariants.{Unknown, WrongType}
-use Rattle.session_reader.specs.declared.diagnostics.Diagnostic.{Diagnostic}
-use Rattle.session_reader.proofs.Found.{holds_if_empty, each_empty, both_true, and_too, not_true, each_true, StandsAt, found_at, short_is, there, any_place, none_found, one_found, same_is, same_one}
+use Rattle.session_reader.proofs.Found.{holds_if_empty, each_empty, both_true, and_too, each_true, StandsAt, found_at, short_is, there, any_place, none_found, one_found, same_is, same_one}
 
 -- ---- what is known of a valid model
 

@@ -1,5 +1,5 @@
 -- What nothing that was found says, and what stands at the place of the first that passes.
-use Rattle.std.proofs.Common.{◌≡◌, ℕ, zero, suc, ◌+◌, ◌<◌, ◌≤◌, Bool, true, false, not, ◌&&◌, ◌||◌, List, [], ◌∷◌, ◌++◌, Option, Some, None, is_some, length, get_or, map, position, slice_get, find, nat_eq, nat_lt, eqb-true, eq-eqb, lt-ltb, refl, sym, ap, ◌∙◌, subst, arith, true≢false, if◌then◌else◌}
+use Rattle.std.proofs.Common.{◌≡◌, ℕ, zero, suc, ◌<◌, ◌≤◌, Bool, true, false, not, ◌&&◌, ◌||◌, List, [], ◌∷◌, Option, Some, None, is_some, length, get_or, map, position, slice_get, find, nat_eq, eqb-true, eq-eqb, lt-ltb, refl, sym, ap, ◌∙◌, subst, arith, true≢false, if◌then◌else◌}
 use Rattle.std.proofs.lemmas.List.Quantifiers.{position-Some}
 use Rattle.std.proofs.lemmas.Option.{none-some, same_Some, slice_get-get_or}
 use Rattle.std.specs.List.{AllByRecursion, list_all, list_any, position_or_len}
@@ -9,7 +9,7 @@ use Rattle.model_check.specs.Literals.{short}
 use Rattle.model_check.proofs.Sound.Empty.{front_empty, back_empty}
 use Rattle.session_reader.specs.declared.diagnostics.Cause.{Cause}
 use Rattle.session_reader.specs.declared.diagnostics.Diagnostic.{Diagnostic}
-use Rattle.session_reader.specs.Diagnostics.{all_of, noted, refused_unless, sooner}
+use Rattle.session_reader.specs.Diagnostics.{all_of, noted, refused_unless}
 
 -- ---- nothing was found
 

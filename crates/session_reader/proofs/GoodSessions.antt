@@ -1,25 +1,22 @@
 -- A session of which nothing is refused is well formed.
-use Rattle.std.proofs.Common.{◌≡◌, ℕ, ℤ, ◌≤◌, true, List, [], ◌++◌, Some, Ok, Err, map, length, refl, sym, ap, ◌∙◌, subst}
+use Rattle.std.proofs.Common.{◌≡◌, ℕ, ℤ, ◌≤◌, true, List, [], ◌++◌, map, sym, ap, ◌∙◌, subst}
 use Rattle.std.specs.List.{AllByRecursion}
 use Rattle.aerie_base.specs.declared.models.model.Parts.{Parts}
 use Rattle.aerie_base.specs.declared.plans.Plan.{Plan}
 use Rattle.aerie_base.specs.models.Names.{are_distinct}
-use Rattle.model_check.specs.ModelMeaning.{names_of}
 use Rattle.model_check.proofs.Sound.Empty.{front_empty, back_empty, four}
 use Rattle.model_reader.specs.declared.raw.models.RawModel.{RawModel}
 use Rattle.session_grammar.specs.declared.raw.sessions.RawSession.{RawSession}
 use Rattle.session_grammar.specs.SessionLimits.{IsLimitedSession}
-use Rattle.session_reader.specs.CheckedModels.{AreValid, models_answer}
 use Rattle.session_reader.specs.DatasetAnswers.{AreSeries, NamedSeries}
 use Rattle.session_reader.specs.DatasetNames.{datasets_diagnostics}
 use Rattle.session_reader.specs.Diagnostics.{all_of}
 use Rattle.session_reader.specs.MappingDiagnostics.{mapping_diagnostics, mappings_diagnostics, repeated_mappings}
 use Rattle.session_reader.specs.MeantMappings.{mapping_meant}
 use Rattle.session_reader.specs.RepeatedNames.{repeated_diagnostics}
-use Rattle.session_reader.specs.Sessions.{all_sections, all_sections_diagnostics, session_diagnostics, session_made}
+use Rattle.session_reader.specs.Sessions.{all_sections, all_sections_diagnostics, session_made}
 use Rattle.hangar_core.specs.Standing.{AreModels, IsMappingIn, model_limit}
-use Rattle.session_reader.specs.WellFormed.{IsLimited, IsPlanOfFirst, IsSession, HasSectionsWithin, MayBeMade}
-use Rattle.session_reader.specs.declared.session.Session.{Session}
+use Rattle.session_reader.specs.WellFormed.{IsPlanOfFirst, IsSession, HasSectionsWithin, MayBeMade}
 use Rattle.session_reader.proofs.DifferentNames.{as_many, different, names_kept}
 use Rattle.session_reader.proofs.Fits.{mappings_good}
 use Rattle.session_reader.proofs.Found.{each_empty}

@@ -1,5 +1,5 @@
 -- What calls of other crates refuse, and what of it the session refuses.
-use Rattle.std.proofs.Common.{◌≡◌, ℕ, ◌+◌, ◌-◌, ◌<◌, List, [], ◌∷◌, ◌++◌, Result, Ok, Err, length, drop, get_or, refl, sym, ap, subst, ◌∙◌, arith}
+use Rattle.std.proofs.Common.{◌≡◌, ℕ, ◌+◌, ◌-◌, ◌<◌, List, Result, Ok, Err, length, drop, get_or, sym, ap, subst, ◌∙◌, arith}
 use Rattle.aerie_base.specs.declared.models.model.Parts.{Parts}
 use Rattle.aerie_base.specs.declared.plans.Directive.{Directive}
 use Rattle.aerie_base.specs.declared.plans.Plan.{Plan}
@@ -16,7 +16,7 @@ use Rattle.plan_edit.specs.declared.errors.EditError.{EditError}
 use Rattle.plan_edit.specs.declared.errors.EditError.TheVariants as edit
 use Rattle.session_reader.specs.Answers.{Answer, IsRefusal, then_made_of as then_made}
 use Rattle.session_reader.specs.CheckedModels.{check_refusal, of_check}
-use Rattle.session_reader.specs.DatasetAnswers.{NamedSeries, fault_refusal, of_series}
+use Rattle.session_reader.specs.DatasetAnswers.{fault_refusal, of_series}
 use Rattle.session_grammar.specs.declared.raw.plans.RawDirective.{RawDirective}
 use Rattle.session_reader.specs.PlanSections.{directive_added, directives_added, edit_refusal, of_edit}
 use Rattle.session_reader.specs.declared.session_error.SessionError.{SessionError}

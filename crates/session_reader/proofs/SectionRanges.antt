@@ -1,14 +1,13 @@
 -- The sections of models stand among the tokens.
-use Rattle.std.proofs.Common.{◌≡◌, ℕ, zero, suc, ◌+◌, ◌≤◌, Bool, true, false, List, [], ◌∷◌, Option, Some, None, is_some, length, map, replicate, slice_index_or, slice_set, refl, ap, ◌∙◌, if◌then◌else◌}
+use Rattle.std.proofs.Common.{◌≡◌, ℕ, zero, suc, ◌+◌, Bool, true, false, List, [], ◌∷◌, Option, Some, None, is_some, length, map, replicate, slice_set, refl, ap, if◌then◌else◌}
 use Rattle.std.specs.List.{AllByRecursion}
 use Rattle.aerie_base.specs.declared.models.model.Parts.{Parts}
-use Rattle.session_grammar.specs.SessionLimits.{AreRangesWithin, IsRangeWithin as IsRawRange}
+use Rattle.session_grammar.specs.SessionLimits.{AreRangesWithin}
 use Rattle.session_grammar.specs.declared.raw.sections.RawSection.{RawSection}
 use Rattle.session_grammar.specs.declared.raw.sections.RawSections.{RawSections}
 use Rattle.session_reader.specs.Sections.{SectionsByModel, TokenRange, model_of_section, no_sections, section_of, section_put, sections_by_model, with_section}
-use Rattle.session_reader.specs.Sessions.{all_sections, model_part, model_parts}
+use Rattle.session_reader.specs.Sessions.{all_sections, model_parts}
 use Rattle.session_reader.specs.WellFormed.{HasSectionsWithin, IsRangeWithin}
-use Rattle.session_reader.specs.declared.session.ModelPart.{ModelPart}
 use Rattle.session_reader.specs.declared.sessions.AllSections.{AllSections}
 
 module _ (count : ℕ) where

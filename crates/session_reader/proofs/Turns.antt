@@ -1,5 +1,5 @@
 -- One turn of a loop over a list, whose invariant says what is left: what is noted of the rest.
-use Rattle.std.proofs.Common.{◌≡◌, ℕ, ◌+◌, ◌<◌, List, [], ◌∷◌, ◌++◌, Option, length, get_or, drop, map, refl, sym, ap, ◌∙◌, append_assoc}
+use Rattle.std.proofs.Common.{◌≡◌, ℕ, ◌+◌, ◌<◌, List, [], ◌∷◌, ◌++◌, Option, length, get_or, drop, map, sym, ap, ◌∙◌, append_assoc}
 use Rattle.std.proofs.lemmas.List.{drop_more}
 use Rattle.session_reader.specs.declared.diagnostics.Diagnostic.{Diagnostic}
 use Rattle.session_reader.specs.Diagnostics.{noted, all_of}

@@ -1,5 +1,5 @@
 -- What is made of a part of a session, or why nothing is.
-use Rattle.std.specs.Prelude.{◌≡◌, ℕ, List, [], ◌∷◌, Option, Some, None, Result, Ok, Err}
+use Rattle.std.specs.Prelude.{◌≡◌, List, ◌∷◌, Option, Some, None, Result, Ok, Err}
 use Rattle.aerie_base.specs.declared.places.Place.{Place}
 use Rattle.model_check.specs.declared.check_error.CheckError.{CheckError}
 use Rattle.model_check.specs.declared.check_error.CheckError.TheVariants as check
@@ -7,7 +7,7 @@ use Rattle.session_reader.specs.declared.diagnostics.Cause.{Cause}
 use Rattle.session_reader.specs.declared.diagnostics.Cause.TheVariants.{Unknown, Duplicate, WrongType}
 use Rattle.session_reader.specs.declared.diagnostics.Diagnostic.{Diagnostic}
 use Rattle.session_reader.specs.declared.session_error.SessionError.{SessionError}
-use Rattle.session_reader.specs.declared.session_error.SessionError.TheVariants.{TooLarge, NotText, Syntax, TooMany, Check, Start, Directive, Client, Dataset, OutOfMemory}
+use Rattle.session_reader.specs.declared.session_error.SessionError.TheVariants.{Check, OutOfMemory}
 
 -- a part, or why there is none
 abbrev pub Answer : Type 0 → Type 0

@@ -1,5 +1,5 @@
 -- Literals of a mapping, by the enumerations of the new model: what is wrong with one, its type and its value.
-use Rattle.std.specs.Prelude.{ℕ, ◌==◌, Bool, true, false, List, [], Option, Some, None, option_map, option_and_then, position, slice_get}
+use Rattle.std.specs.Prelude.{ℕ, false, List, [], Option, Some, None, option_map, option_and_then, position, slice_get}
 use Rattle.aerie_base.specs.declared.models.EnumType.{EnumType}
 use Rattle.aerie_base.specs.declared.values.Kind.{Kind}
 use Rattle.aerie_base.specs.declared.values.Kind.TheVariants.{Int, Truth, Enum}

@@ -1,5 +1,5 @@
 -- The mappings that are meant; where something is wrong with one, it is never used.
-use Rattle.std.specs.Prelude.{ℕ, false, List, [], ◌∷◌, Option, Some, None, find, map}
+use Rattle.std.specs.Prelude.{ℕ, false, List, [], Option, Some, None, find, map}
 use Rattle.aerie_base.specs.declared.models.Activity.{Activity}
 use Rattle.aerie_base.specs.declared.models.Parameter.{Parameter}
 use Rattle.aerie_base.specs.declared.models.model.Parts.{Parts}

@@ -1,5 +1,5 @@
 -- Texts that stand between two marks.
-use Rattle.std.specs.Prelude.{◌≡◌, ℕ, ◌-◌, ◌==◌, ◌&&◌, Bool, List, [], ◌∷◌, codes, length, nat_le, slice_index_or, if◌then◌else◌, refl}
+use Rattle.std.specs.Prelude.{◌≡◌, ℕ, ◌-◌, ◌==◌, ◌&&◌, Bool, List, [], codes, length, nat_le, slice_index_or, if◌then◌else◌, refl}
 use Rattle.aerie_text.specs.Marks.{slice_of}
 
 -- whether the text begins and ends with the mark

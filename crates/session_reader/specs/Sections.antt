@@ -1,5 +1,5 @@
 -- The sections of rules, by model.
-use Rattle.std.specs.Prelude.{ℕ, Bool, not, List, [], ◌∷◌, ◌++◌, Option, Some, None, is_some, length, replicate, slice_index_or, slice_set, if◌then◌else◌}
+use Rattle.std.specs.Prelude.{ℕ, not, List, [], ◌∷◌, ◌++◌, Option, Some, None, is_some, length, replicate, slice_index_or, slice_set, if◌then◌else◌}
 use Rattle.aerie_base.specs.declared.models.model.Parts.{Parts}
 use Rattle.aerie_base.specs.declared.places.Place.{Place}
 use Rattle.model_reader.specs.declared.raw.names.RawName.{RawName}

@@ -1,4 +1,4 @@
-use Rattle.std.proofs.Common.{List, not, map, refl, ap, ◌∙◌}
+use Rattle.std.proofs.Common.{not, map, refl, ap, ◌∙◌}
 use Rattle.aerie_base.specs.models.Names.{is_name_among}
 use Rattle.model_check.specs.NameLists.{with_name}
 use Rattle.model_reader.specs.declared.raw.names.RawName.{RawName}
