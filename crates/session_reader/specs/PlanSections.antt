@@ -5,15 +5,12 @@ use Rattle.aerie_base.specs.declared.plans.Plan.{Plan}
 use Rattle.plan_edit.specs.declared.errors.EditError.{EditError}
 use Rattle.plan_edit.specs.declared.errors.EditError.TheVariants as edit
 use Rattle.plan_edit.specs.Editing.{add_of}
+use Rattle.hangar_core.specs.Opening.{empty_plan}
 use Rattle.session_grammar.specs.declared.raw.plans.RawDirective.{RawDirective}
 use Rattle.session_grammar.specs.declared.raw.plans.RawPlan.{RawPlan}
 use Rattle.session_reader.specs.declared.session_error.SessionError.{SessionError}
 use Rattle.session_reader.specs.declared.session_error.SessionError.TheVariants.{Directive, OutOfMemory}
 use Rattle.session_reader.specs.Answers.{Answer, then_made_of}
-
--- a plan of the first model, without directives
-abbrev pub empty_plan : ℕ → Plan
-empty_plan duration = record { model = 0; duration = duration; next_id = 1; directives = [] }
 
 -- the refusal of the directive of this number; want of memory is that of the session
 abbrev pub edit_refusal : ℕ → EditError → SessionError
