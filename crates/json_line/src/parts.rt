@@ -4,7 +4,7 @@ ghost use Rattle.std.specs.Prelude.{◌≡◌, ◌++◌, ◌∷◌, [], IfOk, On
 ghost use Rattle.serde_json.specs.Data.{array, object, string};
 ghost use Rattle.serde_json.specs.View.{items_of};
 ghost use Rattle.serde_json.specs.Written.{compact_text};
-ghost use Rattle.json_line.specs.Parts.{data_tokens, member_if_tokens, member_tokens, members_from};
+ghost use Rattle.json_line.specs.Parts.{data_tokens, listed_tokens, member_if_tokens, member_tokens, members_from};
 
 use crate::data::{JsonData, JsonIn, JsonMember};
 use crate::line::JsonLine;
@@ -97,6 +97,17 @@ impl JsonLine {
             item.write_in(context, self)?;
         }
         self.end_array()
+    }
+
+    /// Items of an array that is open, each written as what it belongs to says.
+    #[tactic(auto, unfolding(crate::specs::Parts::listed_tokens))]
+    pub fn items_in<C, T: JsonIn<C>>(&mut self, context: &C, items: &[T]) -> Result<(), OutOfMemory>
+        ensures { OnOk result (self.new ≡ self.old ++ listed_tokens (map (T.data_in context.now) items.now)) }
+    {
+        for item in items {
+            item.write_in(context, self)?;
+        }
+        Ok(())
     }
 
     /// The object of these members, in their order. That this is the order of the bytes of their names, as in every object

@@ -35,7 +35,7 @@ impl<'a> JsonIn<Calendar<'a>> for Span {
         line.begin_object()?;
         line.member_in("arguments", wording, &arguments)?;
         line.member("end", &self.end)?;
-        line.member_in("path", wording, &self.path)?;
+        line.member("path", &self.path)?;
         line.member_in("result", wording, &self.result)?;
         line.member("start", &self.start)?;
         line.text_member("type", wording.type_name(self.kind))?;

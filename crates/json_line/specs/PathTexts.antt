@@ -2,6 +2,7 @@
 -- down, with dots between.
 use Rattle.std.specs.Prelude.{◌≡◌, ℕ, List, [], ◌∷◌, ◌++◌, codes, decimal, if◌then◌else◌, refl}
 use Rattle.std.specs.Fmt.{digits}
+use Rattle.serde_json.specs.Data.{Data, string}
 use Rattle.aerie_base.specs.Paths.{children_of, comes_from_daemon, daemon_path, directive_path, id_of}
 
 abbrev pub numbers_text : List ℕ → List ℕ
@@ -10,6 +11,9 @@ numbers_text (number ∷ later) = codes "." ++ (decimal number ++ numbers_text l
 
 abbrev pub path_text : List ℕ → List ℕ
 path_text path = (if comes_from_daemon path then codes "d" else []) ++ (decimal (id_of path) ++ numbers_text (children_of path))
+
+abbrev pub path_data : List ℕ → Data
+path_data path = string (path_text path)
 
 -- ---- worked cases
 

@@ -1,0 +1,86 @@
+//! How the commands of an expansion are written.
+
+ghost use Rattle.std.specs.Prelude.{◌≡◌, ◌++◌, OnOk, map};
+ghost use Rattle.serde_json.specs.Data.{array};
+ghost use Rattle.serde_json.specs.View.{items_of};
+ghost use Rattle.json_line.specs.Parts.{data_tokens};
+ghost use Rattle.report_text.specs.SequenceLines.{sent_data, sent_outside_data, sequence_data, utc_data};
+
+use crate::answers::SequenceReport;
+use crate::span_lines::Calendar;
+use crate::wordings::Wording;
+use aerie_base::{List, Name, OutOfMemory, Time};
+use epoch_text::day_text;
+use json_line::{JsonData, JsonIn, JsonLine};
+use seq_expand::Sent;
+
+/// A time as a command has it.
+#[derive(Drop)]
+struct SentTime {
+    at: i64,
+}
+
+impl<'a> JsonIn<Calendar<'a>> for SentTime {
+    ghost data_in = { λ calendar time. utc_data calendar.start time.at };
+
+    fn write_in(&self, calendar: &Calendar<'a>, line: &mut JsonLine) -> Result<(), OutOfMemory> {
+        match Time::new(self.at) {
+            Some(time) => {
+                let utc = day_text(calendar.wording.alloc(), &calendar.start, time)?;
+                line.text(utc.as_str())
+            }
+            None => line.null(),
+        }
+    }
+}
+
+/// A command with a time of the plan.
+impl<'a> JsonIn<Calendar<'a>> for Sent {
+    ghost data_in = { λ calendar sent. sent_data calendar.wording calendar.start sent };
+
+    fn write_in(&self, calendar: &Calendar<'a>, line: &mut JsonLine) -> Result<(), OutOfMemory> {
+        line.begin_object()?;
+        line.member_in("arguments", &calendar.wording, &self.arguments)?;
+        line.member("at", &self.at)?;
+        line.member("name", &self.name)?;
+        line.member("path", &self.path)?;
+        line.member_in("utc", calendar, &SentTime { at: self.at })?;
+        line.end_object()
+    }
+}
+
+/// A command outside the plan.
+impl<'a> JsonIn<Wording<'a>> for Sent {
+    ghost data_in = { sent_outside_data };
+
+    fn write_in(&self, wording: &Wording<'a>, line: &mut JsonLine) -> Result<(), OutOfMemory> {
+        line.begin_object()?;
+        line.member_in("arguments", wording, &self.arguments)?;
+        line.member("at", &self.at)?;
+        line.member("name", &self.name)?;
+        line.member("path", &self.path)?;
+        line.end_object()
+    }
+}
+
+/// The commands of an expansion of a branch.
+pub(crate) fn write_sequence<'a>(
+    line: &mut JsonLine,
+    calendar: &Calendar<'a>,
+    branch: &Name,
+    report: &SequenceReport,
+) -> Result<(), OutOfMemory>
+    requires { calendar.now.start ≡ report.now.start }
+    ensures { OnOk result (line.new ≡ line.old ++ data_tokens (sequence_data branch.now calendar.now.wording report.now)) }
+{
+    let wording = &calendar.wording;
+    let sequence = &report.sequence;
+    line.begin_object()?;
+    line.member("branch", branch)?;
+    line.member("close", &sequence.close)?;
+    line.member_in("commands", calendar, &sequence.commands)?;
+    line.member_in("outcome", wording, &report.run.get().run().outcome)?;
+    line.member_in("outside", wording, &sequence.outside)?;
+    line.member("revision", &report.revision)?;
+    line.end_object()
+}
