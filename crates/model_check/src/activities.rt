@@ -8,6 +8,7 @@ ghost use Rattle.model_check.specs.MadeStatements.{MakesBehind};
 ghost use Rattle.model_check.specs.ModelMeaning.{model_parameters, result_written, activity_in};
 ghost use Rattle.model_check.specs.ModelSymbols.{type_kind, bare_symbols};
 ghost use Rattle.model_check.specs.CheckedParameters.{parameter_of, with_parameter};
+ghost use Rattle.model_check.specs.Making.{MakesParameter, MakesParameters, MakesActivity};
 
 use crate::bodies::{body, note_end, requirements};
 use crate::declarations::{default_value, note_type, result_symbol, type_kind};
@@ -59,7 +60,7 @@ fn parameter(
     scope: &mut BodyScope,
     found: &mut Option<Diagnostic>,
 ) -> Result<Parameter, OutOfMemory>
-    ensures { IfOk result (MakesBehind (parameter_of symbols.now written.now) (parameter_diagnostics symbols.now scope.old written.now) (with_parameter symbols.now scope.old written.now) scope.new found.old found.new) }
+    ensures { IfOk result (MakesParameter symbols.now written.now scope.old scope.new found.old found.new) }
 {
     note_parameter(symbols, scope, written, found);
     let name = written.name.name.copy(alloc)?;
@@ -80,7 +81,7 @@ fn parameters(
     scope: &mut BodyScope,
     found: &mut Option<Diagnostic>,
 ) -> Result<List<Parameter>, OutOfMemory>
-    ensures { IfOk result (MakesBehind (model_parameters symbols.now written.now) (parameters_diagnostics symbols.now scope.old written.now) (parameter_scope symbols.now scope.old written.now) scope.new found.old found.new) }
+    ensures { IfOk result (MakesParameters symbols.now written.now scope.old scope.new found.old found.new) }
 {
     let mut made = List::with_capacity(alloc, written.len())?;
     for raw in written {
@@ -126,7 +127,7 @@ pub(crate) fn activity(
     found: &mut Option<Diagnostic>,
 ) -> Result<Activity, OutOfMemory>
     requires { bare.now ≡ bare_symbols symbols.now.enums }
-    ensures { IfOk result (Makes (activity_in symbols.now (parameter_scope symbols.now empty_scope written.now) name.now written.now returns.now truths.now raw.now) (activity_diagnostics_in symbols.now (parameter_scope symbols.now empty_scope written.now) name.now written.now returns.now truths.now raw.now) found.old found.new) }
+    ensures { IfOk result (MakesActivity symbols.now name.now written.now returns.now truths.now raw.now found.old found.new) }
 {
     let mut scope = BodyScope::new(alloc);
     let parameters = parameters(alloc, symbols, written, &mut scope, found)?;

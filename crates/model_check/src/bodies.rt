@@ -8,6 +8,7 @@ ghost use Rattle.model_check.specs.ModelDiagnostics.{requires_diagnostics, is_re
 ghost use Rattle.model_check.specs.ModelMeaning.{model_requires};
 ghost use Rattle.model_check.specs.ModelSymbols.{bare_symbols};
 ghost use Rattle.model_check.specs.Statements.{block_diagnostics};
+ghost use Rattle.model_check.specs.Making.{MakesBody, MakesRequires};
 
 use crate::diagnostics::{Cause, Diagnostic, note};
 use crate::expressions::typed;
@@ -37,7 +38,7 @@ pub(crate) fn body(
     mut scope: BodyScope,
     found: &mut Option<Diagnostic>,
 ) -> Result<CheckedBody, OutOfMemory>
-    ensures { IfOk result (Makes (checked_body symbols.now raw.now scope) (block_diagnostics symbols.now returns raw.now scope) found.old found.new) }
+    ensures { IfOk result (MakesBody symbols.now returns raw.now scope found.old found.new) }
 {
     let statements = block(alloc, symbols, returns, raw, &mut scope, found)?;
     Ok(CheckedBody {
@@ -53,7 +54,7 @@ pub(crate) fn daemon_body(
     raw: &List<RawStmt>,
     found: &mut Option<Diagnostic>,
 ) -> Result<CheckedBody, OutOfMemory>
-    ensures { IfOk result (Makes (checked_body symbols.now raw.now empty_scope) (block_diagnostics symbols.now None raw.now empty_scope) found.old found.new) }
+    ensures { IfOk result (MakesBody symbols.now None raw.now empty_scope found.old found.new) }
 {
     body(alloc, symbols, None, raw, BodyScope::new(alloc), found)
 }
@@ -67,7 +68,7 @@ pub(crate) fn requirements(
     found: &mut Option<Diagnostic>,
 ) -> Result<List<Expr>, OutOfMemory>
     requires { bare.now ≡ bare_symbols bare.now.enums }
-    ensures { IfOk result (Makes (model_requires bare.now scope.now written.now) (requires_diagnostics bare.now scope.now written.now) found.old found.new) }
+    ensures { IfOk result (MakesRequires bare.now scope.now written.now found.old found.new) }
 {
     let mut made = List::new(alloc);
     for truth in written {

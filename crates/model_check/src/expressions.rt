@@ -4,6 +4,7 @@ ghost use Rattle.std.specs.Prelude.{◌≡◌, IfOk};
 ghost use Rattle.model_check.specs.Diagnostics.{noted, Makes};
 ghost use Rattle.model_check.specs.Statements.{valued_diagnostics};
 ghost use Rattle.model_check.specs.Expressions.{kind_of_operator, side_kind_of, raw_kind, is_wanted, sides_diagnostics, expr_diagnostics, typed_diagnostics, expr_of};
+ghost use Rattle.model_check.specs.Making.{MakesTyped, MakesValued};
 
 use crate::cell_reads::{note_read, raw_read_kind, read_operand};
 use crate::diagnostics::Diagnostic;
@@ -157,7 +158,7 @@ pub(crate) fn typed(
     raw: &RawExpr,
     found: &mut Option<Diagnostic>,
 ) -> Result<Expr, OutOfMemory>
-    ensures { IfOk result (Makes (expr_of symbols.now scope.now raw.now) (typed_diagnostics symbols.now scope.now wanted raw.now) found.old found.new) }
+    ensures { IfOk result (MakesTyped symbols.now scope.now wanted raw.now found.old found.new) }
 {
     let made = expression(alloc, symbols, scope, raw, found)?;
     note_unless_wanted(symbols, scope, wanted, raw, found);
@@ -174,7 +175,7 @@ pub(crate) fn valued(
     raw: &RawExpr,
     found: &mut Option<Diagnostic>,
 ) -> Result<Expr, OutOfMemory>
-    ensures { IfOk result (Makes (expr_of symbols.now scope.now raw.now) (valued_diagnostics symbols.now scope.now wanted raw.now) found.old found.new) }
+    ensures { IfOk result (MakesValued symbols.now scope.now wanted raw.now found.old found.new) }
 {
     let made = expression(alloc, symbols, scope, raw, found)?;
     note_mismatch(found, raw.at, wanted, raw_kind(symbols, scope, &raw.what));

@@ -5,6 +5,7 @@ ghost use Rattle.aerie_base.specs.models.Limits.{term_limit};
 ghost use Rattle.model_check.specs.Diagnostics.{noted, refused_unless, Makes};
 ghost use Rattle.model_check.specs.LinearForms.{plain_number, negated_leaf, sum_sign, joint_sign, operator_leaf, leaves_of, leaf_diagnostics, leaves_diagnostics, form_diagnostics, terms_in, constants_in, sum_of_leaves, linear_of};
 ghost use Rattle.model_check.specs.declared.diagnostics.Cause.TheVariants.{TooManyTerms};
+ghost use Rattle.model_check.specs.Making.{MakesForm};
 
 use crate::diagnostics::{Cause, Diagnostic, note};
 use crate::leaves::{
@@ -222,7 +223,7 @@ pub(crate) fn linear(
     raw: &RawExpr,
     found: &mut Option<Diagnostic>,
 ) -> Result<Linear, OutOfMemory>
-    ensures { IfOk result (Makes (linear_of use_ symbols.now scope.now raw.now) (form_diagnostics use_ symbols.now scope.now raw.now) found.old found.new) }
+    ensures { IfOk result (MakesForm use_ symbols.now scope.now raw.now found.old found.new) }
 {
     let mut leaves = List::new(alloc);
     collect(use_, symbols, scope, raw, false, &mut leaves)?;

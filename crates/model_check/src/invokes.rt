@@ -6,6 +6,7 @@ ghost use Rattle.model_check.specs.GivenArguments.{slot_given, put_given, put_fo
 ghost use Rattle.model_check.specs.Invokes.{parameter_kind, values_diagnostics, invoke_diagnostics, result_diagnostics, call_kind, invoked_number, known_diagnostics, filled_arguments, invoke_arguments};
 ghost use Rattle.model_check.specs.NameTables.{entry_in};
 ghost use Rattle.model_check.specs.declared.diagnostics.Cause.TheVariants.{WrongType};
+ghost use Rattle.model_check.specs.Making.{AddsArgument, AddsArguments, MakesArguments, MakesInvoke};
 
 use crate::diagnostics::{Cause, Diagnostic, note};
 use crate::expressions::{expression, raw_kind};
@@ -100,7 +101,7 @@ fn argument(
     argument: &(RawName, RawExpr),
     found: &mut Option<Diagnostic>,
 ) -> Result<(), OutOfMemory>
-    ensures { IfOk result (λ _. (given.new.items ≡ given_with symbols.now scope.now parameters.now given.old.items argument.now) × (found.new ≡ noted found.old (argument_found symbols.now scope.now parameters.now given.old.items argument.now))) }
+    ensures { IfOk result (λ _. AddsArgument symbols.now scope.now parameters.now argument.now given.old.items given.new.items found.old found.new) }
 {
     let (name, value) = argument;
     let parameter = parameters.entry(&name.name);
@@ -126,7 +127,7 @@ fn each_argument(
     arguments: &[(RawName, RawExpr)],
     found: &mut Option<Diagnostic>,
 ) -> Result<(), OutOfMemory>
-    ensures { IfOk result (λ _. (given.new.items ≡ given_with_all symbols.now scope.now parameters.now given.old.items arguments.now) × (found.new ≡ noted found.old (arguments_found symbols.now scope.now parameters.now given.old.items arguments.now))) }
+    ensures { IfOk result (λ _. AddsArguments symbols.now scope.now parameters.now arguments.now given.old.items given.new.items found.old found.new) }
 {
     for raw in arguments {
         argument(alloc, symbols, scope, parameters, given, raw, found)?;
@@ -203,7 +204,7 @@ fn known_arguments(
     invoke: &RawInvoke,
     found: &mut Option<Diagnostic>,
 ) -> Result<List<Expr>, OutOfMemory>
-    ensures { IfOk result (Makes (filled_arguments symbols.now scope.now parameters.now invoke.now.arguments 0 parameters.now.values) (known_diagnostics symbols.now scope.now parameters.now invoke.now) found.old found.new) }
+    ensures { IfOk result (MakesArguments symbols.now scope.now parameters.now invoke.now found.old found.new) }
 {
     let mut given = no_arguments(alloc, parameters.values.len())?;
     let arguments = invoke.arguments.as_slice();
@@ -243,7 +244,7 @@ pub(crate) fn arguments(
     invoke: &RawInvoke,
     found: &mut Option<Diagnostic>,
 ) -> Result<List<Expr>, OutOfMemory>
-    ensures { IfOk result (Makes (invoke_arguments symbols.now scope.now invoke.now) (invoke_diagnostics symbols.now scope.now invoke.now) found.old found.new) }
+    ensures { IfOk result (MakesInvoke symbols.now scope.now invoke.now found.old found.new) }
 {
     match symbols.types.find(&invoke.name.name) {
         None => {

@@ -11,6 +11,7 @@ ghost use Rattle.model_check.specs.ModelMeaning.{names_of, kind_written, rate_of
 ghost use Rattle.model_check.specs.ModelSymbols.{type_diagnostics};
 ghost use Rattle.model_check.specs.NameTables.{entry_in};
 ghost use Rattle.model_check.specs.declared.leaves.FormUse.TheVariants.{Resource as InResource};
+ghost use Rattle.model_check.specs.Making.{MakesRegister};
 
 use crate::cell_reads::{note_read, read_operand};
 use crate::declarations::{note_type, type_kind};
@@ -93,7 +94,7 @@ pub(crate) fn register_start(
     start: &RawLiteral,
     found: &mut Option<Diagnostic>,
 ) -> CellStart
-    ensures { Makes (register_start symbols.now kind.now start.now) (type_diagnostics symbols.now.enums kind.now ++ typed_literal_diagnostics symbols.now kind.now start.now) found.old found.new result }
+    ensures { MakesRegister symbols.now kind.now start.now found.old found.new result }
 {
     note_type(&symbols.enums, kind, found);
     note_typed_literal(symbols, kind, start, found);

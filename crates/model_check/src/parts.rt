@@ -5,6 +5,7 @@ ghost use Rattle.model_check.specs.CheckedParts.{no_parts, with_checked_cell, wi
 ghost use Rattle.model_check.specs.Diagnostics.{noted, Makes};
 ghost use Rattle.model_check.specs.ModelDiagnostics.{item_diagnostics, items_diagnostics, model_diagnostics};
 ghost use Rattle.model_check.specs.ModelSymbols.{bare_symbols};
+ghost use Rattle.model_check.specs.Making.{AddsItem};
 
 use crate::activities::activity;
 use crate::bodies::daemon_body;
@@ -85,7 +86,7 @@ fn add_item(
     found: &mut Option<Diagnostic>,
 ) -> Result<(), OutOfMemory>
     requires { bare.now ≡ bare_symbols symbols.now.enums }
-    ensures { IfOk result (λ _. (parts.new ≡ with_checked_item symbols.now parts.old item.now) × (found.new ≡ noted found.old (item_diagnostics symbols.now item.now))) }
+    ensures { IfOk result (λ _. AddsItem symbols.now item.now parts.old parts.new found.old found.new) }
 {
     match item {
         RawItem::Enum { name, variants } => {

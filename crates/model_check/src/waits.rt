@@ -5,6 +5,7 @@ ghost use Rattle.aerie_base.specs.declared.conditions.Cond.{Literal};
 ghost use Rattle.model_check.specs.Diagnostics.{noted, at_place, refused_unless, Makes};
 ghost use Rattle.model_check.specs.declared.diagnostics.Cause.TheVariants.{NotLinear};
 ghost use Rattle.model_check.specs.Waits.{is_side_part, is_side, side_diagnostics, side_of, is_int, are_numbers, compares_forms, is_equal, compared_diagnostics, forms_compared, compared_of, is_truth, literal_truth, junction, joint_of, plain_operator_of, plain_operator_diagnostics, cond_of, cond_diagnostics, wait_diagnostics};
+ghost use Rattle.model_check.specs.Making.{MakesComparison, MakesCompared, MakesPlainOperator};
 
 use crate::cell_reads::{raw_read_kind, read_operand};
 use crate::diagnostics::{Cause, Diagnostic, note};
@@ -122,7 +123,7 @@ fn forms(
     right: &RawExpr,
     found: &mut Option<Diagnostic>,
 ) -> Result<Cond, OutOfMemory>
-    ensures { IfOk result (Makes (compared_of symbols.now scope.now how left.now right.now true) (compared_diagnostics symbols.now scope.now left.now right.now true) found.old found.new) }
+    ensures { IfOk result (MakesComparison symbols.now scope.now how left.now right.now true found.old found.new) }
 {
     let left = linear(alloc, FormUse::Comparison, symbols, scope, left, found)?;
     let right = linear(alloc, FormUse::Comparison, symbols, scope, right, found)?;
@@ -139,7 +140,7 @@ fn sides(
     right: &RawExpr,
     found: &mut Option<Diagnostic>,
 ) -> Cond
-    ensures { Makes (compared_of symbols.now scope.now how left.now right.now false) (compared_diagnostics symbols.now scope.now left.now right.now false) found.old found.new result }
+    ensures { MakesComparison symbols.now scope.now how left.now right.now false found.old found.new result }
 {
     note_side(symbols, scope, left, found);
     note_side(symbols, scope, right, found);
@@ -175,7 +176,7 @@ fn comparison(
     right: &RawExpr,
     found: &mut Option<Diagnostic>,
 ) -> Result<Cond, OutOfMemory>
-    ensures { IfOk result (Makes (compared_of symbols.now scope.now how left.now right.now (forms_compared symbols.now scope.now how left.now right.now)) (compared_diagnostics symbols.now scope.now left.now right.now (forms_compared symbols.now scope.now how left.now right.now)) found.old found.new) }
+    ensures { IfOk result (MakesCompared symbols.now scope.now how left.now right.now found.old found.new) }
 {
     if forms_compared(symbols, scope, how, left, right) {
         forms(alloc, symbols, scope, how, left, right, found)
@@ -266,7 +267,7 @@ fn no_junction(
     right: &RawExpr,
     found: &mut Option<Diagnostic>,
 ) -> Result<Cond, OutOfMemory>
-    ensures { IfOk result (Makes (plain_operator_of symbols.now scope.now operator left.now right.now) (plain_operator_diagnostics symbols.now scope.now at operator left.now right.now) found.old found.new) }
+    ensures { IfOk result (MakesPlainOperator symbols.now scope.now at operator left.now right.now found.old found.new) }
 {
     match operator {
         Operator::Compare(how) => comparison(alloc, symbols, scope, how, left, right, found),

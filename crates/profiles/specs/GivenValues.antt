@@ -13,9 +13,9 @@ use Rattle.profiles.specs.declared.sampling.Sample.{Sample}
 use Rattle.profiles.specs.declared.sampling.Sample.TheVariants as sample
 use Rattle.profiles.specs.Samples.{CanBeSampled, sample_at, last_started}
 
--- of the resource with this number, where the model has one
-abbrev pub OfResource : Parts → ℕ → (Resource → Type 0) → Type 0
-OfResource model number P = IfSome (slice_get model.resources number) (λ named. P named.1)
+-- a profile is so of the resource with this number, where the model has one
+abbrev pub OfResource : Parts → ℕ → (Resource → Profile → Type 0) → Profile → Type 0
+OfResource model number P profile = IfSome (slice_get model.resources number) (λ named. P named.1 profile)
 
 -- ---- values
 

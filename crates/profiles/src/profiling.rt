@@ -30,9 +30,9 @@ pub fn profile(
     requires fresh { IsFresh model.now run.now.plan run.now.bound run.now }
     requires resource { resource < length model.now.resources }
     ensures exact { IfOk result (λ profile. Some profile ≡ profile_at model.now run.now resource) }
-    ensures values { IfOk result (λ profile. OfResource model.now resource (λ of. HasValues model.now run.now of profile)) }
-    ensures slopes { IfOk result (λ profile. OfResource model.now resource (λ of. HasSlopes model.now run.now of profile)) }
-    ensures fewest { IfOk result (λ profile. OfResource model.now resource (λ of. IsShortest model.now run.now of profile)) }
+    ensures values { IfOk result (OfResource model.now resource (HasValues model.now run.now)) }
+    ensures slopes { IfOk result (OfResource model.now resource (HasSlopes model.now run.now)) }
+    ensures fewest { IfOk result (OfResource model.now resource (IsShortest model.now run.now)) }
     ensures none_continues { IfOk result NoneContinues }
     ensures divide { IfOk result (λ profile. DivideTime run.now.reach (starts_of profile)) }
     ensures compared { IfOk result (MayBeCompared run.now.reach) }

@@ -1,9 +1,12 @@
 -- What holds of the spans of a run: one for each activity that began, when each ended, and at which times.
 use Rattle.std.specs.Prelude.{◌≡◌, ℕ, ◌+◌, ◌≤◌, Bool, true, false, List, [], ◌∷◌, Option, Some, None, IfSome, if◌then◌else◌}
-use Rattle.std.specs.List.{Contains}
+use Rattle.std.specs.List.{All, Contains}
 use Rattle.aerie_base.specs.Paths.{is_prefix}
+use Rattle.aerie_base.specs.declared.models.model.Parts.{Parts}
+use Rattle.run_data.specs.declared.runs.Run.{Run}
 use Rattle.run_data.specs.declared.tasks.BodyId.{BodyId}
 use Rattle.run_data.specs.declared.tasks.BodyId.TheVariants as body
+use Rattle.run_data.specs.Fresh.{IsFresh}
 use Rattle.run_data.specs.Spans.{Timed, same_path, is_of_path, body_ended}
 use Rattle.span_table.specs.declared.span.Span.{Span}
 
@@ -61,3 +64,7 @@ LiesWithin reach start end = (start ≤ reach) × IfSome end (λ end. (start ≤
 
 abbrev pub IsInTime : ℕ → Span → Type 0
 IsInTime reach span = LiesWithin reach span.start span.end
+
+-- where the run is fresh, each of them is
+abbrev pub AreInTime : Parts → Run → List Span → Type 0
+AreInTime model run spans = IsFresh model run.plan run.bound run → All (IsInTime run.reach) spans

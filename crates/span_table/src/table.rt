@@ -1,9 +1,8 @@
 ghost use Rattle.std.specs.Prelude.{◌≡◌, map, IfOk};
 ghost use Rattle.std.specs.List.{All};
-ghost use Rattle.run_data.specs.Fresh.{IsFresh};
 ghost use Rattle.run_data.specs.Spans.{sorted_spans, spans_of, timed};
 ghost use Rattle.span_table.specs.AsDefined.{defined_span};
-ghost use Rattle.span_table.specs.SpanLaws.{HasItsEnd, HasOneEach, IsInTime};
+ghost use Rattle.span_table.specs.SpanLaws.{AreInTime, HasItsEnd, HasOneEach};
 
 use crate::ordering::compare;
 use crate::progress::Progress;
@@ -23,7 +22,7 @@ pub fn spans(alloc: Global, model: &Model, run: &Run) -> Result<Vec<Span>, OutOf
     ensures exact { IfOk result (λ spans. map defined_span spans.items ≡ spans_of model.now run.now) }
     ensures one_each { IfOk result (λ spans. HasOneEach (timed run.now.instants) spans.items) }
     ensures ends { IfOk result (λ spans. All (HasItsEnd (timed run.now.instants)) spans.items) }
-    ensures in_time { IfOk result (λ spans. IsFresh model.now run.now.plan run.now.bound run.now → All (IsInTime run.now.reach) spans.items) }
+    ensures in_time { IfOk result (λ spans. AreInTime model.now run.now spans.items) }
 {
     instants_rise();
     let mut progress = Progress::new(alloc);
