@@ -36,8 +36,8 @@ abbrev pub first_diagnostic : List Diagnostic → Option Diagnostic
 first_diagnostic = noted None
 
 -- what is made, and what was found before and behind it: what is wrong with it is noted
-abbrev pub Makes : {A : Type 0} → A → List Diagnostic → Option Diagnostic → Option Diagnostic → A → Type 0
-Makes meant wrong before after made = (made ≡ meant) × (after ≡ noted before wrong)
+abbrev pub MakesAndNotes : {A : Type 0} → A → List Diagnostic → Option Diagnostic → Option Diagnostic → A → Type 0
+MakesAndNotes meant wrong before after made = (made ≡ meant) × (after ≡ noted before wrong)
 
 -- ---- one at a place
 

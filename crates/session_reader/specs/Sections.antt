@@ -6,7 +6,7 @@ use Rattle.model_reader.specs.declared.raw.names.RawName.{RawName}
 use Rattle.session_grammar.specs.declared.raw.sections.RawSection.{RawSection}
 use Rattle.session_reader.specs.declared.diagnostics.Cause.TheVariants.{Unknown, Duplicate}
 use Rattle.session_reader.specs.declared.diagnostics.Diagnostic.{Diagnostic}
-use Rattle.session_reader.specs.Diagnostics.{Makes, at_place, refused_unless}
+use Rattle.session_reader.specs.Diagnostics.{MakesAndNotes, at_place, refused_unless}
 use Rattle.session_reader.specs.KnownParts.{model_place}
 
 -- the number of the first token of some rules, and that of the token behind them
@@ -70,4 +70,4 @@ sections_diagnostics models sections (raw ∷ rest) =
 -- the sections are put by model, and what is wrong with them is noted
 abbrev pub MakesSections : List Parts → List RawSection → Option Diagnostic → Option Diagnostic → SectionsByModel → Type 0
 MakesSections models raw =
-    Makes (sections_by_model models (no_sections models) raw) (sections_diagnostics models (no_sections models) raw)
+    MakesAndNotes (sections_by_model models (no_sections models) raw) (sections_diagnostics models (no_sections models) raw)

@@ -3,7 +3,7 @@
 ghost use Rattle.std.specs.Prelude.{◌≡◌, [], not, map, IfOk, OnOk};
 ghost use Rattle.aerie_base.specs.models.Names.{is_name_among};
 ghost use Rattle.model_check.specs.NameLists.{with_name};
-ghost use Rattle.session_reader.specs.Diagnostics.{noted, Makes};
+ghost use Rattle.session_reader.specs.Diagnostics.{noted, MakesAndNotes};
 ghost use Rattle.session_reader.specs.RepeatedNames.{repeated_in, repeated_diagnostics};
 
 use crate::diagnostics::{Cause, Diagnostic, note};
@@ -104,7 +104,7 @@ fn note_repeated(
     name: &RawName,
     found: &mut Option<Diagnostic>,
 ) -> Result<(), OutOfMemory>
-    ensures { IfOk result (λ _. Makes (with_name earlier.old name.now.name) (repeated_in earlier.old name.now) found.old found.new earlier.new) }
+    ensures { IfOk result (λ _. MakesAndNotes (with_name earlier.old name.now.name) (repeated_in earlier.old name.now) found.old found.new earlier.new) }
 {
     if !earlier.add(alloc, &name.name)? {
         note(found, name.at, Cause::Duplicate);
