@@ -6,7 +6,7 @@ ghost use Rattle.serde_json.specs.View.{items_of};
 ghost use Rattle.serde_json.specs.Written.{compact_text};
 ghost use Rattle.json_line.specs.Parts.{data_tokens, listed_tokens, member_if_tokens, member_tokens, members_from};
 
-use crate::data::{JsonData, JsonIn, JsonMember};
+use crate::data::{JsonData, JsonIn, JsonMember, JsonText};
 use crate::line::JsonLine;
 use aerie_base::OutOfMemory;
 use std::alloc::Global;
@@ -43,6 +43,19 @@ impl JsonLine {
     {
         self.key(name)?;
         self.text(text)
+    }
+
+    /// A member whose value is a text that is put together of parts.
+    #[tactic(auto, unfolding(crate::specs::Parts::member_tokens))]
+    pub fn text_member_of<T: JsonText>(
+        &mut self,
+        name: &str,
+        value: &T,
+    ) -> Result<(), OutOfMemory>
+        ensures { OnOk result (self.new ≡ self.old ++ member_tokens name.now (string (T.as_text value.now))) }
+    {
+        self.key(name)?;
+        self.text_of(value)
     }
 
     /// A member whose value is written as what it belongs to says.

@@ -1,6 +1,7 @@
 pub mod ArgumentOrder
 pub mod EditRefusals
 pub mod Fields
+pub mod GoalLines
 pub mod JournalLines
 pub mod LoadedAgain
 pub mod Outcomes

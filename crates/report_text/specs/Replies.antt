@@ -12,6 +12,7 @@ use Rattle.json_line.specs.Parts.{member_if}
 use Rattle.plan_edit.specs.ShownPlan.{json_of_plan}
 use Rattle.report_text.specs.EditRefusals.{edit_data, merge_refusal_data, misfit_data, unmapped_data}
 use Rattle.report_text.specs.Fields.{named_data, natural_data}
+use Rattle.report_text.specs.GoalLines.{naturals_data, schedule_data}
 use Rattle.report_text.specs.Reports.{IsReportOf, name_told, report_data}
 use Rattle.report_text.specs.SequenceLines.{sequence_data}
 use Rattle.report_text.specs.declared.answers.Answer.{Answer}
@@ -62,7 +63,7 @@ shown_data branch model named revision plan =
 -- a merge: the ids of the directives that it added
 abbrev pub merged_data : List ℕ → List ℕ → ℕ → Data
 merged_data branch added revision =
-    object_of ((codes "added", array (items_of (map natural_data added)))
+    object_of ((codes "added", naturals_data added)
     ∷ (codes "branch", string branch)
     ∷ (codes "revision", natural_data revision)
     ∷ [])
@@ -99,8 +100,10 @@ reply_member branch model named (reply.Stale seen now) = refused (stale_data see
 abbrev pub answer_member : List ℕ → Parts → Bool → Answer → Member
 answer_member branch model named (answer.Reply reply) = reply_member branch model named reply
 answer_member branch model named (answer.Report report) = ok (report_data branch model named report)
+answer_member branch model named (answer.Schedule revision goals trials) = ok (schedule_data branch revision goals trials)
 answer_member branch model named (answer.Merge revision added) = ok (merged_data branch added revision)
 answer_member branch model named answer.OtherModel = refused (named_data (codes "OtherModel"))
+answer_member branch model named (answer.Schedule revision goals trials) = ok (schedule_data branch revision goals trials)
 answer_member branch model named (answer.MergeRefused error) = refused (merge_refusal_data error)
 answer_member branch model named (answer.Expanded report) = ok (sequence_data branch model report)
 

@@ -13,6 +13,7 @@ use Rattle.json_line.specs.Parts.{optional_data}
 use Rattle.plan_edit.specs.ShownPlan.{json_of_value}
 use Rattle.seq_expand.specs.declared.sequence.Sent.{Sent}
 use Rattle.report_text.specs.Fields.{natural_data}
+use Rattle.report_text.specs.GoalLines.{naturals_data}
 use Rattle.report_text.specs.Outcomes.{outcome_data}
 use Rattle.json_line.specs.PathTexts.{path_data}
 use Rattle.report_text.specs.declared.answers.SequenceReport.{SequenceReport}
@@ -50,7 +51,7 @@ sent_outside_data model sent =
 abbrev pub sequence_data : List ℕ → Parts → SequenceReport → Data
 sequence_data branch model report =
     object_of ((codes "branch", string branch)
-    ∷ (codes "close", array (items_of (map natural_data report.sequence.close)))
+    ∷ (codes "close", naturals_data report.sequence.close)
     ∷ (codes "commands", array (items_of (map (sent_data model report.start) report.sequence.commands)))
     ∷ (codes "outcome", outcome_data model report.run.run.outcome)
     ∷ (codes "outside", array (items_of (map (sent_outside_data model) report.sequence.outside)))

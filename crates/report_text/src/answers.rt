@@ -3,6 +3,7 @@
 use aerie_base::{List, Shared};
 use constraints::Constraint;
 use epoch_text::Start;
+use goals::GoalStatus;
 use hangar_core::Reply;
 use plan_merge::MergeError;
 use run_data::Kept;
@@ -15,6 +16,15 @@ pub enum Answer {
     Reply(Reply),
     /// The report of a simulation.
     Report(Report),
+    /// A schedule that was placed.
+    Schedule {
+        /// The new revision.
+        revision: u64,
+        /// What was made of each goal, in the order of the goals.
+        goals: List<GoalStatus>,
+        /// How many plans were tried.
+        trials: u32,
+    },
     /// A merge that was placed.
     Merge {
         /// The new revision of the target.

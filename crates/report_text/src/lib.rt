@@ -7,6 +7,7 @@ mod answers;
 mod arguments;
 mod edits;
 mod fields;
+mod goal_lines;
 mod journal_lines;
 pub mod laws;
 mod lines;
@@ -34,5 +35,3 @@ pub use span_lines::{Calendar, write_spans};
 pub use violation_lines::write_violations;
 pub use wordings::Wording;
 
-#[cfg(test)]
-mod tests;

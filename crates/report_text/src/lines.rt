@@ -9,6 +9,7 @@ ghost use Rattle.report_text.specs.SequenceLines.{sequence_data};
 
 use crate::answers::{Answer, Report, SequenceReport};
 use crate::fields::Alone;
+use crate::goal_lines::Scheduled;
 use crate::reply_lines::{Merged, refuse, write_reply};
 use crate::reports::write_report;
 use crate::sequence_lines::write_sequence;
@@ -73,6 +74,19 @@ fn write_answer(
     match answer {
         Answer::Reply(reply) => write_reply(line, alloc, branch, model, named, reply),
         Answer::Report(report) => write_report_member(line, alloc, branch, model, named, report),
+        Answer::Schedule {
+            revision,
+            goals,
+            trials,
+        } => line.member(
+            "ok",
+            &Scheduled {
+                branch,
+                revision: *revision,
+                goals,
+                trials: *trials,
+            },
+        ),
         Answer::Merge { revision, added } => line.member(
             "ok",
             &Merged {
@@ -89,7 +103,7 @@ fn write_answer(
 
 /// The line that tells what the program answered to a command of a client, counted from 0: under `ok` what came of it, or
 /// under `refused` why nothing did. `branch` is the one that the command names first, and `model` is the one of the plan that
-/// was shown, simulated or expanded; other answers do not tell of it. `named` says whether the model is named.
+/// was shown, simulated, scheduled or expanded; other answers do not tell of it. `named` says whether the model is named.
 pub fn reply_line(
     alloc: Global,
     client: &Name,

@@ -7,10 +7,9 @@ ghost use Rattle.json_line.specs.Parts.{data_tokens};
 ghost use Rattle.report_text.specs.SequenceLines.{sent_data, sent_outside_data, sequence_data, utc_data};
 
 use crate::answers::SequenceReport;
-use crate::span_lines::Calendar;
+use crate::span_lines::{Calendar, Utc};
 use crate::wordings::Wording;
-use aerie_base::{List, Name, OutOfMemory, Time};
-use epoch_text::day_text;
+use aerie_base::{Name, OutOfMemory, Time};
 use json_line::{JsonData, JsonIn, JsonLine};
 use seq_expand::Sent;
 
@@ -25,10 +24,10 @@ impl<'a> JsonIn<Calendar<'a>> for SentTime {
 
     fn write_in(&self, calendar: &Calendar<'a>, line: &mut JsonLine) -> Result<(), OutOfMemory> {
         match Time::new(self.at) {
-            Some(time) => {
-                let utc = day_text(calendar.wording.alloc(), &calendar.start, time)?;
-                line.text(utc.as_str())
-            }
+            Some(time) => line.text_of(&Utc {
+                start: &calendar.start,
+                time,
+            }),
             None => line.null(),
         }
     }
