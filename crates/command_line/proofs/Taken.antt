@@ -1,6 +1,6 @@
 -- What a parse tells, by the words of the command line.
-use Rattle.std.proofs.Common.{◌≡◌, ℕ, true, false, List, [], ◌∷◌, Result, Ok, Err, IfOk, IfErr, refl, sym, subst, ◌∙◌, inl, inr}
-use Rattle.clap.specs.Words.{App, FailsBy, HasKind, HasMatchesOf, IsAmong, Kinds, fault_of, found_of, is_simple_and_free, is_simple, kind_of, matches_of, rows_of}
+use Rattle.std.proofs.Common.{◌≡◌, ℕ, true, List, [], ◌∷◌, Result, Ok, Err, IfOk, IfErr, refl, subst, inl, inr}
+use Rattle.clap.specs.Words.{App, FailsBy, HasKind, HasMatchesOf, Kinds, fault_of, found_of, is_simple_and_free, is_simple, kind_of, rows_of}
 use Rattle.clap.specs.declared.error.Error.{Error}
 use Rattle.clap.specs.declared.error.kind.ErrorKind.TheVariants as kind
 use Rattle.clap.specs.declared.parser.matches.ArgMatches.{ArgMatches}

@@ -1,5 +1,6 @@
 -- The command line as data: one simple command, without short options, help and version.
-use Rattle.std.specs.Prelude.{ℕ, Bool, true, false, List, [], ◌∷◌, Some, codes}
+use Rattle.std.specs.declared.alloc.Global.{Global}
+use Rattle.std.specs.Prelude.{String, map, string_bytes, ℕ, Bool, true, false, List, [], ◌∷◌, Some, codes}
 use Rattle.clap.specs.Words.{App, Kinds, Row, Rule, fault_of, matches_of, new_app, new_rule, with_rule}
 use Rattle.clap.specs.declared.builder.action.ArgAction.TheVariants.{Set, SetTrue}
 
@@ -25,18 +26,22 @@ plain_command =
     let command = new_app (codes "aerie") in
     record command { top = record command.top { no_binary_name = true; disable_help_flag = true } }
 
-abbrev pub with_options : App → App
-with_options command =
+abbrev pub with_every_option : App → App
+with_every_option command =
     with_rule (with_rule (with_rule command (option_rule (codes "limit"))) (option_rule (codes "pieces"))) (option_rule (codes "number"))
 
-abbrev pub with_flags : App → App
-with_flags command =
+abbrev pub with_every_flag : App → App
+with_every_flag command =
     with_rule (with_rule (with_rule command (flag_rule (codes "serial"))) (flag_rule (codes "stats"))) (flag_rule (codes "text"))
 
 abbrev pub command : App
-command = with_flags (with_options (with_rule plain_command mode_rule))
+command = with_every_flag (with_every_option (with_rule plain_command mode_rule))
 
 -- ---- what words give
+
+-- the words as texts
+abbrev pub texts_of : List (String Global) → List (List ℕ)
+texts_of words = map (λ word. string_bytes word) words
 
 abbrev pub is_no_fault : Kinds → Bool
 is_no_fault [] = true

@@ -1,9 +1,10 @@
 //! The words are read as one simple command.
 
-ghost use Rattle.std.specs.Prelude.{◌≡◌, IfOk, IfErr, codes, map, true, false, option_map, string_bytes};
+ghost use Rattle.std.specs.Option.{option_copied};
+ghost use Rattle.std.specs.Prelude.{◌≡◌, IfOk, IfErr, codes, true, false};
 ghost use Rattle.clap.specs.Words.{app_of, found_of, kind_of, rows_of, rule_of, with_rule};
-ghost use Rattle.command_line.specs.Commands.{are_taken, command as command_by, flag_rule, given, mode_rule, option_rule, plain_command, with_flags as with_flags_by, with_options as with_options_by};
-ghost use Rattle.command_line.specs.Requests.{is_set as is_set_by, value_of as value_of_by};
+ghost use Rattle.command_line.specs.Commands.{are_taken, command as command_by, flag_rule, given, mode_rule, option_rule, plain_command, texts_of, with_every_flag as with_every_flag_by, with_every_option as with_every_option_by};
+ghost use Rattle.command_line.specs.Invocations.{is_set as is_set_by, value_of as value_of_by};
 
 use clap::error::ErrorKind;
 use clap::{Arg, ArgAction, ArgMatches, Command, Error};
@@ -53,8 +54,8 @@ fn add<'a>(command: Command<'a>, arg: Arg<'a>) -> Result<Command<'a>, AllocError
 }
 
 /// The command with the options besides.
-fn with_options<'a>(alloc: Global, command: Command<'a>) -> Result<Command<'a>, AllocError>
-    ensures { IfOk result (λ more. app_of more ≡ with_options_by (app_of command.entry)) }
+fn with_every_option<'a>(alloc: Global, command: Command<'a>) -> Result<Command<'a>, AllocError>
+    ensures { IfOk result (λ more. app_of more ≡ with_every_option_by (app_of command.entry)) }
 {
     let command = add(command, option(alloc, "limit"))?;
     let command = add(command, option(alloc, "pieces"))?;
@@ -62,8 +63,8 @@ fn with_options<'a>(alloc: Global, command: Command<'a>) -> Result<Command<'a>, 
 }
 
 /// The command with the flags besides.
-fn with_flags<'a>(alloc: Global, command: Command<'a>) -> Result<Command<'a>, AllocError>
-    ensures { IfOk result (λ more. app_of more ≡ with_flags_by (app_of command.entry)) }
+fn with_every_flag<'a>(alloc: Global, command: Command<'a>) -> Result<Command<'a>, AllocError>
+    ensures { IfOk result (λ more. app_of more ≡ with_every_flag_by (app_of command.entry)) }
 {
     let command = add(command, flag(alloc, "serial"))?;
     let command = add(command, flag(alloc, "stats"))?;
@@ -75,22 +76,22 @@ fn command<'a>(alloc: Global) -> Result<Command<'a>, AllocError>
     ensures { IfOk result (λ whole. app_of whole ≡ command_by) }
 {
     let command = add(plain(alloc), mode(alloc))?;
-    let command = with_options(alloc, command)?;
-    with_flags(alloc, command)
+    let command = with_every_option(alloc, command)?;
+    with_every_flag(alloc, command)
 }
 
 /// What the words give, or that they are not in the form of the command. Only where they are in it, want of memory is told.
 pub(crate) fn parse<'a>(alloc: Global, words: &'a [String]) -> Result<ArgMatches<'a>, Error>
-    ensures taken { IfOk result (λ matches. are_taken (map (λ word. string_bytes word) words.entry.now) ≡ true) }
-    ensures given { IfOk result (λ matches. rows_of (found_of matches) ≡ given (map (λ word. string_bytes word) words.entry.now)) }
-    ensures refused { IfErr result (λ error. are_taken (map (λ word. string_bytes word) words.entry.now) ≡ true → kind_of error ≡ ErrorKind.OutOfMemory) }
+    ensures taken { IfOk result (λ matches. are_taken (texts_of words.entry.now) ≡ true) }
+    ensures given { IfOk result (λ matches. rows_of (found_of matches) ≡ given (texts_of words.entry.now)) }
+    ensures refused { IfErr result (λ e. are_taken (texts_of words.entry.now) ≡ true → kind_of e ≡ ErrorKind.OutOfMemory) }
 {
     command(alloc)?.try_get_matches_from(words)
 }
 
 /// The value that a name was given.
 pub(crate) fn value_of<'a>(matches: &ArgMatches<'a>, name: &str) -> Option<&'a str>
-    ensures { option_map (λ text. text.now) result ≡ value_of_by name.now (rows_of (found_of matches.now)) }
+    ensures { option_copied result ≡ value_of_by name.now (rows_of (found_of matches.now)) }
 {
     matches.get_str(name)
 }

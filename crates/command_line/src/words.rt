@@ -1,12 +1,14 @@
 //! What the words ask for.
 
-ghost use Rattle.std.specs.Prelude.{◌≡◌, IfOk, map, option_map, string_bytes};
+ghost use Rattle.std.specs.Option.{option_copied};
+ghost use Rattle.std.specs.Prelude.{◌≡◌, IfOk, IfSome};
 ghost use Rattle.clap.specs.Words.{found_of, rows_of};
-ghost use Rattle.command_line.specs.Requests.{make_mode as make_mode_by, mode_named as mode_named_by, mode_of as mode_of_by, plain_mode as plain_mode_by, request_in, request_of};
+ghost use Rattle.command_line.specs.Commands.{texts_of};
+ghost use Rattle.command_line.specs.Invocations.{IsModeWithin, HasNumbersWithin, make_mode as make_mode_by, mode_named as mode_named_by, mode_of as mode_of_by, plain_mode as plain_mode_by, invocation_in, invocation_of};
 
-use crate::numbers::{number_or, number_within};
+use crate::invocation::{Invocation, Mode};
+use crate::numbers::{number_or, number_up_to};
 use crate::parsing::{is_set, parse, value_of};
-use crate::request::{Mode, Request};
 use aerie_base::OutOfMemory;
 use clap::ArgMatches;
 use clap::error::ErrorKind;
@@ -27,7 +29,9 @@ const MOST_DIRECTIVES: u64 = 20_000;
 
 /// A mode that takes neither a number nor a text.
 fn plain_mode(mode: Mode, number: Option<&str>, text: bool) -> Option<Mode>
-    ensures { result ≡ plain_mode_by mode (option_map (λ digits. digits.now) number.entry) text }
+    requires within { IsModeWithin mode }
+    ensures exact { result ≡ plain_mode_by mode (option_copied number.entry) text }
+    ensures within { IfSome result IsModeWithin }
 {
     match number {
         None if !text => Some(mode),
@@ -37,9 +41,10 @@ fn plain_mode(mode: Mode, number: Option<&str>, text: bool) -> Option<Mode>
 
 /// To make a session of this number.
 fn make_mode(number: Option<&str>, text: bool) -> Option<Mode>
-    ensures { result ≡ make_mode_by (option_map (λ digits. digits.now) number.entry) text }
+    ensures exact { result ≡ make_mode_by (option_copied number.entry) text }
+    ensures within { IfSome result IsModeWithin }
 {
-    let number = number_within(number?, MOST_DIRECTIVES)?;
+    let number = number_up_to(number?, MOST_DIRECTIVES)?;
     Some(Mode::Make {
         number: number as u32,
         text,
@@ -48,7 +53,8 @@ fn make_mode(number: Option<&str>, text: bool) -> Option<Mode>
 
 /// The mode of this word.
 fn mode_named(word: &str, number: Option<&str>, text: bool) -> Option<Mode>
-    ensures { result ≡ mode_named_by word.now (option_map (λ digits. digits.now) number.entry) text }
+    ensures exact { result ≡ mode_named_by word.now (option_copied number.entry) text }
+    ensures within { IfSome result IsModeWithin }
 {
     match word {
         "run" => plain_mode(Mode::Run, number, text),
@@ -60,20 +66,22 @@ fn mode_named(word: &str, number: Option<&str>, text: bool) -> Option<Mode>
 
 /// The mode that was given.
 fn mode_of(word: Option<&str>, number: Option<&str>, text: bool) -> Option<Mode>
-    ensures { result ≡ mode_of_by (option_map (λ word. word.now) word.entry) (option_map (λ digits. digits.now) number.entry) text }
+    ensures exact { result ≡ mode_of_by (option_copied word.entry) (option_copied number.entry) text }
+    ensures within { IfSome result IsModeWithin }
 {
     mode_named(word?, number, text)
 }
 
 /// What the values ask for.
-fn request(matches: &ArgMatches<'_>) -> Option<Request>
-    ensures { result ≡ request_in (rows_of (found_of matches.now)) }
+fn invocation(matches: &ArgMatches<'_>) -> Option<Invocation>
+    ensures exact { result ≡ invocation_in (rows_of (found_of matches.now)) }
+    ensures within { IfSome result HasNumbersWithin }
 {
     let number = value_of(matches, "number");
     let mode = mode_of(value_of(matches, "mode"), number, is_set(matches, "text"))?;
     let limit = number_or(value_of(matches, "limit"), USUAL_LIMIT, MOST_LIMIT)?;
     let pieces = number_or(value_of(matches, "pieces"), USUAL_PIECES, MOST_PIECES)?;
-    Some(Request {
+    Some(Invocation {
         mode,
         limit,
         pieces: pieces as u32,
@@ -83,11 +91,12 @@ fn request(matches: &ArgMatches<'_>) -> Option<Request>
 }
 
 /// What the words after the program's name ask for, or `None` where they are not in the grammar of the command line.
-pub fn read_words(alloc: Global, words: &[String]) -> Result<Option<Request>, OutOfMemory>
-    ensures exact { IfOk result (λ request. request ≡ request_of (map (λ word. string_bytes word) words.now)) }
+pub fn read_words(alloc: Global, words: &[String]) -> Result<Option<Invocation>, OutOfMemory>
+    ensures exact { IfOk result (λ invocation. invocation ≡ invocation_of (texts_of words.now)) }
+    ensures within { IfOk result (λ invocation. IfSome invocation HasNumbersWithin) }
 {
     match parse(alloc, words) {
-        Ok(matches) => Ok(request(&matches)),
+        Ok(matches) => Ok(invocation(&matches)),
         Err(error) if error.kind() == ErrorKind::OutOfMemory => Err(OutOfMemory),
         Err(_) => Ok(None),
     }

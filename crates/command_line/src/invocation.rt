@@ -18,7 +18,7 @@ pub enum Mode {
 
 /// What the words ask for.
 #[derive(Clone, Copy, Debug, PartialEq, Eq)]
-pub struct Request {
+pub struct Invocation {
     /// What is to be done.
     pub mode: Mode,
     /// How many statements a simulation runs at most: 1 to 100,000,000.

@@ -1,14 +1,14 @@
 -- What the words ask for.
-use Rattle.std.specs.Prelude.{ℕ, Bool, true, false, ◌&&◌, List, Option, Some, None, codes, length, nat_le, nat_lt, if◌then◌else◌}
+use Rattle.std.specs.Prelude.{ℕ, ◌≤◌, Bool, true, false, ◌&&◌, List, Option, Some, None, codes, length, nat_le, nat_lt, if◌then◌else◌}
 use Rattle.std.specs.Char.{digit_value}
 use Rattle.std.specs.List.{list_all}
 use Rattle.std.specs.Str.{bytes_eq}
 use Rattle.std.specs.Str.Parse.{digits_value, without_leading_plus}
 use Rattle.clap.specs.Words.{Row, first_of}
 use Rattle.command_line.specs.Commands.{are_taken, given}
-use Rattle.command_line.specs.declared.request.Mode.{Mode}
-use Rattle.command_line.specs.declared.request.Mode.TheVariants.{Run, Check, Make}
-use Rattle.command_line.specs.declared.request.Request.{Request}
+use Rattle.command_line.specs.declared.invocation.Mode.{Mode}
+use Rattle.command_line.specs.declared.invocation.Mode.TheVariants.{Run, Check, Make}
+use Rattle.command_line.specs.declared.invocation.Invocation.{Invocation}
 
 -- ---- numbers
 
@@ -24,13 +24,13 @@ abbrev pub digits_within : ℕ → List ℕ → Option ℕ
 digits_within most digits = if is_number_within most digits then Some (digits_value 10 digits) else None
 
 -- the number from 1 up to some other that a text is; a plus may stand in front of its digits
-abbrev pub number_within : ℕ → List ℕ → Option ℕ
-number_within most text = digits_within most (without_leading_plus text)
+abbrev pub number_up_to : ℕ → List ℕ → Option ℕ
+number_up_to most text = digits_within most (without_leading_plus text)
 
 -- the number of an option that has a usual one
 abbrev pub number_or : ℕ → ℕ → Option (List ℕ) → Option ℕ
 number_or usual most None = Some usual
-number_or usual most (Some text) = number_within most text
+number_or usual most (Some text) = number_up_to most text
 
 -- ---- modes
 
@@ -47,7 +47,7 @@ make_of text (Some number) = Some (Make number text)
 -- to make a session takes a number
 abbrev pub make_mode : Option (List ℕ) → Bool → Option Mode
 make_mode None text = None
-make_mode (Some number) text = make_of text (number_within 20_000 number)
+make_mode (Some number) text = make_of text (number_up_to 20_000 number)
 
 abbrev pub mode_named : List ℕ → Option (List ℕ) → Bool → Option Mode
 mode_named word number text =
@@ -60,35 +60,51 @@ abbrev pub mode_of : Option (List ℕ) → Option (List ℕ) → Bool → Option
 mode_of None number text = None
 mode_of (Some word) number text = mode_named word number text
 
--- ---- the request
+-- ---- the invocation
 
 -- the value that a name was given
 abbrev pub value_of : List ℕ → List Row → Option (List ℕ)
 value_of name rows = first_of name rows
 
-abbrev pub is_true : Option (List ℕ) → Bool
-is_true None = false
-is_true (Some text) = bytes_eq text (codes "true")
+abbrev pub says_true : Option (List ℕ) → Bool
+says_true None = false
+says_true (Some text) = bytes_eq text (codes "true")
 
 -- the flag was given
 abbrev pub is_set : List ℕ → List Row → Bool
-is_set name rows = is_true (value_of name rows)
+is_set name rows = says_true (value_of name rows)
 
-abbrev pub request_with : Bool → Bool → Option Mode → Option ℕ → Option ℕ → Option Request
-request_with serial stats None limit pieces = None
-request_with serial stats (Some mode) None pieces = None
-request_with serial stats (Some mode) (Some limit) None = None
-request_with serial stats (Some mode) (Some limit) (Some pieces) =
+abbrev pub invocation_with : Bool → Bool → Option Mode → Option ℕ → Option ℕ → Option Invocation
+invocation_with serial stats None limit pieces = None
+invocation_with serial stats (Some mode) None pieces = None
+invocation_with serial stats (Some mode) (Some limit) None = None
+invocation_with serial stats (Some mode) (Some limit) (Some pieces) =
     Some (record { mode = mode; limit = limit; pieces = pieces; serial = serial; stats = stats })
 
 -- what values ask for
-abbrev pub request_in : List Row → Option Request
-request_in rows =
-    request_with (is_set (codes "serial") rows) (is_set (codes "stats") rows)
+abbrev pub invocation_in : List Row → Option Invocation
+invocation_in rows =
+    invocation_with (is_set (codes "serial") rows) (is_set (codes "stats") rows)
     (mode_of (value_of (codes "mode") rows) (value_of (codes "number") rows) (is_set (codes "text") rows))
     (number_or 1_000_000 100_000_000 (value_of (codes "limit") rows))
     (number_or 4 64 (value_of (codes "pieces") rows))
 
 -- what the words after the program's name ask for, or none where they are not in the grammar
-abbrev pub request_of : List (List ℕ) → Option Request
-request_of words = if are_taken words then request_in (given words) else None
+abbrev pub invocation_of : List (List ℕ) → Option Invocation
+invocation_of words = if are_taken words then invocation_in (given words) else None
+
+-- ---- ranges
+
+-- a session that is made has 1 to 20,000 directives
+abbrev pub IsModeWithin : Mode → Type 0
+IsModeWithin Run = Unit {0}
+IsModeWithin Check = Unit {0}
+IsModeWithin (Make number text) = (1 ≤ number) × (number ≤ 20_000)
+
+-- the numbers are in their ranges
+pub record HasNumbersWithin (invocation : Invocation) : Type 0 where
+  pub mode : IsModeWithin invocation.mode
+  pub some_limit : 1 ≤ invocation.limit
+  pub most_limit : invocation.limit ≤ 100_000_000
+  pub some_pieces : 1 ≤ invocation.pieces
+  pub most_pieces : invocation.pieces ≤ 64
