@@ -9,5 +9,6 @@ mod RawArguments
 pub mod Resources
 pub mod ShownDirectives
 mod ShownLoads
+pub mod Violated
 mod WrittenDirectives
 mod WrittenValues

@@ -1,3 +1,4 @@
+pub mod AnswerCases
 pub mod ArgumentOrder
 pub mod EditRefusals
 pub mod Fields
