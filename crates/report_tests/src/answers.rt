@@ -1,7 +1,7 @@
 //! Lines of answers, and of the journal.
 
 ghost use Rattle.aerie_base.specs.declared.models.model.Parts.{Parts};
-ghost use Rattle.report_text.specs.Replies.{IsAnswerOf};
+ghost use Rattle.report_text.specs.Replies.{IsAnswerOfModel};
 
 use aerie_base::{List, Model, Name, Plan, Shared, Time};
 use goals::GoalStatus;
@@ -33,7 +33,7 @@ fn model<R: Abort>(rt: &R, alloc: Global) -> Model {
 
 /// An answer to the command 2 of the client `ops` on the branch `main` is told so, in a session of several models.
 fn answered<R: Abort>(rt: &R, alloc: Global, answer: &Answer, expected: &str)
-    requires { (model : Parts) → IsAnswerOf model answer.now }
+    requires { (model : Parts) → IsAnswerOfModel model answer.now }
 {
     let client = named(rt, alloc, "ops");
     let branch = named(rt, alloc, "main");

@@ -10,7 +10,7 @@ use Rattle.aerie_base.specs.plans.RisingIds.{above}
 use Rattle.plan_merge.specs.Merging.{is_at, is_on_cycle, returns_within}
 use Rattle.plan_edit.specs.declared.forms.WrittenDirective.{WrittenDirective}
 use Rattle.plan_edit.specs.Loading.{anchor_anew, directive_anew, has_cycle, is_tied, place_of_id, places_of, the_only}
-use Rattle.report_text.specs.LoadedAgain.{new_id, to_new_id, under_new_id}
+use Rattle.report_text.specs.LoadedAgain.{loaded_id, to_new_id, under_new_id}
 use Rattle.report_text.proofs.FirstPlaces.{both, first_place, neither, position_is}
 
 abbrev pub has_id : ℕ → Directive → Bool
@@ -83,7 +83,7 @@ module _ (next : ℕ) where
 
 module _ (first next : ℕ) (all : List Directive) (rise : IsTrue (rise_to next 0 (ids_of all))) where
   abbrev pub anew : ℕ → ℕ
-  anew id = new_id first all id
+  anew id = loaded_id first all id
 
   abbrev renewed : Directive → Directive
   renewed directive = under_new_id first all directive

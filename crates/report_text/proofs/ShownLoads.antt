@@ -39,7 +39,7 @@ use Rattle.plan_edit.specs.declared.arguments.Given.{Given}
 use Rattle.plan_edit.specs.declared.errors.EditError.{EditError}
 use Rattle.plan_edit.specs.declared.errors.EditError.TheVariants.{OutsidePlan, TooMany, NoAnchor, Cycle, Invalid}
 use Rattle.plan_edit.specs.declared.forms.WrittenDirective.{WrittenDirective}
-use Rattle.report_text.specs.LoadedAgain.{CanBeLoaded, has_free_words, is_free_enum, is_free_type, meets_requires, meets_type, new_id, to_new_id, under_new_id, with_directives_of}
+use Rattle.report_text.specs.LoadedAgain.{CanBeLoaded, has_free_words, is_free_enum, is_free_type, meets_requires, meets_type, loaded_id, to_new_id, under_new_id, with_directives_of}
 use Rattle.report_text.proofs.ArgumentMembers.{AreWritten, arguments_written}
 use Rattle.report_text.proofs.FirstPlaces.{both, first_place, neither, place_of_name, position_is}
 use Rattle.report_text.proofs.NewIds.{has_id, new_at, no_cycle, place_in_text}
@@ -267,7 +267,7 @@ module _ (model : Parts) (valid : IsTrue (valid_model model)) (shown target : Pl
       let here : slice_get shown.directives number ≡ Some directive = ap (slice_get shown.directives) (no_more number) ∙ stand 0 in
       let id = sym (new_at target.next_id shown.next_id shown.directives rises number directive here) in
       ap (λ (n : ℕ). record directive { id = n; anchor = option_map (anchor_anew target.next_id all) directive.anchor } ∷ map (directive_anew target.next_id all) (loaded_from target (number + 1) rest)) id
-      ∙ ap (λ (anchor : Option Anchor). record directive { id = new_id target.next_id shown.directives directive.id; anchor = anchor } ∷ map (directive_anew target.next_id all) (loaded_from target (number + 1) rest)) (anchors_anew directive.anchor)
+      ∙ ap (λ (anchor : Option Anchor). record directive { id = loaded_id target.next_id shown.directives directive.id; anchor = anchor } ∷ map (directive_anew target.next_id all) (loaded_from target (number + 1) rest)) (anchors_anew directive.anchor)
       ∙ ap (λ (later : List Directive). under_new_id target.next_id shown.directives directive ∷ later) (all_anew (number + 1) rest (λ k. ap (slice_get shown.directives) (one_on number k) ∙ stand (suc k)))
     where
       no_more : (n : ℕ) → n ≡ n + 0

@@ -19,17 +19,17 @@ use Rattle.plan_edit.specs.ShownPlan.{json_of_plan}
 -- ---- new ids
 
 -- the new id of the directive with an id: the first new one, and as many more as directives stand before it
-abbrev pub new_id : ℕ → List Directive → ℕ → ℕ
-new_id first directives id = first + unwrap_or (position (λ directive. nat_eq directive.id id) directives) 0
+abbrev pub loaded_id : ℕ → List Directive → ℕ → ℕ
+loaded_id first directives id = first + unwrap_or (position (λ directive. nat_eq directive.id id) directives) 0
 
 -- an anchor to the new id of the directive that it names
 abbrev pub to_new_id : ℕ → List Directive → Anchor → Anchor
-to_new_id first directives anchor = record anchor { to = new_id first directives anchor.to }
+to_new_id first directives anchor = record anchor { to = loaded_id first directives anchor.to }
 
 -- a directive under its new id, with its anchor to the new id of the one that it names
 abbrev pub under_new_id : ℕ → List Directive → Directive → Directive
 under_new_id first directives directive = record directive {
-  id = new_id first directives directive.id;
+  id = loaded_id first directives directive.id;
   anchor = option_map (to_new_id first directives) directive.anchor;
 }
 

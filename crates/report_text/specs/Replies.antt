@@ -22,11 +22,11 @@ use Rattle.report_text.specs.declared.answers.Answer.TheVariants as answer
 abbrev pub Member : Type 0
 Member = List ℕ × Data
 
-abbrev pub ok : Data → Member
-ok what = (codes "ok", what)
+abbrev pub as_ok : Data → Member
+as_ok what = (codes "ok", what)
 
-abbrev pub refused : Data → Member
-refused why = (codes "refused", why)
+abbrev pub as_refused : Data → Member
+as_refused why = (codes "refused", why)
 
 -- ---- what is accepted
 
@@ -79,33 +79,32 @@ stale_data seen now =
 
 -- what a workspace answers
 abbrev pub reply_member : List ℕ → Parts → Bool → Reply → Member
-reply_member branch model named (reply.Opened revision) = ok (revision_data branch revision)
-reply_member branch model named reply.Dropped = ok (branch_data branch)
-reply_member branch model named (reply.Added id revision) = ok (added_data branch id revision)
-reply_member branch model named (reply.Edited revision) = ok (revision_data branch revision)
-reply_member branch model named (reply.Loaded first count revision) = ok (loaded_data branch count first revision)
-reply_member branch model named (reply.Fetched revision plan kept) = ok (shown_data branch model named revision plan)
-reply_member branch model named reply.Attached = ok (branch_data branch)
-reply_member branch model named (reply.Placed revision) = ok (revision_data branch revision)
-reply_member branch model named reply.NoBranch = refused (named_data (codes "NoBranch"))
-reply_member branch model named reply.BranchExists = refused (named_data (codes "BranchExists"))
-reply_member branch model named reply.TooManyBranches = refused (named_data (codes "TooManyBranches"))
-reply_member branch model named reply.NoMapping = refused (named_data (codes "NoMapping"))
-reply_member branch model named (reply.Unmapped id) = refused (unmapped_data id)
-reply_member branch model named (reply.Misfit id number) = refused (misfit_data id number)
-reply_member branch model named (reply.Edit error) = refused (edit_data error)
-reply_member branch model named (reply.Stale seen now) = refused (stale_data seen now)
+reply_member branch model named (reply.Opened revision) = as_ok (revision_data branch revision)
+reply_member branch model named reply.Dropped = as_ok (branch_data branch)
+reply_member branch model named (reply.Added id revision) = as_ok (added_data branch id revision)
+reply_member branch model named (reply.Edited revision) = as_ok (revision_data branch revision)
+reply_member branch model named (reply.Loaded first count revision) = as_ok (loaded_data branch count first revision)
+reply_member branch model named (reply.Fetched revision plan kept) = as_ok (shown_data branch model named revision plan)
+reply_member branch model named reply.Attached = as_ok (branch_data branch)
+reply_member branch model named (reply.Placed revision) = as_ok (revision_data branch revision)
+reply_member branch model named reply.NoBranch = as_refused (named_data (codes "NoBranch"))
+reply_member branch model named reply.BranchExists = as_refused (named_data (codes "BranchExists"))
+reply_member branch model named reply.TooManyBranches = as_refused (named_data (codes "TooManyBranches"))
+reply_member branch model named reply.NoMapping = as_refused (named_data (codes "NoMapping"))
+reply_member branch model named (reply.Unmapped id) = as_refused (unmapped_data id)
+reply_member branch model named (reply.Misfit id number) = as_refused (misfit_data id number)
+reply_member branch model named (reply.Edit error) = as_refused (edit_data error)
+reply_member branch model named (reply.Stale seen now) = as_refused (stale_data seen now)
 
 -- what the program answers to a command
 abbrev pub answer_member : List ℕ → Parts → Bool → Answer → Member
 answer_member branch model named (answer.Reply reply) = reply_member branch model named reply
-answer_member branch model named (answer.Report report) = ok (report_data branch model named report)
-answer_member branch model named (answer.Schedule revision goals trials) = ok (schedule_data branch revision goals trials)
-answer_member branch model named (answer.Merge revision added) = ok (merged_data branch added revision)
-answer_member branch model named answer.OtherModel = refused (named_data (codes "OtherModel"))
-answer_member branch model named (answer.Schedule revision goals trials) = ok (schedule_data branch revision goals trials)
-answer_member branch model named (answer.MergeRefused error) = refused (merge_refusal_data error)
-answer_member branch model named (answer.Expanded report) = ok (sequence_data branch model report)
+answer_member branch model named (answer.Report report) = as_ok (report_data branch model named report)
+answer_member branch model named (answer.Schedule revision goals trials) = as_ok (schedule_data branch revision goals trials)
+answer_member branch model named (answer.Merge revision added) = as_ok (merged_data branch added revision)
+answer_member branch model named answer.OtherModel = as_refused (named_data (codes "OtherModel"))
+answer_member branch model named (answer.MergeRefused error) = as_refused (merge_refusal_data error)
+answer_member branch model named (answer.Expanded report) = as_ok (sequence_data branch model report)
 
 -- the value of the line that tells a client's command, counted from 0
 abbrev pub reply_data : List ℕ → ℕ → List ℕ → Parts → Bool → Answer → Data
@@ -115,6 +114,6 @@ reply_data client command branch model named answer =
     (member (answer_member branch model named answer).0 (answer_member branch model named answer).1 no_members)))
 
 -- an answer is told with a model: a report is of it
-abbrev pub IsAnswerOf : Parts → Answer → Type 0
-IsAnswerOf model (answer.Report report) = IsReportOf model report
-IsAnswerOf model _ = Unit {0}
+abbrev pub IsAnswerOfModel : Parts → Answer → Type 0
+IsAnswerOfModel model (answer.Report report) = IsReportOf model report
+IsAnswerOfModel model _ = Unit {0}

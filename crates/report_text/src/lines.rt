@@ -3,14 +3,14 @@
 ghost use Rattle.std.specs.Prelude.{◌≡◌, ◌++◌, IfOk, OnOk, codes, string_bytes};
 ghost use Rattle.aerie_text.specs.Json.{line_of};
 ghost use Rattle.json_line.specs.Parts.{data_tokens, member_tokens};
-ghost use Rattle.report_text.specs.Replies.{IsAnswerOf, answer_member, reply_data};
+ghost use Rattle.report_text.specs.Replies.{IsAnswerOfModel, answer_member, reply_data};
 ghost use Rattle.report_text.specs.Reports.{IsReportOf, report_data};
 ghost use Rattle.report_text.specs.SequenceLines.{sequence_data};
 
 use crate::answers::{Answer, Report, SequenceReport};
 use crate::fields::Alone;
 use crate::goal_lines::Scheduled;
-use crate::reply_lines::{Merged, refuse, write_reply};
+use crate::reply_lines::{MergeTold, refuse, write_reply};
 use crate::reports::write_report;
 use crate::sequence_lines::write_sequence;
 use crate::span_lines::Calendar;
@@ -68,7 +68,7 @@ fn write_answer(
     named: bool,
     answer: &Answer,
 ) -> Result<(), OutOfMemory>
-    requires { IsAnswerOf model.now answer.now }
+    requires { IsAnswerOfModel model.now answer.now }
     ensures { OnOk result (line.new ≡ line.old ++ member_tokens (answer_member branch.now model.now named answer.now).0 (answer_member branch.now model.now named answer.now).1) }
 {
     match answer {
@@ -89,7 +89,7 @@ fn write_answer(
         ),
         Answer::Merge { revision, added } => line.member(
             "ok",
-            &Merged {
+            &MergeTold {
                 branch,
                 added,
                 revision: *revision,
@@ -113,7 +113,7 @@ pub fn reply_line(
     named: bool,
     reply: &Answer,
 ) -> Result<String, OutOfMemory>
-    requires reply { IsAnswerOf model.now reply.now }
+    requires reply { IsAnswerOfModel model.now reply.now }
     ensures { IfOk result (λ line. string_bytes line ≡ line_of (reply_data client.now command branch.now model.now named reply.now)) }
 {
     let mut line = JsonLine::new(alloc);
@@ -132,7 +132,7 @@ fn write_line(
     named: bool,
     reply: &Answer,
 ) -> Result<(), OutOfMemory>
-    requires { IsAnswerOf model.now reply.now }
+    requires { IsAnswerOfModel model.now reply.now }
     ensures { OnOk result (line.new ≡ line.old ++ data_tokens (reply_data client.now command branch.now model.now named reply.now)) }
 {
     line.begin_object()?;

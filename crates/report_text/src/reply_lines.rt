@@ -95,13 +95,13 @@ impl<'b> JsonData for Load<'b> {
 
 /// A merge: what it added.
 #[derive(Drop)]
-pub(crate) struct Merged<'b> {
+pub(crate) struct MergeTold<'b> {
     pub(crate) branch: &'b Name,
     pub(crate) added: &'b List<u32>,
     pub(crate) revision: u64,
 }
 
-impl<'b> JsonData for Merged<'b> {
+impl<'b> JsonData for MergeTold<'b> {
     ghost as_data = { λ told. merged_data told.branch.now told.added.now told.revision };
 
     fn write(&self, line: &mut JsonLine) -> Result<(), OutOfMemory> {

@@ -1,7 +1,7 @@
 -- The object is written part by part.
 use Rattle.std.proofs.lemmas.Result.{IfOk-equal}
 use Rattle.json_line.proofs.Steps.{part_by_part}
-use Rattle.report_text.proofs.reply_lines.MergedJsonData.write.Goals as goal
+use Rattle.report_text.proofs.reply_lines.MergeToldJsonData.write.Goals as goal
 
 pub returns : goal.returns
 returns c =
