@@ -13,7 +13,7 @@ use Rattle.constraints.specs.Holding.{some_covers}
 
 -- a profile of the resource with a number
 pub record IsProfile (model : Parts) (run : Run) (number : ℕ) (profile : Profile) : Type 0 where
-  pub values : OfResource model number (λ of. HasValues model run of profile)
+  pub values : OfResource model number (HasValues model run) profile
   pub divide : DivideTime run.reach (starts_of profile)
   pub compared : MayBeCompared run.reach profile
 

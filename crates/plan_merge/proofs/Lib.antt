@@ -1,4 +1,5 @@
 mod Same
+pub mod MergedPlans
 pub mod Renames
 pub mod Steps
 pub mod Finds

@@ -8,3 +8,4 @@ pub mod Leads
 pub mod Answers
 pub mod Anchors
 pub mod Cases
+pub mod MergedPlans

@@ -2,6 +2,7 @@
 
 ghost use Rattle.std.specs.Prelude.{◌≡◌, ◌<◌, ◌^◌, [], Ok};
 ghost use Rattle.aerie_base.specs.declared.plans.Plan.{Plan as Shown};
+ghost use Rattle.plan_merge.specs.MergedPlans.{MergesAreOfTheModel};
 ghost use Rattle.plan_merge.specs.Merging.{merge_of};
 ghost use Rattle.plan_merge.specs.Plans.{AreMergeable};
 ghost use Rattle.plan_merge.specs.SourceOnly.{GivesTheSource};
@@ -17,4 +18,10 @@ pub fn a_source_that_changed_nothing()
 pub fn a_target_that_changed_nothing()
     ensures { (base source : Shown) → AreMergeable base source base →
         GivesTheSource base source base (merge_of base source base) }
+{}
+
+/// What is merged of plans of one model and one duration is a plan of that model, like the target. That its ids and anchors are in
+/// order is a clause of `merge`.
+pub fn merges_are_of_the_model()
+    ensures { MergesAreOfTheModel }
 {}

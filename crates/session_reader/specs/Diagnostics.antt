@@ -1,5 +1,5 @@
 -- What is wrong with the names of a session, and what of it comes first: by place, and at one place by number.
-use Rattle.std.specs.Prelude.{ℕ, Bool, ◌&&◌, ◌||◌, not, List, [], ◌∷◌, ◌++◌, Option, Some, None, nat_lt, if◌then◌else◌}
+use Rattle.std.specs.Prelude.{◌≡◌, ℕ, Bool, ◌&&◌, ◌||◌, not, List, [], ◌∷◌, ◌++◌, Option, Some, None, nat_lt, if◌then◌else◌}
 use Rattle.aerie_base.specs.declared.places.Place.{Place}
 use Rattle.model_check.specs.Diagnostics.{is_place_before}
 use Rattle.session_reader.specs.declared.diagnostics.Cause.{Cause}
@@ -34,6 +34,10 @@ noted found (new ∷ rest) = noted (sooner found new) rest
 -- the first of them, where there is one
 abbrev pub first_diagnostic : List Diagnostic → Option Diagnostic
 first_diagnostic = noted None
+
+-- what is made, and what was found before and behind it: what is wrong with it is noted
+abbrev pub MakesAndNotes : {A : Type 0} → A → List Diagnostic → Option Diagnostic → Option Diagnostic → A → Type 0
+MakesAndNotes meant wrong before after made = (made ≡ meant) × (after ≡ noted before wrong)
 
 -- ---- one at a place
 

@@ -8,8 +8,11 @@ use Rattle.session_reader.specs.declared.diagnostics.Diagnostic.{Diagnostic}
 use Rattle.session_reader.specs.Diagnostics.{refused_unless}
 
 -- a name that is that of an earlier one
+abbrev pub repeated_in : List (List ℕ) → RawName → List Diagnostic
+repeated_in earlier name = refused_unless (not (is_name_among name.name earlier)) Duplicate name.at
+
+-- each such name
 abbrev pub repeated_diagnostics : List (List ℕ) → List RawName → List Diagnostic
 repeated_diagnostics earlier [] = []
 repeated_diagnostics earlier (name ∷ rest) =
-    refused_unless (not (is_name_among name.name earlier)) Duplicate name.at
-    ++ repeated_diagnostics (with_name earlier name.name) rest
+    repeated_in earlier name ++ repeated_diagnostics (with_name earlier name.name) rest

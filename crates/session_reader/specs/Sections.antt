@@ -6,7 +6,7 @@ use Rattle.model_reader.specs.declared.raw.names.RawName.{RawName}
 use Rattle.session_grammar.specs.declared.raw.sections.RawSection.{RawSection}
 use Rattle.session_reader.specs.declared.diagnostics.Cause.TheVariants.{Unknown, Duplicate}
 use Rattle.session_reader.specs.declared.diagnostics.Diagnostic.{Diagnostic}
-use Rattle.session_reader.specs.Diagnostics.{at_place, refused_unless}
+use Rattle.session_reader.specs.Diagnostics.{MakesAndNotes, at_place, refused_unless}
 use Rattle.session_reader.specs.KnownParts.{model_place}
 
 -- the number of the first token of some rules, and that of the token behind them
@@ -47,6 +47,10 @@ section_put sections range None = sections
 section_put sections range (Some model) =
     if is_some (section_of sections model) then sections else slice_set sections model (Some range)
 
+-- the same of a section as it is written
+abbrev pub diagnostics_of_section : List Parts → SectionsByModel → RawSection → List Diagnostic
+diagnostics_of_section models sections raw = section_diagnostics sections (place_of_section raw.at raw.of) (model_of_section models raw.of)
+
 -- ---- all sections of a sort
 
 abbrev pub with_section : List Parts → SectionsByModel → RawSection → SectionsByModel
@@ -61,5 +65,9 @@ sections_by_model models sections (raw ∷ rest) = sections_by_model models (wit
 abbrev pub sections_diagnostics : List Parts → SectionsByModel → List RawSection → List Diagnostic
 sections_diagnostics models sections [] = []
 sections_diagnostics models sections (raw ∷ rest) =
-    section_diagnostics sections (place_of_section raw.at raw.of) (model_of_section models raw.of)
-    ++ sections_diagnostics models (with_section models sections raw) rest
+    diagnostics_of_section models sections raw ++ sections_diagnostics models (with_section models sections raw) rest
+
+-- the sections are put by model, and what is wrong with them is noted
+abbrev pub MakesSections : List Parts → List RawSection → Option Diagnostic → Option Diagnostic → SectionsByModel → Type 0
+MakesSections models raw =
+    MakesAndNotes (sections_by_model models (no_sections models) raw) (sections_diagnostics models (no_sections models) raw)

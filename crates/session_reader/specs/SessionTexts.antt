@@ -1,5 +1,6 @@
 -- What a text means as a session, or the first thing in it that is refused.
 use Rattle.std.specs.Prelude.{ℕ, List, Result, Ok, Err, length, take}
+use Rattle.std.specs.Str.Lossy.{utf8_valid_len}
 use Rattle.aerie_base.specs.declared.places.Place.{Place}
 use Rattle.aerie_text.specs.Places.{place_of}
 use Rattle.aerie_text.specs.Tokens.{tokens_of}
@@ -12,11 +13,15 @@ use Rattle.session_reader.specs.Answers.{Answer, then_made_of}
 use Rattle.session_reader.specs.Sessions.{session_answer}
 use Rattle.session_reader.specs.declared.session.Session.{Session}
 use Rattle.session_reader.specs.declared.session_error.SessionError.{SessionError}
-use Rattle.session_reader.specs.declared.session_error.SessionError.TheVariants.{Syntax, TooMany, OutOfMemory}
+use Rattle.session_reader.specs.declared.session_error.SessionError.TheVariants.{NotText, Syntax, TooMany, OutOfMemory}
 
 -- the most bytes of a session
 abbrev pub byte_limit : ℕ
 byte_limit = 16_777_216
+
+-- bytes that are no text, by the offset of the first that does not belong to UTF-8
+abbrev pub not_text : List ℕ → SessionError
+not_text bytes = NotText (utf8_valid_len bytes)
 
 -- ---- the form
 

@@ -1,5 +1,5 @@
 -- What the text of a session means.
-use Rattle.std.specs.Prelude.{ℕ, ℤ, ◌+◌, List, [], ◌∷◌, ◌++◌, Ok, map}
+use Rattle.std.specs.Prelude.{ℕ, ℤ, ◌+◌, List, [], ◌∷◌, ◌++◌, Option, Ok, map}
 use Rattle.aerie_base.specs.declared.models.model.Parts.{Parts}
 use Rattle.aerie_base.specs.declared.plans.Plan.{Plan}
 use Rattle.session_grammar.specs.declared.raw.sections.RawSections.{RawSections}
@@ -14,7 +14,7 @@ use Rattle.session_reader.specs.ClientCommands.{clients_meant}
 use Rattle.session_reader.specs.ClientNames.{repeated_client, unless_repeated}
 use Rattle.session_reader.specs.DatasetAnswers.{NamedSeries, datasets_answer}
 use Rattle.session_reader.specs.DatasetNames.{datasets_diagnostics}
-use Rattle.session_reader.specs.Diagnostics.{first_diagnostic}
+use Rattle.session_reader.specs.Diagnostics.{MakesAndNotes, first_diagnostic}
 use Rattle.session_reader.specs.MappingDiagnostics.{mappings_diagnostics}
 use Rattle.session_reader.specs.MeantMappings.{mappings_meant}
 use Rattle.session_reader.specs.PlanSections.{plan_answer}
@@ -49,6 +49,14 @@ all_sections models raw =
       goals = sections_by_model models (no_sections models) raw.goals;
       sequences = sections_by_model models (no_sections models) raw.sequences;
     }
+
+-- the sections are put by model, and what is wrong with them is noted
+abbrev pub MakesAllSections : List Parts → RawSections → Option Diagnostic → Option Diagnostic → AllSections → Type 0
+MakesAllSections models raw = MakesAndNotes (all_sections models raw) (all_sections_diagnostics models raw)
+
+-- the same, with what is wrong with all names of the session
+abbrev pub JudgesNames : List Parts → RawSession → Option Diagnostic → Option Diagnostic → AllSections → Type 0
+JudgesNames models raw = MakesAndNotes (all_sections models raw.sections) (session_diagnostics models raw)
 
 abbrev pub model_part : AllSections → ℕ → Parts → ModelPart
 model_part sections number model =

@@ -1,8 +1,10 @@
 -- What holds of every session.
-use Rattle.std.specs.Prelude.{◌≡◌, ℕ, ◌≤◌, List, [], Option, Some, None, Ok, map}
+use Rattle.std.specs.Prelude.{◌≡◌, ℕ, ◌≤◌, List, [], Option, Some, None, Ok, length, map}
 use Rattle.std.specs.List.{AllByRecursion}
 use Rattle.aerie_base.specs.declared.models.model.Parts.{Parts}
 use Rattle.aerie_base.specs.declared.plans.Plan.{Plan}
+use Rattle.aerie_text.specs.declared.token.Token.{Token}
+use Rattle.aerie_text.specs.Tokens.{tokens_of}
 use Rattle.session_reader.specs.declared.session.ModelPart.{ModelPart}
 use Rattle.session_reader.specs.declared.session.Session.{Session}
 use Rattle.hangar_core.specs.Standing.{AreModels, IsPlanAmong}
@@ -51,6 +53,14 @@ pub record HasSectionsWithin (count : ℕ) (part : ModelPart) : Type 0 where
   pub constraints : IsRangeWithin count part.constraints
   pub goals : IsRangeWithin count part.goals
   pub sequence : IsRangeWithin count part.sequence
+
+-- in a text that is cut into tokens: a session as it is written, within the limits of so many
+abbrev pub IsLimitedIn : List ℕ → RawSession → Type 0
+IsLimitedIn text raw = (tokens : List Token) → tokens_of text ≡ Ok tokens → IsLimitedSession (length tokens) raw
+
+-- and sections that stand among these tokens
+abbrev pub HasSectionsIn : List ℕ → Session → Type 0
+HasSectionsIn text session = (tokens : List Token) → tokens_of text ≡ Ok tokens → AllByRecursion (HasSectionsWithin (length tokens)) session.models
 
 -- the sections stand among the tokens of a text, where those of the session as it is written do
 abbrev pub HasRangesOf : RawSession → Session → Type 0

@@ -1,11 +1,10 @@
 //! Names that may stand but once.
 
-ghost use Rattle.std.specs.Prelude.{◌≡◌, [], not, map, IfOk};
+ghost use Rattle.std.specs.Prelude.{◌≡◌, [], not, map, IfOk, OnOk};
 ghost use Rattle.aerie_base.specs.models.Names.{is_name_among};
 ghost use Rattle.model_check.specs.NameLists.{with_name};
-ghost use Rattle.session_reader.specs.declared.diagnostics.Cause.TheVariants.{Duplicate};
-ghost use Rattle.session_reader.specs.Diagnostics.{noted, refused_unless};
-ghost use Rattle.session_reader.specs.RepeatedNames.{repeated_diagnostics};
+ghost use Rattle.session_reader.specs.Diagnostics.{noted, MakesAndNotes};
+ghost use Rattle.session_reader.specs.RepeatedNames.{repeated_in, repeated_diagnostics};
 
 use crate::diagnostics::{Cause, Diagnostic, note};
 use aerie_base::{Name, OutOfMemory};
@@ -44,7 +43,8 @@ impl NameSet {
 
     /// Adds a name where it is not there, and tells whether it was not.
     fn add(&mut self, alloc: Global, name: &Name) -> Result<bool, OutOfMemory>
-        ensures { IfOk result (λ is_new. (self.new ≡ with_name self.old name.now) × (is_new ≡ not (is_name_among name.now self.old))) }
+        ensures names { OnOk result (self.new ≡ with_name self.old name.now) }
+        ensures is_new { IfOk result (λ is_new. is_new ≡ not (is_name_among name.now self.old)) }
     {
         let name = name.copy(alloc)?;
         match self.names.insert(name) {
@@ -104,7 +104,7 @@ fn note_repeated(
     name: &RawName,
     found: &mut Option<Diagnostic>,
 ) -> Result<(), OutOfMemory>
-    ensures { IfOk result (λ _. (earlier.new ≡ with_name earlier.old name.now.name) × (found.new ≡ noted found.old (refused_unless (not (is_name_among name.now.name earlier.old)) Duplicate name.now.at))) }
+    ensures { IfOk result (λ _. MakesAndNotes (with_name earlier.old name.now.name) (repeated_in earlier.old name.now) found.old found.new earlier.new) }
 {
     if !earlier.add(alloc, &name.name)? {
         note(found, name.at, Cause::Duplicate);

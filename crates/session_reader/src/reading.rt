@@ -1,17 +1,14 @@
 //! The text of a session is read.
 
-ghost use Rattle.std.specs.Prelude.{◌≡◌, ◌≤◌, ◌<◌, List, Ok, Err, IfOk, length};
-ghost use Rattle.std.specs.List.{AllByRecursion};
+ghost use Rattle.std.specs.Prelude.{◌≡◌, ◌≤◌, ◌<◌, Ok, Err, IfOk, length};
 ghost use Rattle.std.specs.Str.{IsUtf8};
-ghost use Rattle.std.specs.Str.Lossy.{utf8_valid_len};
 ghost use Rattle.aerie_text.specs.Marks.{AreTokensWithin};
 ghost use Rattle.aerie_text.specs.Tokens.{tokens_of};
-ghost use Rattle.aerie_text.specs.declared.token.Token.{Token};
 ghost use Rattle.session_grammar.specs.SessionLimits.{IsLimitedSession};
-ghost use Rattle.session_reader.specs.declared.session_error.SessionError.TheVariants.{TooLarge, NotText};
+ghost use Rattle.session_reader.specs.declared.session_error.SessionError.TheVariants.{TooLarge};
 ghost use Rattle.session_reader.specs.Answers.{IsMade, IsRefusal};
-ghost use Rattle.session_reader.specs.SessionTexts.{byte_limit, cut_answer, form_answer, raw_answer, text_answer};
-ghost use Rattle.session_reader.specs.WellFormed.{HasSectionsWithin, IsLimited, IsSession};
+ghost use Rattle.session_reader.specs.SessionTexts.{byte_limit, cut_answer, form_answer, not_text, raw_answer, text_answer};
+ghost use Rattle.session_reader.specs.WellFormed.{HasSectionsIn, IsLimited, IsLimitedIn, IsSession};
 
 use crate::session::Session;
 use crate::session_error::SessionError;
@@ -67,7 +64,7 @@ fn cut(alloc: Global, text: &str) -> SessionError
 fn raw(alloc: Global, text: &str) -> Result<RawSession, SessionError>
     requires short { length text.now ≤ byte_limit }
     ensures made { IsMade (raw_answer text.now) result }
-    ensures limits { IfOk result (λ raw. (tokens : List Token) → tokens_of text.now ≡ Ok tokens → IsLimitedSession (length tokens) raw) }
+    ensures limits { IfOk result (IsLimitedIn text.now) }
     ensures limited { IfOk result IsLimited }
 {
     match tokens(alloc, text) {
@@ -82,7 +79,7 @@ fn text_session(alloc: Global, text: &str) -> Result<Session, SessionError>
     requires short { length text.now ≤ byte_limit }
     ensures exact { IsMade (text_answer text.now) result }
     ensures session { IfOk result IsSession }
-    ensures sections { IfOk result (λ session. (tokens : List Token) → tokens_of text.now ≡ Ok tokens → AllByRecursion (HasSectionsWithin (length tokens)) session.models) }
+    ensures sections { IfOk result (HasSectionsIn text.now) }
 {
     let raw = raw(alloc, text)?;
     session(alloc, &raw)
@@ -95,10 +92,10 @@ fn text_session(alloc: Global, text: &str) -> Result<Session, SessionError>
 /// in the bytes but for what looking up a name by its hash, or among the few parts of a model, takes.
 pub fn read_session(alloc: Global, bytes: &[u8]) -> Result<Session, SessionError>
     ensures large { byte_limit < length bytes.now → result ≡ Err TooLarge }
-    ensures not_text { length bytes.now ≤ byte_limit → ¬ (IsUtf8 bytes.now) → result ≡ Err (NotText (utf8_valid_len bytes.now)) }
+    ensures not_text { length bytes.now ≤ byte_limit → ¬ (IsUtf8 bytes.now) → result ≡ Err (not_text bytes.now) }
     ensures exact { length bytes.now ≤ byte_limit → IsUtf8 bytes.now → IsMade (text_answer bytes.now) result }
     ensures session { IfOk result IsSession }
-    ensures sections { IfOk result (λ session. (tokens : List Token) → tokens_of bytes.now ≡ Ok tokens → AllByRecursion (HasSectionsWithin (length tokens)) session.models) }
+    ensures sections { IfOk result (HasSectionsIn bytes.now) }
 {
     if MOST_BYTES < bytes.len() {
         return Err(SessionError::TooLarge);

@@ -2,7 +2,7 @@
 
 ghost use Rattle.std.specs.Prelude.{◌≡◌, ℕ, None, IfOk, is_some, slice_set, Some, replicate};
 ghost use Rattle.session_reader.specs.Diagnostics.{noted};
-ghost use Rattle.session_reader.specs.Sections.{TokenRange as Range, no_sections as no_sections_by, section_of, model_of_section as model_of_section_by, place_of_section as place_of_section_by, section_diagnostics, section_put, with_section, sections_by_model, sections_diagnostics};
+ghost use Rattle.session_reader.specs.Sections.{TokenRange as Range, no_sections as no_sections_by, section_of, model_of_section as model_of_section_by, place_of_section as place_of_section_by, section_diagnostics, diagnostics_of_section, section_put, with_section, MakesSections};
 
 use crate::diagnostics::{Cause, Diagnostic, note, note_unless};
 use crate::known_parts::model_place;
@@ -101,7 +101,7 @@ fn add_section(
     found: &mut Option<Diagnostic>,
 )
     ensures put { sections.new ≡ with_section models.now sections.old raw.now }
-    ensures noted { found.new ≡ noted found.old (section_diagnostics sections.old (place_of_section_by raw.now.at raw.now.of) (model_of_section_by models.now raw.now.of)) }
+    ensures noted { found.new ≡ noted found.old (diagnostics_of_section models.now sections.old raw.now) }
 {
     let model = model_of_section(models, &raw.of);
     note_section(sections, place_of_section(raw.at, &raw.of), model, found);
@@ -115,7 +115,7 @@ pub(crate) fn sections_of(
     raw: &[RawSection],
     found: &mut Option<Diagnostic>,
 ) -> Result<SectionsByModel, OutOfMemory>
-    ensures { IfOk result (λ sections. (sections ≡ sections_by_model models.now (no_sections_by models.now) raw.now) × (found.new ≡ noted found.old (sections_diagnostics models.now (no_sections_by models.now) raw.now))) }
+    ensures { IfOk result (MakesSections models.now raw.now found.old found.new) }
 {
     let mut sections = no_sections(alloc, models)?;
     for section in raw {

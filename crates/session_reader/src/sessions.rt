@@ -7,7 +7,7 @@ ghost use Rattle.session_reader.specs.CheckedModels.{AreValid, models_answer};
 ghost use Rattle.session_reader.specs.DatasetAnswers.{datasets_answer};
 ghost use Rattle.session_reader.specs.Diagnostics.{noted};
 ghost use Rattle.session_reader.specs.Sections.{section_of as section_of_by};
-ghost use Rattle.session_reader.specs.Sessions.{all_sections as all_sections_by, all_sections_diagnostics, session_diagnostics, model_part as model_part_by, model_parts as model_parts_by, session_made, session_planned, session_started, session_over as session_over_by, session_answer};
+ghost use Rattle.session_reader.specs.Sessions.{all_sections as all_sections_by, MakesAllSections, JudgesNames, model_part as model_part_by, model_parts as model_parts_by, session_made, session_planned, session_started, session_over as session_over_by, session_answer};
 ghost use Rattle.session_reader.specs.Starts.{start_answer};
 ghost use Rattle.session_reader.specs.WellFormed.{HasRangesOf, IsLimited, IsPlanOfFirst, IsSession, MayBeMade};
 
@@ -46,7 +46,7 @@ fn all_sections(
     raw: &RawSections,
     found: &mut Option<Diagnostic>,
 ) -> Result<AllSections, OutOfMemory>
-    ensures { IfOk result (λ all. (all ≡ all_sections_by models.now raw.now) × (found.new ≡ noted found.old (all_sections_diagnostics models.now raw.now))) }
+    ensures { IfOk result (MakesAllSections models.now raw.now found.old found.new) }
 {
     let constraints = sections_of(alloc, models, raw.constraints.as_slice(), found)?;
     let goals = sections_of(alloc, models, raw.goals.as_slice(), found)?;
@@ -66,7 +66,7 @@ fn judge_names(
     raw: &RawSession,
     found: &mut Option<Diagnostic>,
 ) -> Result<AllSections, OutOfMemory>
-    ensures { IfOk result (λ all. (all ≡ all_sections_by models.now raw.now.sections) × (found.new ≡ noted found.old (session_diagnostics models.now raw.now))) }
+    ensures { IfOk result (JudgesNames models.now raw.now found.old found.new) }
 {
     note_all_repeated(alloc, raw.models.as_slice(), found)?;
     note_mappings(alloc, models, raw.mappings.as_slice(), found)?;

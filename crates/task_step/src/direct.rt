@@ -40,6 +40,13 @@ impl<'a> Direct<'a> {
     {
         Direct { codes, opened: 0 }
     }
+
+    /// How many statements and tests it ran, or 2^64 - 1 where there were more. It takes no memory.
+    pub fn opened(&self) -> u64
+        ensures { result ≡ self.now.opened }
+    {
+        self.opened
+    }
 }
 
 impl<'a> Stepper for Direct<'a> {

@@ -1,18 +1,13 @@
 -- The sections of the session that is made stand where those of the session as it is written do.
-use Rattle.std.proofs.Common.{◌≡◌, ℕ, List, Ok, Err, IfOk, length}
-use Rattle.std.specs.List.{AllByRecursion}
-use Rattle.aerie_text.specs.Tokens.{tokens_of}
-use Rattle.aerie_text.specs.declared.token.Token.{Token}
-use Rattle.session_grammar.specs.SessionLimits.{IsLimitedSession}
+use Rattle.std.proofs.Common.{ℕ, List, Ok, Err, IfOk, length}
 use Rattle.session_grammar.specs.declared.raw.sessions.RawSession.{RawSession}
 use Rattle.session_reader.specs.Answers.{Answer}
-use Rattle.session_reader.specs.WellFormed.{HasRangesOf, HasSectionsWithin}
+use Rattle.session_reader.specs.WellFormed.{HasRangesOf, HasSectionsIn, IsLimitedIn}
 use Rattle.session_reader.specs.declared.session.Session.{Session}
 use Rattle.session_reader.proofs.reading.text_session.Goals as goal
 
 sections_follow : (result : Answer Session) (raw : RawSession) (text : List ℕ) → IfOk result (HasRangesOf raw) →
-    ((tokens : List Token) → tokens_of text ≡ Ok tokens → IsLimitedSession (length tokens) raw) →
-    IfOk result (λ session. (tokens : List Token) → tokens_of text ≡ Ok tokens → AllByRecursion (HasSectionsWithin (length tokens)) session.models)
+    IsLimitedIn text raw → IfOk result (HasSectionsIn text)
 sections_follow (Ok session) raw text ranges limits = λ tokens is. ranges (length tokens) (limits tokens is)
 sections_follow (Err refusal) raw text ranges limits = tt
 

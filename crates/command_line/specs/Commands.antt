@@ -1,0 +1,56 @@
+-- The command line as data: one simple command, without short options, help and version.
+use Rattle.std.specs.declared.alloc.Global.{Global}
+use Rattle.std.specs.Prelude.{String, map, string_bytes, ℕ, Bool, true, false, List, [], ◌∷◌, Some, codes}
+use Rattle.clap.specs.Words.{App, Kinds, Row, Rule, fault_of, matches_of, new_app, new_rule, with_rule}
+use Rattle.clap.specs.declared.builder.action.ArgAction.TheVariants.{Set, SetTrue}
+
+-- ---- the words of the command
+
+-- an option `--NAME VALUE` or `--NAME=VALUE`, given once at most
+abbrev pub option_rule : List ℕ → Rule
+option_rule name = record (new_rule name) { long = Some name; action = Some Set }
+
+-- a flag `--NAME`, given once at most
+abbrev pub flag_rule : List ℕ → Rule
+flag_rule name = record (new_rule name) { long = Some name; action = Some SetTrue }
+
+-- the one word that stands alone
+abbrev pub mode_rule : Rule
+mode_rule = record (new_rule (codes "mode")) { required = true; action = Some Set }
+
+-- ---- the command
+
+-- all words are the program's own, and none asks for help
+abbrev pub plain_command : App
+plain_command =
+    let command = new_app (codes "aerie") in
+    record command { top = record command.top { no_binary_name = true; disable_help_flag = true } }
+
+abbrev pub with_every_option : App → App
+with_every_option command =
+    with_rule (with_rule (with_rule command (option_rule (codes "limit"))) (option_rule (codes "pieces"))) (option_rule (codes "number"))
+
+abbrev pub with_every_flag : App → App
+with_every_flag command =
+    with_rule (with_rule (with_rule command (flag_rule (codes "serial"))) (flag_rule (codes "stats"))) (flag_rule (codes "text"))
+
+abbrev pub command : App
+command = with_every_flag (with_every_option (with_rule plain_command mode_rule))
+
+-- ---- what words give
+
+-- the words as texts
+abbrev pub texts_of : List (String Global) → List (List ℕ)
+texts_of words = map (λ word. string_bytes word) words
+
+abbrev pub is_no_fault : Kinds → Bool
+is_no_fault [] = true
+is_no_fault (fault ∷ more) = false
+
+-- the words are in the form of the command
+unfoldable pub are_taken : List (List ℕ) → Bool
+are_taken words = is_no_fault (fault_of command words)
+
+-- the values that the words give, by the names of the command
+unfoldable pub given : List (List ℕ) → List Row
+given words = matches_of command words

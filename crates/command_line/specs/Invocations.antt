@@ -1,0 +1,110 @@
+-- What the words ask for.
+use Rattle.std.specs.Prelude.{ℕ, ◌≤◌, Bool, true, false, ◌&&◌, List, Option, Some, None, codes, length, nat_le, nat_lt, if◌then◌else◌}
+use Rattle.std.specs.Char.{digit_value}
+use Rattle.std.specs.List.{list_all}
+use Rattle.std.specs.Str.{bytes_eq}
+use Rattle.std.specs.Str.Parse.{digits_value, without_leading_plus}
+use Rattle.clap.specs.Words.{Row, first_of}
+use Rattle.command_line.specs.Commands.{are_taken, given}
+use Rattle.command_line.specs.declared.invocation.Mode.{Mode}
+use Rattle.command_line.specs.declared.invocation.Mode.TheVariants.{Run, Check, Make}
+use Rattle.command_line.specs.declared.invocation.Invocation.{Invocation}
+
+-- ---- numbers
+
+-- one decimal digit or more, and nothing else
+abbrev pub is_numeral : List ℕ → Bool
+is_numeral text = nat_lt 0 (length text) && list_all (λ byte. nat_lt (digit_value byte) 10) text
+
+-- digits of a number from 1 up to some other
+abbrev pub is_number_within : ℕ → List ℕ → Bool
+is_number_within most digits = is_numeral digits && nat_le 1 (digits_value 10 digits) && nat_le (digits_value 10 digits) most
+
+abbrev pub digits_within : ℕ → List ℕ → Option ℕ
+digits_within most digits = if is_number_within most digits then Some (digits_value 10 digits) else None
+
+-- the number from 1 up to some other that a text is; a plus may stand in front of its digits
+abbrev pub number_up_to : ℕ → List ℕ → Option ℕ
+number_up_to most text = digits_within most (without_leading_plus text)
+
+-- the number of an option that has a usual one
+abbrev pub number_or : ℕ → ℕ → Option (List ℕ) → Option ℕ
+number_or usual most None = Some usual
+number_or usual most (Some text) = number_up_to most text
+
+-- ---- modes
+
+-- a mode that takes neither `--number` nor `--text`
+abbrev pub plain_mode : Mode → Option (List ℕ) → Bool → Option Mode
+plain_mode mode None false = Some mode
+plain_mode mode None true = None
+plain_mode mode (Some number) text = None
+
+abbrev pub make_of : Bool → Option ℕ → Option Mode
+make_of text None = None
+make_of text (Some number) = Some (Make number text)
+
+-- to make a session takes a number
+abbrev pub make_mode : Option (List ℕ) → Bool → Option Mode
+make_mode None text = None
+make_mode (Some number) text = make_of text (number_up_to 20_000 number)
+
+abbrev pub mode_named : List ℕ → Option (List ℕ) → Bool → Option Mode
+mode_named word number text =
+    if bytes_eq word (codes "run") then plain_mode Run number text
+    else if bytes_eq word (codes "check") then plain_mode Check number text
+    else if bytes_eq word (codes "make") then make_mode number text
+    else None
+
+abbrev pub mode_of : Option (List ℕ) → Option (List ℕ) → Bool → Option Mode
+mode_of None number text = None
+mode_of (Some word) number text = mode_named word number text
+
+-- ---- the invocation
+
+-- the value that a name was given
+abbrev pub value_of : List ℕ → List Row → Option (List ℕ)
+value_of name rows = first_of name rows
+
+abbrev pub says_true : Option (List ℕ) → Bool
+says_true None = false
+says_true (Some text) = bytes_eq text (codes "true")
+
+-- the flag was given
+abbrev pub is_set : List ℕ → List Row → Bool
+is_set name rows = says_true (value_of name rows)
+
+abbrev pub invocation_with : Bool → Bool → Option Mode → Option ℕ → Option ℕ → Option Invocation
+invocation_with serial stats None limit pieces = None
+invocation_with serial stats (Some mode) None pieces = None
+invocation_with serial stats (Some mode) (Some limit) None = None
+invocation_with serial stats (Some mode) (Some limit) (Some pieces) =
+    Some (record { mode = mode; limit = limit; pieces = pieces; serial = serial; stats = stats })
+
+-- what values ask for
+abbrev pub invocation_in : List Row → Option Invocation
+invocation_in rows =
+    invocation_with (is_set (codes "serial") rows) (is_set (codes "stats") rows)
+    (mode_of (value_of (codes "mode") rows) (value_of (codes "number") rows) (is_set (codes "text") rows))
+    (number_or 1_000_000 100_000_000 (value_of (codes "limit") rows))
+    (number_or 4 64 (value_of (codes "pieces") rows))
+
+-- what the words after the program's name ask for, or none where they are not in the grammar
+abbrev pub invocation_of : List (List ℕ) → Option Invocation
+invocation_of words = if are_taken words then invocation_in (given words) else None
+
+-- ---- ranges
+
+-- a session that is made has 1 to 20,000 directives
+abbrev pub IsModeWithin : Mode → Type 0
+IsModeWithin Run = Unit {0}
+IsModeWithin Check = Unit {0}
+IsModeWithin (Make number text) = (1 ≤ number) × (number ≤ 20_000)
+
+-- the numbers are in their ranges
+pub record HasNumbersWithin (invocation : Invocation) : Type 0 where
+  pub mode : IsModeWithin invocation.mode
+  pub some_limit : 1 ≤ invocation.limit
+  pub most_limit : invocation.limit ≤ 100_000_000
+  pub some_pieces : 1 ≤ invocation.pieces
+  pub most_pieces : invocation.pieces ≤ 64
