@@ -1,23 +1,15 @@
 -- What holds of the views of all passes.
-use Rattle.std.proofs.Common.{◌≡◌, ◌≢◌, ◌⊎◌, inl, inr, ℕ, zero, suc, ◌+◌, ◌-◌, ◌%◌, ◌^◌, ◌<◌, ◌≤◌, Bool, true, false, List, [], ◌∷◌, ◌++◌, length, drop, Some, None, Option, set, sym, refl, ap, ◌∙◌, subst, ⊎_elim, arith, length-set, length-append, true≢false, get_or, append-nil, nat_le, if◌then◌else◌, slice_get}
-use Rattle.std.proofs.Math.Seq.{drop-append_seam}
+use Rattle.std.proofs.Common.{◌≡◌, ◌≢◌, ◌⊎◌, inl, inr, ℕ, zero, suc, ◌+◌, ◌<◌, ◌≤◌, false, List, [], ◌∷◌, ◌++◌, length, Some, None, Option, set, sym, refl, ap, ◌∙◌, subst, ⊎_elim, arith, true≢false}
 use mathlib.Core.Option.{Option as Maybe, some, none, some-injective, some-ne-none}
-use mathlib.Core.Logic.{dite}
-use native.Mathlib.Decide.{ℕ_discrete, dec_le}
 use lib.ListN.{get_elem?}
-use lib.Seq.{set-get_or}
-use Rattle.atomic_table.specs.Table.{State, Me, Step, step, opening, Final, Seen, Act, keeps, takes, gives, stepped, Allows, Splits, Joins}
-use Rattle.atomic_table.proofs.Lists.{at_set, set_else, set_again, one_turn, at_longer}
+use Rattle.atomic_table.specs.Table.{State}
+use Rattle.atomic_table.proofs.Lists.{at_set, set_else, at_longer}
 use Rattle.hangar_core.specs.Journals.{Entries}
 use Rattle.hangar_core.specs.Standing.{CountedWorkspace}
 use Rattle.hangar_lock.specs.declared.desk.Desk.{Desk}
 use Rattle.hangar_lock.specs.declared.views.View.{View}
-use Rattle.hangar_lock.specs.Desks.{IsDesk}
-use Rattle.hangar_lock.specs.Places.{HasNumber, HasPlace, longer, placed_from, Places, StartsWith, Told}
-use Rattle.hangar_lock.specs.Views.{first_view, splitting, split_off, joined, spent, left_by}
-use Rattle.hangar_lock.specs.Rule.{has_ticket, holders, HasHome, Knows, Kept}
-use Rattle.hangar_lock.specs.Steps.{Seated, Draws, Looks, PassesOn, enters_with}
-use Rattle.hangar_lock.proofs.Places.{bump, same_value, IsAt, is_at_below, is_at_left, is_at_front, placed_at, at_placed, has_place_left, has_place_right, has_place_cases, has_number_left, has_number_right, has_number_cases, further, longer_starts}
+use Rattle.hangar_lock.specs.Places.{HasNumber}
+use Rattle.hangar_lock.specs.Rule.{has_ticket, holders, HasHome}
 
 abbrev pub St : Type 0
 St = State (Option Desk) View
@@ -111,4 +103,3 @@ home_more o journal vs w none out has = (has.0, has.1, at_longer vs (w ∷ []) h
 home_more o journal vs w (some None) out has = has
 home_more o journal vs w (some (Some d)) out has =
     (has.0, has.1, λ j u e. ⊎_elim (λ (t : get_elem? vs j ≡ some u). has.2 j u t) (λ (t : (j ≡ length vs) × (w ≡ u)). ap (λ (z : View). z.inside) (sym t.1) ∙ out) (at_end vs w u j e))
-

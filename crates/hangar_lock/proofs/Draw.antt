@@ -1,24 +1,14 @@
 -- A ticket is drawn.
-use Rattle.std.proofs.Common.{◌≡◌, ◌≢◌, ◌⊎◌, inl, inr, ℕ, zero, suc, ◌+◌, ◌-◌, ◌%◌, ◌^◌, ◌<◌, ◌≤◌, Bool, true, false, List, [], ◌∷◌, ◌++◌, length, drop, Some, None, Option, set, sym, refl, ap, ◌∙◌, subst, ⊎_elim, arith, length-set, length-append, true≢false, get_or, append-nil, nat_le, if◌then◌else◌, slice_get}
-use Rattle.std.proofs.Math.Seq.{drop-append_seam}
-use mathlib.Core.Option.{Option as Maybe, some, none, some-injective, some-ne-none}
-use mathlib.Core.Logic.{dite}
-use native.Mathlib.Decide.{ℕ_discrete, dec_le}
-use lib.ListN.{get_elem?}
-use lib.Seq.{set-get_or}
-use Rattle.atomic_table.specs.Table.{State, Me, Step, step, opening, Final, Seen, Act, keeps, takes, gives, stepped, Allows, Splits, Joins}
-use Rattle.atomic_table.proofs.Lists.{at_set, set_else, set_again, one_turn, at_longer}
-use Rattle.hangar_core.specs.Journals.{Entries}
+use Rattle.std.proofs.Common.{◌≡◌, ℕ, ◌+◌, ◌%◌, ◌^◌, false, List, [], ◌∷◌, Some, None, Option, set, sym, refl, ap, ◌∙◌, arith, length-set, true≢false, get_or}
+use Rattle.atomic_table.specs.Table.{Step, keeps, Allows}
 use Rattle.hangar_core.specs.Standing.{CountedWorkspace}
 use Rattle.hangar_lock.specs.declared.desk.Desk.{Desk}
 use Rattle.hangar_lock.specs.declared.views.View.{View}
-use Rattle.hangar_lock.specs.Desks.{IsDesk}
-use Rattle.hangar_lock.specs.Places.{HasNumber, HasPlace, longer, placed_from, Places, StartsWith, Told}
-use Rattle.hangar_lock.specs.Views.{first_view, splitting, split_off, joined, spent, left_by}
-use Rattle.hangar_lock.specs.Rule.{has_ticket, holders, HasHome, Knows, Kept}
-use Rattle.hangar_lock.specs.Steps.{Seated, Draws, Looks, PassesOn, enters_with}
-use Rattle.hangar_lock.proofs.Places.{bump, same_value, IsAt, is_at_below, is_at_left, is_at_front, placed_at, at_placed, has_place_left, has_place_right, has_place_cases, has_number_left, has_number_right, has_number_cases, further, longer_starts}
-use Rattle.hangar_lock.proofs.AllViews.{St, holders_set, holders_snoc, holders_le, here, at_end, all_hold, Alone, stay_alone, still_alone, end_alone, HoldsTicketNo, StandsFor, home_stays, home_more}
+use Rattle.hangar_lock.specs.Places.{HasNumber}
+use Rattle.hangar_lock.specs.Rule.{has_ticket, holders, Knows, Kept}
+use Rattle.hangar_lock.specs.Steps.{Seated, Draws}
+use Rattle.hangar_lock.proofs.Places.{bump, same_value}
+use Rattle.hangar_lock.proofs.AllViews.{holders_set, all_hold, stay_alone, still_alone, HoldsTicketNo, StandsFor, home_stays}
 
 pub draws : (o : CountedWorkspace) (slots id : ℕ) (me : Seated) (st : Step (Option Desk)) (n : ℕ) → me.0.ticket ≡ None → me.0.inside ≡ false → HasNumber me.0.stands n
     → Allows (Kept o) slots id me 0 (λ n. (n + 1) % 2 ^ 64) (Draws st me)
@@ -76,4 +66,3 @@ draws o slots id me st n idle out number s r len at lt =
       },
       (r.drawn, refl, sym w0),
     )
-

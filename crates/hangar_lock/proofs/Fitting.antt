@@ -1,5 +1,5 @@
 -- The passes of all clients together settle that the journal fits.
-use Rattle.std.proofs.Common.{◌≡◌, ℕ, zero, suc, ◌+◌, ◌<◌, ◌≤◌, List, [], ◌∷◌, ◌++◌, length, map, Some, None, Option, inl, inr, ◌⊎◌, refl, sym, ap, ◌∙◌, subst, arith, slice_get}
+use Rattle.std.proofs.Common.{◌≡◌, ℕ, zero, suc, ◌<◌, ◌≤◌, List, [], ◌∷◌, ◌++◌, length, map, Some, inl, inr, refl, sym, ap, ◌∙◌, subst, arith, slice_get}
 use Rattle.std.specs.List.{filter}
 use Rattle.std.proofs.lemmas.Bool.{eqb-true, eq-eqb}
 use Rattle.hangar_core.specs.declared.commands.Command.{Command}
@@ -8,7 +8,7 @@ use Rattle.hangar_core.specs.Fits.{commands_of, Fits, is_of_client, IsWorkOf, Me
 use Rattle.hangar_core.specs.Journals.{Entries, IsReplay}
 use Rattle.hangar_lock.specs.Passes.{PassView}
 use Rattle.hangar_lock.specs.Places.{HasPlace, Places, Told}
-use Rattle.hangar_lock.specs.Works.{HasWorked, told_of}
+use Rattle.hangar_lock.specs.Works.{told_of}
 use Rattle.hangar_lock.specs.laws.JoinedPasses.{all_mine, AreWorked, HasWorkedAlone}
 use Rattle.hangar_lock.proofs.Growing.{rises_to}
 use Rattle.hangar_lock.proofs.Picking.{has_by, picked, Rises, work_by}

@@ -58,4 +58,3 @@ rises_weaker low top higher (m ∷ mine) h e = (h.0, rises_weaker (m.0 + 1) top 
 pub rises_to : (low top : ℕ) (mine : Places) → RisesTo low top mine → Rises low mine
 rises_to low top [] h = tt
 rises_to low top (m ∷ mine) h = (h.0, rises_to (m.0 + 1) top mine h.1)
-

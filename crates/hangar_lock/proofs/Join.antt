@@ -1,24 +1,16 @@
 -- A pass is taken back.
-use Rattle.std.proofs.Common.{◌≡◌, ◌≢◌, ◌⊎◌, inl, inr, ℕ, zero, suc, ◌+◌, ◌-◌, ◌%◌, ◌^◌, ◌<◌, ◌≤◌, Bool, true, false, List, [], ◌∷◌, ◌++◌, length, drop, Some, None, Option, set, sym, refl, ap, ◌∙◌, subst, ⊎_elim, arith, length-set, length-append, true≢false, get_or, append-nil, nat_le, if◌then◌else◌, slice_get}
-use Rattle.std.proofs.Math.Seq.{drop-append_seam}
-use mathlib.Core.Option.{Option as Maybe, some, none, some-injective, some-ne-none}
-use mathlib.Core.Logic.{dite}
-use native.Mathlib.Decide.{ℕ_discrete, dec_le}
+use Rattle.std.proofs.Common.{◌≡◌, ◌≢◌, ◌⊎◌, inl, inr, ℕ, ◌+◌, false, List, length, None, set, sym, refl, ap, ◌∙◌, subst, ⊎_elim, arith, length-set, true≢false, nat_le}
+use mathlib.Core.Option.{some}
 use lib.ListN.{get_elem?}
-use lib.Seq.{set-get_or}
-use Rattle.atomic_table.specs.Table.{State, Me, Step, step, opening, Final, Seen, Act, keeps, takes, gives, stepped, Allows, Splits, Joins}
-use Rattle.atomic_table.proofs.Lists.{at_set, set_else, set_again, one_turn, at_longer}
-use Rattle.hangar_core.specs.Journals.{Entries}
+use Rattle.atomic_table.specs.Table.{Joins}
+use Rattle.atomic_table.proofs.Lists.{at_set, set_else}
 use Rattle.hangar_core.specs.Standing.{CountedWorkspace}
-use Rattle.hangar_lock.specs.declared.desk.Desk.{Desk}
 use Rattle.hangar_lock.specs.declared.views.View.{View}
-use Rattle.hangar_lock.specs.Desks.{IsDesk}
-use Rattle.hangar_lock.specs.Places.{HasNumber, HasPlace, longer, placed_from, Places, StartsWith, Told}
-use Rattle.hangar_lock.specs.Views.{first_view, splitting, split_off, joined, spent, left_by}
-use Rattle.hangar_lock.specs.Rule.{has_ticket, holders, HasHome, Knows, Kept}
-use Rattle.hangar_lock.specs.Steps.{Seated, Draws, Looks, PassesOn, enters_with}
-use Rattle.hangar_lock.proofs.Places.{none_some, bump, same_value, IsAt, is_at_below, is_at_left, is_at_front, placed_at, at_placed, has_place_left, has_place_right, has_place_cases, has_number_left, has_number_right, has_number_cases, further, longer_starts}
-use Rattle.hangar_lock.proofs.AllViews.{St, holders_set, holders_snoc, holders_le, here, at_end, all_hold, Alone, stay_alone, still_alone, end_alone, HoldsTicketNo, StandsFor, home_stays, home_more}
+use Rattle.hangar_lock.specs.Places.{HasNumber, HasPlace}
+use Rattle.hangar_lock.specs.Views.{joined, spent}
+use Rattle.hangar_lock.specs.Rule.{has_ticket, holders, Knows, Kept}
+use Rattle.hangar_lock.proofs.Places.{none_some, has_place_left, has_place_right, has_place_cases, has_number_left, has_number_right, has_number_cases, longer_starts}
+use Rattle.hangar_lock.proofs.AllViews.{St, holders_set, all_hold, Alone, still_alone, HoldsTicketNo, StandsFor, home_stays}
 
 -- each number is one pass's, where the pass id takes in the numbers of the other
 two_alone : (o : CountedWorkspace) (s : St) (r : Kept o s) (id other : ℕ) (v w b : View) → get_elem? s.views id ≡ some v → get_elem? s.views other ≡ some w
@@ -108,4 +100,3 @@ joins o id v other w v_idle v_out w_idle w_out number s r at apart_ids there =
       one_owner = two_alone o s r id other v w both at in_old (λ k h. has_number_cases v.stands w.stands k h);
       apart = still_alone HoldsTicketNo vs other w spent (still_alone HoldsTicketNo s.views id v both r.apart at (λ k h. h)) there (λ k h. cc);
     }
-

@@ -1,10 +1,10 @@
 -- Passes that are joined one after another.
-use Rattle.std.proofs.Common.{◌≡◌, ℕ, zero, suc, ◌+◌, ◌<◌, ◌≤◌, ◌⊎◌, inl, inr, List, [], ◌∷◌, ◌++◌, length, refl, sym, ap, ◌∙◌, subst, arith, append_assoc}
+use Rattle.std.proofs.Common.{◌≡◌, ℕ, zero, suc, ◌+◌, ◌<◌, ◌≤◌, inl, List, [], ◌∷◌, ◌++◌, length, refl, sym, ◌∙◌, subst, arith, append_assoc}
 use Rattle.std.proofs.lemmas.List.{append-nil}
 use mathlib.Core.Logic.{dite}
 use native.Mathlib.Decide.{dec_le}
 use Rattle.hangar_lock.specs.Passes.{IsWhole, joined_with, PassView}
-use Rattle.hangar_lock.specs.Places.{HasNumber, Places}
+use Rattle.hangar_lock.specs.Places.{HasNumber}
 use Rattle.hangar_lock.specs.laws.JoinedPasses.{all_mine, AreNumbered, AreOfOneLock, joined_with_all}
 use Rattle.hangar_lock.proofs.Places.{has_number_left, has_number_right}
 

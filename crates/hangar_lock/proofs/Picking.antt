@@ -119,4 +119,3 @@ pub has_by : (client : ℕ) (mine : Places) (p : ℕ) (x : Told) → IsBy client
 has_by client [] p x b h = absurd h
 has_by client (m ∷ mine) p x b (inl e) = subst (λ (z : ℕ × Told). z.1.0.client ≡ client) e b.0
 has_by client (m ∷ mine) p x b (inr h) = has_by client mine p x b.1 h
-

@@ -1,5 +1,5 @@
 -- Locks and passes as contracts see them, and what is inside.
-use Rattle.std.proofs.Common.{◌≡◌, ℕ, ◌+◌, ◌<◌, ◌≤◌, ◌^◌, Bool, true, false, length, nat_le, if◌then◌else◌, ap, ◌∙◌, sym, subst, arith}
+use Rattle.std.proofs.Common.{◌≡◌, ◌+◌, ◌<◌, ◌≤◌, ◌^◌, Bool, true, false, length, nat_le, if◌then◌else◌, ap, ◌∙◌, sym, subst, arith}
 use Rattle.atomic_table.specs.Seated.{TableId}
 use Rattle.hangar_core.specs.declared.workspaces.Workspace.{Workspace}
 use Rattle.hangar_core.specs.Journals.{Entries}

@@ -1,24 +1,19 @@
 -- A number is split off.
-use Rattle.std.proofs.Common.{◌≡◌, ◌≢◌, ◌⊎◌, inl, inr, ℕ, zero, suc, ◌+◌, ◌-◌, ◌%◌, ◌^◌, ◌<◌, ◌≤◌, Bool, true, false, List, [], ◌∷◌, ◌++◌, length, drop, Some, None, Option, set, sym, refl, ap, ◌∙◌, subst, ⊎_elim, arith, length-set, length-append, true≢false, get_or, append-nil, nat_le, if◌then◌else◌, slice_get}
-use Rattle.std.proofs.Math.Seq.{drop-append_seam}
-use mathlib.Core.Option.{Option as Maybe, some, none, some-injective, some-ne-none}
+use Rattle.std.proofs.Common.{◌≡◌, ◌≢◌, inl, inr, ℕ, ◌+◌, ◌^◌, ◌<◌, ◌≤◌, List, [], ◌∷◌, ◌++◌, length, Some, None, Option, set, sym, refl, ap, ◌∙◌, subst, ⊎_elim, arith, length-set, length-append}
+use mathlib.Core.Option.{Option as Maybe, some, none, some-injective}
 use mathlib.Core.Logic.{dite}
-use native.Mathlib.Decide.{ℕ_discrete, dec_le}
+use native.Mathlib.Decide.{ℕ_discrete}
 use lib.ListN.{get_elem?}
-use lib.Seq.{set-get_or}
-use Rattle.atomic_table.specs.Table.{State, Me, Step, step, opening, Final, Seen, Act, keeps, takes, gives, stepped, Allows, Splits, Joins}
-use Rattle.atomic_table.proofs.Lists.{at_set, set_else, set_again, one_turn, at_longer}
+use Rattle.atomic_table.specs.Table.{Splits}
+use Rattle.atomic_table.proofs.Lists.{at_set, set_else}
 use Rattle.hangar_core.specs.Journals.{Entries}
 use Rattle.hangar_core.specs.Standing.{CountedWorkspace}
 use Rattle.hangar_lock.specs.declared.desk.Desk.{Desk}
 use Rattle.hangar_lock.specs.declared.views.View.{View}
-use Rattle.hangar_lock.specs.Desks.{IsDesk}
-use Rattle.hangar_lock.specs.Places.{HasNumber, HasPlace, longer, placed_from, Places, StartsWith, Told}
-use Rattle.hangar_lock.specs.Views.{first_view, splitting, split_off, joined, spent, left_by}
+use Rattle.hangar_lock.specs.Places.{HasNumber}
+use Rattle.hangar_lock.specs.Views.{splitting, split_off}
 use Rattle.hangar_lock.specs.Rule.{has_ticket, holders, HasHome, Knows, Kept}
-use Rattle.hangar_lock.specs.Steps.{Seated, Draws, Looks, PassesOn, enters_with}
-use Rattle.hangar_lock.proofs.Places.{bump, same_value, IsAt, is_at_below, is_at_left, is_at_front, placed_at, at_placed, has_place_left, has_place_right, has_place_cases, has_number_left, has_number_right, has_number_cases, further, longer_starts}
-use Rattle.hangar_lock.proofs.AllViews.{St, holders_set, holders_snoc, holders_le, here, at_end, all_hold, Alone, stay_alone, still_alone, end_alone, HoldsTicketNo, StandsFor, home_stays, home_more}
+use Rattle.hangar_lock.proofs.AllViews.{holders_set, holders_snoc, here, at_end, all_hold, still_alone, end_alone, HoldsTicketNo, StandsFor, home_more}
 
 pub splits : (o : CountedWorkspace) (id : ℕ) (v : View) → HasNumber v.stands 0 → v.split + 2 ≤ 2 ^ 32 → Splits (Kept o) id v (splitting v) (split_off v)
 splits o id v zero_here room s r at =
@@ -99,4 +94,3 @@ splits o id v zero_here room s r at =
       λ j u e. ⊎_elim (λ (t : (j ≡ me) × (w ≡ u)). ap (λ (z : View). z.inside) (sym t.1) ∙ (same ∙ has.2 me v at))
           (λ (t : (j ≢ me) × (get_elem? vs j ≡ some u)). has.2 j u t.1) (at_set vs me j w u e),
     )
-

@@ -1,5 +1,5 @@
 -- What an act leaves of the workspace and the journal, and what the pass is told.
-use Rattle.std.proofs.Common.{◌≡◌, ◌≤◌, ℕ, true, List, [], ◌∷◌, ◌++◌, length, Option, Some, None, Result, Ok, Err, IfOk, OnErr, refl, sym, ap, ◌∙◌, subst}
+use Rattle.std.proofs.Common.{◌≡◌, ◌≤◌, List, [], ◌∷◌, ◌++◌, length, Result, Ok, Err, IfOk, OnErr, refl, sym, ap, ◌∙◌, subst}
 use Rattle.std.specs.List.{AllByRecursion}
 use Rattle.aerie_base.specs.declared.memory.OutOfMemory.{OutOfMemory}
 use Rattle.hangar_core.specs.declared.entries.Entry.{Entry}
@@ -10,13 +10,11 @@ use Rattle.hangar_core.specs.Standing.{CountedWorkspace, IsActionOn, IsReplyOf, 
 use Rattle.hangar_core.specs.Steps.{step}
 use Rattle.hangar_lock.specs.declared.desk.Desk.{Desk}
 use Rattle.hangar_lock.specs.declared.receipts.Receipt.{Receipt}
-use Rattle.hangar_lock.specs.declared.views.View.{View}
 use Rattle.hangar_lock.specs.Desks.{IsDesk}
 use Rattle.hangar_lock.specs.Pasts.{IsPast}
 use Rattle.hangar_lock.specs.Places.{StartsWith, Told}
-use Rattle.hangar_lock.specs.Steps.{CanLeave, Seated, Works}
+use Rattle.hangar_lock.specs.Steps.{Seated, Works}
 use Rattle.hangar_lock.specs.Views.{left_by}
-use Rattle.hangar_lock.proofs.PassOn.{one_desk}
 use Rattle.hangar_lock.proofs.SameModels.{action_on, same_later}
 
 all_added : {X : Type 0} (P : X → Type 0) (xs : List X) (x : X) → AllByRecursion P xs → P x → AllByRecursion P (xs ++ x ∷ [])
@@ -60,9 +58,9 @@ module _ (o : CountedWorkspace) (d : Desk) (entry : Entry) (desk : IsDesk o d) (
   desk_more d' told stepped noted counted = record {
     past = subst (IsPast o.workspace) (sym noted) (past_more d' told stepped);
     workspace =
-      ap (λ (made : Reply × Workspace). made.1) (told_is d' told stepped)
-      ∙ sym (after_more o.workspace d.journal (entry, told))
-      ∙ ap (after_entries o.workspace) (sym noted);
+        ap (λ (made : Reply × Workspace). made.1) (told_is d' told stepped)
+        ∙ sym (after_more o.workspace d.journal (entry, told))
+        ∙ ap (after_entries o.workspace) (sym noted);
     session = same_later o.workspace d.hangar.workspace d'.hangar.workspace desk.session stepped.session;
     counted = counted;
   }
@@ -87,12 +85,12 @@ module _ (o : CountedWorkspace) (d : Desk) (entry : Entry) (desk : IsDesk o d) (
   worked d' before after (Ok t) opened seen stepped noted placed left = record {
     place = placed ∙ ap length (sym seen);
     reply =
-      ap (λ (made : Reply × Workspace). made.0) (told_is d' t.reply stepped)
-      ∙ ap (λ (entries : Entries). (step (after_entries o.workspace entries) entry.action).0) (sym seen)
-      ∙ ap (λ (w : CountedWorkspace). (step (after_entries w.workspace before.0.seen) entry.action).0) (sym opened);
+        ap (λ (made : Reply × Workspace). made.0) (told_is d' t.reply stepped)
+        ∙ ap (λ (entries : Entries). (step (after_entries o.workspace entries) entry.action).0) (sym seen)
+        ∙ ap (λ (w : CountedWorkspace). (step (after_entries w.workspace before.0.seen) entry.action).0) (sym opened);
     past =
-      subst (λ (w : CountedWorkspace). IsPast w.workspace (before.0.seen ++ (entry, t.reply) ∷ [])) (sym opened)
-      (subst (λ (entries : Entries). IsPast o.workspace (entries ++ (entry, t.reply) ∷ [])) (sym seen) (past_more d' t.reply stepped));
+        subst (λ (w : CountedWorkspace). IsPast w.workspace (before.0.seen ++ (entry, t.reply) ∷ [])) (sym opened)
+        (subst (λ (entries : Entries). IsPast o.workspace (entries ++ (entry, t.reply) ∷ [])) (sym seen) (past_more d' t.reply stepped));
     after_is = left ∙ ap (λ (entries : Entries). (left_by before.0 entries, [])) (noted ∙ ap (λ (entries : Entries). entries ++ (entry, t.reply) ∷ []) (sym seen));
   }
   worked d' before after (Err e) opened seen stepped noted placed left = tt

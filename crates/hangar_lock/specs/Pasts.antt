@@ -1,5 +1,4 @@
 -- What holds of all entries of a journal.
-use Rattle.std.specs.Prelude.{List, [], ◌∷◌}
 use Rattle.std.specs.List.{AllByRecursion}
 use Rattle.hangar_core.specs.declared.workspaces.Workspace.{Workspace}
 use Rattle.hangar_core.specs.Journals.{Entries, IsReplay}

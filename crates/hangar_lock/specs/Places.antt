@@ -1,5 +1,5 @@
 -- Places in a journal, and the numbers of passes.
-use Rattle.std.specs.Prelude.{◌≡◌, ◌⊎◌, ℕ, zero, suc, ◌<◌, ◌≤◌, ◌+◌, Bool, List, [], ◌∷◌, ◌++◌, length, nat_le, if◌then◌else◌}
+use Rattle.std.specs.Prelude.{◌≡◌, ◌⊎◌, ℕ, suc, List, [], ◌∷◌, ◌++◌, length, nat_le, if◌then◌else◌}
 use Rattle.hangar_core.specs.declared.entries.Entry.{Entry}
 use Rattle.hangar_core.specs.declared.replies.Reply.{Reply}
 use Rattle.hangar_core.specs.Journals.{Entries}

@@ -31,8 +31,8 @@ Draws st before found after =
 abbrev pub Looks : Step (Option Desk) → Seated → ℕ → Seated → Type 0
 Looks st before found after = (ticket : ℕ) → before.0.ticket ≡ Some ticket →
     (found ≡ ticket % 2 ^ 64 →
-      (desk : Desk) × (after ≡ (enters_with before.0 desk, (0, Some desk) ∷ before.1))
-      × StartsWith desk.journal before.0.seen × IsDesk before.0.opened desk)
+    (desk : Desk) × (after ≡ (enters_with before.0 desk, (0, Some desk) ∷ before.1))
+    × StartsWith desk.journal before.0.seen × IsDesk before.0.opened desk)
     × (found ≢ ticket % 2 ^ 64 → after ≡ before)
 
 -- pass the turn on, and give back what is to be in the slot

@@ -114,7 +114,11 @@ impl HangarLock {
         ensures new { IfOk result (λ new. new ≡ split_from pass.old) }
         ensures free { IsOk result }
     {
-        let seat = self.turns.table.shared.split_seat::<SplitSeat>(&mut pass.seat);
+        let seat = self
+            .turns
+            .table
+            .shared
+            .split_seat::<SplitSeat>(&mut pass.seat);
         Ok(Pass { seat })
     }
 
@@ -125,7 +129,10 @@ impl HangarLock {
         ensures joined { pass.new ≡ joined_with pass.old other }
     {
         let Pass { seat } = other;
-        self.turns.table.shared.join_seat::<JoinSeats>(&mut pass.seat, seat);
+        self.turns
+            .table
+            .shared
+            .join_seat::<JoinSeats>(&mut pass.seat, seat);
     }
 
     /// Ends the lock with its only pass, and gives the workspace and the journal. It takes no memory.

@@ -109,7 +109,12 @@ impl Turns {
     }
 
     /// Steps the workspace and notes the entry, and passes the turn on, also after want of memory.
-    pub fn work(&self, alloc: Global, seat: &mut Place, entry: Entry) -> Result<Receipt, OutOfMemory>
+    pub fn work(
+        &self,
+        alloc: Global,
+        seat: &mut Place,
+        entry: Entry,
+    ) -> Result<Receipt, OutOfMemory>
         requires own { seat.old.table_id ≡ self.now.table.shared.table_id }
         requires inside { (desk : Desk) × CanLeave seat.old.me desk × (seat.old.me.0.seen ≡ desk.journal) }
         requires action { IsActionOn seat.old.me.0.opened.workspace entry.action }

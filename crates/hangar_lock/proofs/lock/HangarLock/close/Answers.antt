@@ -1,12 +1,9 @@
-use Rattle.std.proofs.Common.{◌≡◌, ℕ, Some, None, Option, sym, ap, ◌∙◌, subst, slice_get}
-use Rattle.hangar_core.specs.Journals.{Entries, after_entries}
-use Rattle.hangar_core.specs.Standing.{CountedWorkspace}
+use Rattle.std.proofs.Common.{◌≡◌, Some, None, Option, sym, ap, ◌∙◌, subst}
 use Rattle.hangar_lock.specs.declared.desk.Desk.{Desk}
 use Rattle.hangar_lock.specs.Desks.{IsDesk}
 use Rattle.hangar_lock.specs.Passes.{IsWhole, LockView, PassView}
-use Rattle.hangar_lock.specs.Pasts.{IsPast}
-use Rattle.hangar_lock.specs.Places.{HasPlace, StartsWith, Told}
-use Rattle.hangar_lock.proofs.Close.{Closes, closes}
+use Rattle.hangar_lock.specs.Places.{HasPlace, StartsWith}
+use Rattle.hangar_lock.proofs.Close.{closes}
 use Rattle.hangar_lock.proofs.Places.{IsAt, none_some}
 use Rattle.hangar_lock.proofs.lock.HangarLock.close.Goals as goal
 

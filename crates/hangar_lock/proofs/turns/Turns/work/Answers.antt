@@ -1,4 +1,4 @@
-use Rattle.std.proofs.Common.{◌≡◌, ℕ, List, [], ◌∷◌, ◌++◌, Some, None, Option, ap, sym, ◌∙◌, subst, refl}
+use Rattle.std.proofs.Common.{◌≡◌, [], ◌∷◌, Some, None, ap, sym, ◌∙◌, subst, refl}
 use Rattle.hangar_core.specs.Standing.{CountedWorkspace}
 use Rattle.hangar_lock.specs.declared.desk.Desk.{Desk}
 use Rattle.hangar_lock.specs.Desks.{IsDesk}
@@ -48,9 +48,9 @@ pass_on-requires-clause-leaves c =
     let desk = taken_is _ _ _ leaves has in (
       c.act-told.new.self,
       leaves_with c.args.seat.now.me _ _ c.act-told.new.self c.take-desk.result leaves c.requires.inside.2 has
-      (put_is c.args.seat.now.me _ _ c.act-told.new.self c.take-desk.ensures.taken.1 c.put.ensures.put)
-      (journal_grows _ _ c.args.entry desk c.requires.action c.act-told.new.self _ acted.noted acted.unchanged)
-      (desk_acted _ _ c.args.entry desk c.requires.action c.act-told.new.self _ acted.stepped acted.noted acted.unchanged acted.kept),
+          (put_is c.args.seat.now.me _ _ c.act-told.new.self c.take-desk.ensures.taken.1 c.put.ensures.put)
+          (journal_grows _ _ c.args.entry desk c.requires.action c.act-told.new.self _ acted.noted acted.unchanged)
+          (desk_acted _ _ c.args.entry desk c.requires.action c.act-told.new.self _ acted.stepped acted.noted acted.unchanged acted.kept),
     )
 
 pub returns-clause-worked : goal.returns-clause-worked
