@@ -8,7 +8,7 @@ use Rattle.hangar_core.specs.Journals.{Entries}
 use Rattle.hangar_core.specs.Standing.{CountedWorkspace}
 use Rattle.hangar_lock.specs.declared.desk.Desk.{Desk}
 use Rattle.hangar_lock.specs.declared.views.View.{View}
-use Rattle.hangar_lock.specs.Places.{HasNumber}
+use Rattle.hangar_lock.specs.Places.{HasPassNumber}
 use Rattle.hangar_lock.specs.Rule.{has_ticket, holders, HasHome}
 
 abbrev pub St : Type 0
@@ -83,7 +83,7 @@ abbrev pub HoldsTicketNo : View → ℕ → Type 0
 HoldsTicketNo v k = v.ticket ≡ Some k
 
 abbrev pub StandsFor : View → ℕ → Type 0
-StandsFor v n = HasNumber v.stands n
+StandsFor v n = HasPassNumber v.stands n
 
 -- a pass that is outside stays outside, and the slot is as before
 pub home_stays : (o : CountedWorkspace) (journal : Entries) (vs : List View) (me : ℕ) (v w : View) (h : Maybe (Option Desk)) → get_elem? vs me ≡ some v → v.inside ≡ false → w.inside ≡ false

@@ -8,13 +8,13 @@ use Rattle.hangar_core.specs.Standing.{CountedWorkspace}
 use Rattle.hangar_lock.specs.declared.desk.Desk.{Desk}
 use Rattle.hangar_lock.specs.declared.views.View.{View}
 use Rattle.hangar_lock.specs.Desks.{IsDesk}
-use Rattle.hangar_lock.specs.Places.{HasNumber, HasPlace, StartsWith, Told}
-use Rattle.hangar_lock.specs.Rule.{HasHome, Kept}
+use Rattle.hangar_lock.specs.Places.{HasPassNumber, HasPlace, StartsWith, ToldEntry}
+use Rattle.hangar_lock.specs.Rule.{HasHome, HasOneJournal}
 use Rattle.hangar_lock.proofs.Places.{IsAt}
 use Rattle.hangar_lock.proofs.AllViews.{St}
 
 abbrev pub StandsForAll : View → Type 0
-StandsForAll v = HasNumber v.stands 0 × ((number : ℕ) → number ≤ v.split → HasNumber v.stands number)
+StandsForAll v = HasPassNumber v.stands 0 × ((number : ℕ) → number ≤ v.split → HasPassNumber v.stands number)
 
 -- what a whole pass knows of the journal
 pub record Closes (o : CountedWorkspace) (v : View) (x : Option Desk) : Type 0 where
@@ -22,10 +22,10 @@ pub record Closes (o : CountedWorkspace) (v : View) (x : Option Desk) : Type 0 w
   pub is : x ≡ Some desk
   pub is_desk : IsDesk o desk
   pub seen : StartsWith desk.journal v.seen
-  pub forth : (p : ℕ) (e : Told) → IsAt desk.journal p e → HasPlace v.mine p e
-  pub back : (p : ℕ) (e : Told) → HasPlace v.mine p e → IsAt desk.journal p e
+  pub forth : (p : ℕ) (e : ToldEntry) → IsAt desk.journal p e → HasPlace v.mine p e
+  pub back : (p : ℕ) (e : ToldEntry) → HasPlace v.mine p e → IsAt desk.journal p e
 
-closes_home : (o : CountedWorkspace) (s : St) (r : Kept o s) (id : ℕ) (v : View) (x : Option Desk) → get_elem? s.views id ≡ some v → v.inside ≡ false → StandsForAll v
+closes_home : (o : CountedWorkspace) (s : St) (r : HasOneJournal o s) (id : ℕ) (v : View) (x : Option Desk) → get_elem? s.views id ≡ some v → v.inside ≡ false → StandsForAll v
     → ((y : Option Desk) → get_elem? s.homes 0 ≡ some (some y) → x ≡ y) → (h : Maybe (Option Desk)) → r.home ≡ h → HasHome o r.journal s.views h → Closes o v x
 closes_home o s r id v x at out whole slot none is has =
     let j = has.0 in let u = has.1 in
@@ -51,7 +51,7 @@ closes_home o s r id v x at out whole slot (some (Some d)) is has =
     }
 
 pub closes : (o : CountedWorkspace) (id : ℕ) (v : View) (ws : List ℕ) (xs : List (Option Desk)) (x : Option Desk) →
-    Final (Seen (Kept o) id v) ws xs → v.inside ≡ false → StandsForAll v → get_elem? xs 0 ≡ some x → Closes o v x
+    Final (Seen (HasOneJournal o) id v) ws xs → v.inside ≡ false → StandsForAll v → get_elem? xs 0 ≡ some x → Closes o v x
 closes o id v ws xs x final out whole at =
     let s = final.0 in let r = final.1.0 in
     closes_home o s r id v x final.1.1 out whole (λ y h. some-injective _ _ (sym at ∙ final.4 0 y h)) r.home refl r.has_home

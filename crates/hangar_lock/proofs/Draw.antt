@@ -4,14 +4,14 @@ use Rattle.atomic_table.specs.Table.{Step, keeps, Allows}
 use Rattle.hangar_core.specs.Standing.{CountedWorkspace}
 use Rattle.hangar_lock.specs.declared.desk.Desk.{Desk}
 use Rattle.hangar_lock.specs.declared.views.View.{View}
-use Rattle.hangar_lock.specs.Places.{HasNumber}
-use Rattle.hangar_lock.specs.Rule.{has_ticket, holders, Knows, Kept}
+use Rattle.hangar_lock.specs.Places.{HasPassNumber}
+use Rattle.hangar_lock.specs.Rule.{has_ticket, holders, Knows, HasOneJournal}
 use Rattle.hangar_lock.specs.Steps.{Seated, Draws}
 use Rattle.hangar_lock.proofs.Places.{bump, same_value}
 use Rattle.hangar_lock.proofs.AllViews.{holders_set, all_hold, stay_alone, still_alone, HoldsTicketNo, StandsFor, home_stays}
 
-pub draws : (o : CountedWorkspace) (slots id : ℕ) (me : Seated) (st : Step (Option Desk)) (n : ℕ) → me.0.ticket ≡ None → me.0.inside ≡ false → HasNumber me.0.stands n
-    → Allows (Kept o) slots id me 0 (λ n. (n + 1) % 2 ^ 64) (Draws st me)
+pub draws : (o : CountedWorkspace) (slots id : ℕ) (me : Seated) (st : Step (Option Desk)) (n : ℕ) → me.0.ticket ≡ None → me.0.inside ≡ false → HasPassNumber me.0.stands n
+    → Allows (HasOneJournal o) slots id me 0 (λ n. (n + 1) % 2 ^ 64) (Draws st me)
 draws o slots id me st n idle out number s r len at lt =
     let w : View = record me.0 { ticket = Some r.drawn } in
     let w0 : get_or s.words 0 0 ≡ r.drawn % 2 ^ 64 = ap (λ (l : List ℕ). get_or l 0 0) r.words in

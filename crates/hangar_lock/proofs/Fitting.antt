@@ -7,8 +7,8 @@ use Rattle.hangar_core.specs.declared.workspaces.Workspace.{Workspace}
 use Rattle.hangar_core.specs.Fits.{commands_of, Fits, is_of_client, IsWorkOf, Meanings}
 use Rattle.hangar_core.specs.Journals.{Entries, IsReplay}
 use Rattle.hangar_lock.specs.Passes.{PassView}
-use Rattle.hangar_lock.specs.Places.{HasPlace, Places, Told}
-use Rattle.hangar_lock.specs.Works.{told_of}
+use Rattle.hangar_lock.specs.Places.{HasPlace, Places, ToldEntry}
+use Rattle.hangar_lock.specs.Works.{own_entry}
 use Rattle.hangar_lock.specs.laws.JoinedPasses.{all_mine, AreWorked, HasWorkedAlone}
 use Rattle.hangar_lock.proofs.Growing.{rises_to}
 use Rattle.hangar_lock.proofs.Picking.{has_by, picked, Rises, work_by}
@@ -21,7 +21,7 @@ rises_lower low lower (m ∷ mine) h r = let a = r.0 in (omega (arith, a, h), r.
 -- what a client's work gained
 record Gains (meanings : Meanings) (client : ℕ) (commands : List Command) (mine : Places) : Type 0 where
   rises : Rises 0 mine
-  work : IsWorkOf meanings client 0 commands (map told_of mine)
+  work : IsWorkOf meanings client 0 commands (map own_entry mine)
 
 gains_of : (meanings : Meanings) (client : ℕ) (commands : List Command) (pass : PassView) → HasWorkedAlone meanings client commands pass → Gains meanings client commands pass.mine
 gains_of meanings client commands pass alone =
@@ -34,12 +34,12 @@ gains_of meanings client commands pass alone =
 
 -- ---- one pass among all
 
-into_all : (passes : List PassView) (i : ℕ) (pass : PassView) (p : ℕ) (x : Told) → slice_get passes i ≡ Some pass → HasPlace pass.mine p x → HasPlace (all_mine passes) p x
+into_all : (passes : List PassView) (i : ℕ) (pass : PassView) (p : ℕ) (x : ToldEntry) → slice_get passes i ≡ Some pass → HasPlace pass.mine p x → HasPlace (all_mine passes) p x
 into_all [] i pass p x at h = absurd (none_some pass at)
 into_all (m ∷ passes) zero pass p x at h = has_place_left m.mine (all_mine passes) p x (subst (λ (z : PassView). HasPlace z.mine p x) (sym (same_value m pass at)) h)
 into_all (m ∷ passes) (suc i) pass p x at h = has_place_right m.mine (all_mine passes) p x (into_all passes i pass p x at h)
 
-from_all : (passes : List PassView) (p : ℕ) (x : Told) → HasPlace (all_mine passes) p x → (i : ℕ) × (pass : PassView) × (slice_get passes i ≡ Some pass) × HasPlace pass.mine p x
+from_all : (passes : List PassView) (p : ℕ) (x : ToldEntry) → HasPlace (all_mine passes) p x → (i : ℕ) × (pass : PassView) × (slice_get passes i ≡ Some pass) × HasPlace pass.mine p x
 from_all [] p x h = absurd h
 from_all (m ∷ passes) p x h = elim (has_place_cases m.mine (all_mine passes) p x h) [
   | inl k ↦ (0, m, refl, k)
@@ -58,13 +58,13 @@ there (m ∷ passes) (suc i) h = there passes i (omega (arith, h))
 
 module _ (meanings : Meanings) (opened : Workspace) (clients : List (List Command)) (passes : List PassView) (journal : Entries)
     (worked : AreWorked meanings clients passes) (replayed : IsReplay opened journal)
-    (right : (p : ℕ) (x : Told) → HasPlace (all_mine passes) p x → slice_get journal p ≡ Some x)
-    (all : (p : ℕ) (x : Told) → slice_get journal p ≡ Some x → HasPlace (all_mine passes) p x) where
+    (right : (p : ℕ) (x : ToldEntry) → HasPlace (all_mine passes) p x → slice_get journal p ≡ Some x)
+    (all : (p : ℕ) (x : ToldEntry) → slice_get journal p ≡ Some x → HasPlace (all_mine passes) p x) where
   gains : (i : ℕ) (pass : PassView) → slice_get passes i ≡ Some pass → Gains meanings i (commands_of i clients) pass.mine
   gains i pass at = gains_of meanings i (commands_of i clients) pass (worked.each i pass at)
 
-  by : (i : ℕ) (pass : PassView) → slice_get passes i ≡ Some pass → (p : ℕ) (x : Told) → HasPlace pass.mine p x → x.0.client ≡ i
-  by i pass at p x h = has_by i pass.mine p x (work_by meanings i 0 (commands_of i clients) (map told_of pass.mine) (gains i pass at).work) h
+  by : (i : ℕ) (pass : PassView) → slice_get passes i ≡ Some pass → (p : ℕ) (x : ToldEntry) → HasPlace pass.mine p x → x.0.client ≡ i
+  by i pass at p x h = has_by i pass.mine p x (work_by meanings i 0 (commands_of i clients) (map own_entry pass.mine) (gains i pass at).work) h
 
   same_pass : (i j : ℕ) (pass other : PassView) → slice_get passes i ≡ Some pass → slice_get passes j ≡ Some other → i ≡ j → other ≡ pass
   same_pass i j pass other at there is = same_value other pass (sym there ∙ ap (slice_get passes) (sym is) ∙ at)

@@ -12,8 +12,8 @@ use Rattle.hangar_core.specs.Journals.{Entries}
 use Rattle.hangar_core.proofs.Serial.{over_at}
 use Rattle.hangar_lock.specs.declared.receipts.Receipt.{Receipt}
 use Rattle.hangar_lock.specs.Passes.{HasActed, PassView}
-use Rattle.hangar_lock.specs.Places.{Places, Told}
-use Rattle.hangar_lock.specs.Works.{HasBegun, HasDone, HasWorked, IsBegun, reply_of, RisesTo, told_of}
+use Rattle.hangar_lock.specs.Places.{Places, ToldEntry}
+use Rattle.hangar_lock.specs.Works.{HasBegun, HasDone, HasWorked, IsBegun, reply_of, RisesTo, own_entry}
 use Rattle.hangar_lock.proofs.Growing.{begun_ends, begun_grows, rises_grows, work_grows}
 use Rattle.hangar_lock.proofs.Places.{none_some}
 
@@ -47,10 +47,10 @@ pub act_begun : (meanings : Meanings) (client n : ℕ) (c : Command) (u v w : Pa
     → next_action meanings c rs ≡ Some a → HasActed v (record { client = client; command = n; part = length rs; action = a }) t w
     → HasBegun meanings client n c u w (rs ++ (t.reply ∷ []))
 act_begun meanings client n c u v w rs a t h k d =
-    let own : Entries = map told_of h.gained in
+    let own : Entries = map own_entry h.gained in
     let e : Entry = record { client = client; command = n; part = length rs; action = a } in
-    let x : Told = (e, t.reply) in
-    let m : map told_of (h.gained ++ ((t.place, x) ∷ [])) ≡ own ++ (x ∷ []) = map_append told_of h.gained ((t.place, x) ∷ []) in
+    let x : ToldEntry = (e, t.reply) in
+    let m : map own_entry (h.gained ++ ((t.place, x) ∷ [])) ≡ own ++ (x ∷ []) = map_append own_entry h.gained ((t.place, x) ∷ []) in
     record {
       gained = h.gained ++ ((t.place, x) ∷ []);
       mine = d.mine ∙ ap (λ (l : Places). l ++ ((t.place, x) ∷ [])) h.mine ∙ append_assoc u.mine h.gained ((t.place, x) ∷ []);
@@ -67,7 +67,7 @@ begun_done meanings client n c u v rs h k = record {
   gained = h.gained;
   mine = h.mine;
   rises = h.rises;
-  done = begun_ends meanings client n c [] (map told_of h.gained) h.begun (subst (λ (l : List Reply). next_action meanings c l ≡ None) (sym h.replied) k);
+  done = begun_ends meanings client n c [] (map own_entry h.gained) h.begun (subst (λ (l : List Reply). next_action meanings c l ≡ None) (sym h.replied) k);
 }
 
 pub worked_at : (meanings : Meanings) (client : ℕ) (v : PassView) → HasWorked meanings client [] v v
@@ -78,8 +78,8 @@ pub done_worked : (meanings : Meanings) (client n : ℕ) (cs : List Command) (c 
 done_worked meanings client n cs c u v w e h d = record {
   gained = h.gained ++ d.gained;
   mine = d.mine ∙ ap (λ (l : Places). l ++ d.gained) h.mine ∙ append_assoc u.mine h.gained d.gained;
-  work = subst (IsWorkOf meanings client 0 (cs ++ (c ∷ []))) (sym (map_append told_of h.gained d.gained))
-      (work_grows meanings client 0 n cs c (map told_of h.gained) (map told_of d.gained) (omega (arith, e)) h.work d.done);
+  work = subst (IsWorkOf meanings client 0 (cs ++ (c ∷ []))) (sym (map_append own_entry h.gained d.gained))
+      (work_grows meanings client 0 n cs c (map own_entry h.gained) (map own_entry d.gained) (omega (arith, e)) h.work d.done);
   rises = rises_join (length u.seen) (length v.seen) (length w.seen) h.gained d.gained h.rises d.rises;
 }
 

@@ -6,7 +6,7 @@ use Rattle.hangar_core.specs.declared.commands.Command.{Command}
 use Rattle.hangar_core.specs.declared.replies.Reply.{Reply}
 use Rattle.hangar_core.specs.Fits.{IsCommand, IsWorkOf, Meanings, next_action}
 use Rattle.hangar_core.specs.Journals.{Entries}
-use Rattle.hangar_lock.specs.Places.{Places, Told}
+use Rattle.hangar_lock.specs.Places.{Places, ToldEntry}
 use Rattle.hangar_lock.specs.Works.{IsBegun, reply_of, RisesTo}
 use Rattle.hangar_lock.proofs.Picking.{Rises}
 
@@ -47,7 +47,7 @@ work_grows meanings client n m (d ∷ cs) c xs own e w h = (
   work_grows meanings client (n + 1) m cs c w.1 own (omega (arith, e)) w.4 h,
 )
 
-pub rises_grows : (low top : ℕ) (mine : Places) (place : ℕ) (x : Told) → RisesTo low top mine → top ≤ place → RisesTo low (place + 1) (mine ++ ((place, x) ∷ []))
+pub rises_grows : (low top : ℕ) (mine : Places) (place : ℕ) (x : ToldEntry) → RisesTo low top mine → top ≤ place → RisesTo low (place + 1) (mine ++ ((place, x) ∷ []))
 rises_grows low top [] place x h e = (omega (arith, h, e), omega arith)
 rises_grows low top (m ∷ mine) place x h e = (h.0, rises_grows (m.0 + 1) top mine place x h.1 e)
 

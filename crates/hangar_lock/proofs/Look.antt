@@ -11,19 +11,19 @@ use Rattle.hangar_core.specs.Standing.{CountedWorkspace}
 use Rattle.hangar_lock.specs.declared.desk.Desk.{Desk}
 use Rattle.hangar_lock.specs.declared.views.View.{View}
 use Rattle.hangar_lock.specs.Desks.{IsDesk}
-use Rattle.hangar_lock.specs.Rule.{has_ticket, holders, HasHome, Knows, Kept}
+use Rattle.hangar_lock.specs.Rule.{has_ticket, holders, HasHome, Knows, HasOneJournal}
 use Rattle.hangar_lock.specs.Steps.{Seated, Looks, enters_with}
 use Rattle.hangar_lock.proofs.Places.{same_value, further}
 use Rattle.hangar_lock.proofs.AllViews.{St, holders_set, holders_le, here, all_hold, still_alone, HoldsTicketNo, StandsFor}
 
-unmoved : (o : CountedWorkspace) (s : St) (r : Kept o s) (i id : ℕ) (v : View) → get_elem? s.views id ≡ some v
-    → Kept o record { words = set s.words i (get_or s.words i 0); homes = s.homes; views = set s.views id v }
+unmoved : (o : CountedWorkspace) (s : St) (r : HasOneJournal o s) (i id : ℕ) (v : View) → get_elem? s.views id ≡ some v
+    → HasOneJournal o record { words = set s.words i (get_or s.words i 0); homes = s.homes; views = set s.views id v }
 unmoved o s r i id v at =
-    subst (λ (ws : List ℕ). Kept o record { words = ws; homes = s.homes; views = set s.views id v }) (sym (set-get_or s.words i 0))
-    (subst (λ (vs : List View). Kept o record { words = s.words; homes = s.homes; views = vs }) (sym (set_again s.views id v at)) r)
+    subst (λ (ws : List ℕ). HasOneJournal o record { words = ws; homes = s.homes; views = set s.views id v }) (sym (set-get_or s.words i 0))
+    (subst (λ (vs : List View). HasOneJournal o record { words = s.words; homes = s.homes; views = vs }) (sym (set_again s.views id v at)) r)
 
-enters : (o : CountedWorkspace) (s : St) (r : Kept o s) (id k : ℕ) (v : View) (d : Desk) → get_elem? s.views id ≡ some v → v.ticket ≡ Some k → v.inside ≡ false → r.turn ≡ k → r.home ≡ some (Some d) → d.journal ≡ r.journal
-    → Kept o record { words = set s.words 1 (get_or s.words 1 0); homes = set s.homes 0 none; views = set s.views id (enters_with v d) }
+enters : (o : CountedWorkspace) (s : St) (r : HasOneJournal o s) (id k : ℕ) (v : View) (d : Desk) → get_elem? s.views id ≡ some v → v.ticket ≡ Some k → v.inside ≡ false → r.turn ≡ k → r.home ≡ some (Some d) → d.journal ≡ r.journal
+    → HasOneJournal o record { words = set s.words 1 (get_or s.words 1 0); homes = set s.homes 0 none; views = set s.views id (enters_with v d) }
 enters o s r id k v d at mine out is home same =
     let w : View = enters_with v d in
     let know = r.knows id v at in
@@ -61,7 +61,7 @@ enters o s r id k v d at mine out is home same =
     }
 
 -- the slot is not out while another's turn has come
-is_home : (o : CountedWorkspace) (s : St) (r : Kept o s) (id k : ℕ) (v : View) → get_elem? s.views id ≡ some v → v.ticket ≡ Some k → v.inside ≡ false → r.turn ≡ k
+is_home : (o : CountedWorkspace) (s : St) (r : HasOneJournal o s) (id k : ℕ) (v : View) → get_elem? s.views id ≡ some v → v.ticket ≡ Some k → v.inside ≡ false → r.turn ≡ k
     → (h : Maybe (Option Desk)) → HasHome o r.journal s.views h → (d : Desk) × (h ≡ some (Some d)) × (d.journal ≡ r.journal) × IsDesk o d
 is_home o s r id k v at mine out is none has =
     let j = has.0 in let u = has.1 in
@@ -72,7 +72,7 @@ is_home o s r id k v at mine out is none has =
 is_home o s r id k v at mine out is (some None) has = absurd has
 is_home o s r id k v at mine out is (some (Some d)) has = (d, refl, has.0, has.1)
 
-pub looks : (o : CountedWorkspace) (slots id k : ℕ) (v : View) (st : Step (Option Desk)) → v.ticket ≡ Some k → v.inside ≡ false → Allows (Kept o) slots id (v, []) 1 (λ n. n) (Looks st (v, []))
+pub looks : (o : CountedWorkspace) (slots id k : ℕ) (v : View) (st : Step (Option Desk)) → v.ticket ≡ Some k → v.inside ≡ false → Allows (HasOneJournal o) slots id (v, []) 1 (λ n. n) (Looks st (v, []))
 looks o slots id k v st mine out s r len at lt =
     let w1 : get_or s.words 1 0 ≡ r.turn % 2 ^ 64 = ap (λ (l : List ℕ). get_or l 1 0) r.words in
     let b = (r.knows id v at).ticket k mine in
@@ -99,6 +99,6 @@ looks o slots id k v st mine out s r len at lt =
       (λ n f. (λ found. absurd (ne (sym w1 ∙ (found ∙ ap (λ (z : ℕ). z % 2 ^ 64) (same_value _ _ (sym f ∙ mine))))), λ other. refl)),
     ))
 
-pub looks_with : (o : CountedWorkspace) (slots id k : ℕ) (me : Seated) (st : Step (Option Desk)) → me.0.ticket ≡ Some k → me.0.inside ≡ false → me.1 ≡ [] → Allows (Kept o) slots id me 1 (λ n. n) (Looks st me)
+pub looks_with : (o : CountedWorkspace) (slots id k : ℕ) (me : Seated) (st : Step (Option Desk)) → me.0.ticket ≡ Some k → me.0.inside ≡ false → me.1 ≡ [] → Allows (HasOneJournal o) slots id me 1 (λ n. n) (Looks st me)
 looks_with o slots id k me st mine out bare =
-    subst (λ (c : List (ℕ × Option Desk)). Allows (Kept o) slots id (me.0, c) 1 (λ n. n) (Looks st (me.0, c))) (sym bare) (looks o slots id k me.0 st mine out)
+    subst (λ (c : List (ℕ × Option Desk)). Allows (HasOneJournal o) slots id (me.0, c) 1 (λ n. n) (Looks st (me.0, c))) (sym bare) (looks o slots id k me.0 st mine out)

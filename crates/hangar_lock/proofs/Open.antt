@@ -8,7 +8,7 @@ use Rattle.hangar_lock.specs.declared.desk.Desk.{Desk}
 use Rattle.hangar_lock.specs.declared.views.View.{View}
 use Rattle.hangar_lock.specs.Desks.{IsDesk}
 use Rattle.hangar_lock.specs.Views.{first_view}
-use Rattle.hangar_lock.specs.Rule.{Knows, Kept}
+use Rattle.hangar_lock.specs.Rule.{Knows, HasOneJournal}
 use Rattle.hangar_lock.proofs.Places.{none_some}
 
 only : (P : View → Type 0) (first : View) → P first → (j : ℕ) (v : View) → get_elem? (first ∷ []) j ≡ some v → P v
@@ -27,7 +27,7 @@ new_desk o fresh = record {
   counted = omega (arith, fresh);
 }
 
-opens_with : (o : CountedWorkspace) (d : Desk) → d ≡ record { hangar = o; journal = [] } → IsDesk o d → Kept o (opening (0 ∷ 0 ∷ []) (Some d ∷ []) (first_view o))
+opens_with : (o : CountedWorkspace) (d : Desk) → d ≡ record { hangar = o; journal = [] } → IsDesk o d → HasOneJournal o (opening (0 ∷ 0 ∷ []) (Some d ∷ []) (first_view o))
 opens_with o d is desk = record {
   journal = [];
   owner = λ _. 0;
@@ -59,7 +59,7 @@ opens_with o d is desk = record {
 }
 
 pub opens : (o : CountedWorkspace) (slots : List (Option Desk)) (d : Desk) → slots ≡ Some d ∷ [] → d ≡ record { hangar = o; journal = [] } → o.accepted ≡ 0 →
-    Kept o (opening (0 ∷ 0 ∷ []) slots (first_view o))
+    HasOneJournal o (opening (0 ∷ 0 ∷ []) slots (first_view o))
 opens o slots d e is fresh =
-    subst (λ (l : List (Option Desk)). Kept o (opening (0 ∷ 0 ∷ []) l (first_view o))) (sym e)
+    subst (λ (l : List (Option Desk)). HasOneJournal o (opening (0 ∷ 0 ∷ []) l (first_view o))) (sym e)
     (opens_with o d is (subst (IsDesk o) (sym is) (new_desk o fresh)))

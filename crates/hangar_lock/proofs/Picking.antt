@@ -9,8 +9,8 @@ use Rattle.hangar_core.specs.declared.entries.Entry.{Entry}
 use Rattle.hangar_core.specs.declared.replies.Reply.{Reply}
 use Rattle.hangar_core.specs.Fits.{IsCommand, IsWorkOf, Meanings}
 use Rattle.hangar_core.specs.Journals.{Entries}
-use Rattle.hangar_lock.specs.Places.{HasPlace, Places, Told}
-use Rattle.hangar_lock.specs.Works.{told_of}
+use Rattle.hangar_lock.specs.Places.{HasPlace, Places, ToldEntry}
+use Rattle.hangar_lock.specs.Works.{own_entry}
 use Rattle.hangar_lock.proofs.Places.{same_value}
 
 -- the places rise, from one on
@@ -18,17 +18,17 @@ abbrev pub Rises : ℕ → Places → Type 0
 Rises low [] = Unit {0}
 Rises low (p ∷ ps) = (low ≤ p.0) × Rises (p.0 + 1) ps
 
-seam : (f : Entries) (x : Told) (xs : Entries) → slice_get (f ++ (x ∷ xs)) (length f) ≡ Some x
+seam : (f : Entries) (x : ToldEntry) (xs : Entries) → slice_get (f ++ (x ∷ xs)) (length f) ≡ Some x
 seam [] x xs = refl
 seam (y ∷ f) x xs = seam f x xs
 
-one_more : (f : Entries) (x : Told) → length (f ++ (x ∷ [])) ≡ length f + 1
+one_more : (f : Entries) (x : ToldEntry) → length (f ++ (x ∷ [])) ≡ length f + 1
 one_more [] x = refl
 one_more (y ∷ f) x = let h = one_more f x in omega (arith, h)
 
-rises_has : (low : ℕ) (mine : Places) (p : ℕ) (x : Told) → Rises low mine → HasPlace mine p x → low ≤ p
+rises_has : (low : ℕ) (mine : Places) (p : ℕ) (x : ToldEntry) → Rises low mine → HasPlace mine p x → low ≤ p
 rises_has low [] p x r h = absurd h
-rises_has low (m ∷ mine) p x r (inl e) = let k : m.0 ≡ p = ap (λ (z : ℕ × Told). z.0) e in let a = r.0 in omega (arith, k, a)
+rises_has low (m ∷ mine) p x r (inl e) = let k : m.0 ≡ p = ap (λ (z : ℕ × ToldEntry). z.0) e in let a = r.0 in omega (arith, k, a)
 rises_has low (m ∷ mine) p x r (inr h) = let k = rises_has (m.0 + 1) mine p x r.1 h in let a = r.0 in omega (arith, k, a)
 
 abbrev IsYes : Bool → Type 0
@@ -39,15 +39,15 @@ yes_no : (b : Bool) → b ≡ true → b ≡ false → ⊥
 yes_no b e h = subst IsYes (sym e ∙ h) tt
 
 abbrev IsSound : Entries → Places → Type 0
-IsSound j mine = (p : ℕ) (x : Told) → HasPlace mine p x → slice_get j p ≡ Some x
+IsSound j mine = (p : ℕ) (x : ToldEntry) → HasPlace mine p x → slice_get j p ≡ Some x
 
-abbrev IsOwn : (Told → Bool) → Places → Type 0
-IsOwn test mine = (p : ℕ) (x : Told) → HasPlace mine p x → test x ≡ true
+abbrev IsOwn : (ToldEntry → Bool) → Places → Type 0
+IsOwn test mine = (p : ℕ) (x : ToldEntry) → HasPlace mine p x → test x ≡ true
 
-abbrev IsFull : (Told → Bool) → ℕ → Entries → Places → Type 0
-IsFull test low j mine = (p : ℕ) (x : Told) → low ≤ p → slice_get j p ≡ Some x → test x ≡ true → HasPlace mine p x
+abbrev IsFull : (ToldEntry → Bool) → ℕ → Entries → Places → Type 0
+IsFull test low j mine = (p : ℕ) (x : ToldEntry) → low ≤ p → slice_get j p ≡ Some x → test x ≡ true → HasPlace mine p x
 
-higher : (test : Told → Bool) (f j : Entries) (x : Told) (mine : Places) → test x ≡ false → Rises (length f) mine → IsSound (f ++ (x ∷ j)) mine → IsOwn test mine → Rises (length f + 1) mine
+higher : (test : ToldEntry → Bool) (f j : Entries) (x : ToldEntry) (mine : Places) → test x ≡ false → Rises (length f) mine → IsSound (f ++ (x ∷ j)) mine → IsOwn test mine → Rises (length f + 1) mine
 higher test f j x [] e r s o = tt
 higher test f j x (m ∷ mine) e r s o = (decide (eqb_tells m.0 (length f)), r.1)
   where
@@ -56,14 +56,14 @@ higher test f j x (m ∷ mine) e r s o = (decide (eqb_tells m.0 (length f)), r.1
         let a : slice_get (f ++ (x ∷ j)) m.0 ≡ Some m.1 = s m.0 m.1 (inl refl) in
         let b : slice_get (f ++ (x ∷ j)) m.0 ≡ Some x = subst (λ (p : ℕ). slice_get (f ++ (x ∷ j)) p ≡ Some x) (sym k.1) (seam f x j) in
         let d : m.1 ≡ x = same_value _ _ (sym a ∙ b) in
-        absurd (yes_no (test x) (subst (λ (z : Told). test z ≡ true) d (o m.0 m.1 (inl refl))) e)
+        absurd (yes_no (test x) (subst (λ (z : ToldEntry). test z ≡ true) d (o m.0 m.1 (inl refl))) e)
     decide (inr k) = let a = r.0 in let b = k.1 in omega (arith, a, b)
 
-abbrev Again : (Told → Bool) → Told → Entries → Entries → Type 0
-Again test x f j = (rest : Places) → Rises (length (f ++ (x ∷ []))) rest → IsSound ((f ++ (x ∷ [])) ++ j) rest → IsOwn test rest → IsFull test (length (f ++ (x ∷ []))) ((f ++ (x ∷ [])) ++ j) rest → map told_of rest ≡ filter test j
+abbrev Again : (ToldEntry → Bool) → ToldEntry → Entries → Entries → Type 0
+Again test x f j = (rest : Places) → Rises (length (f ++ (x ∷ []))) rest → IsSound ((f ++ (x ∷ [])) ++ j) rest → IsOwn test rest → IsFull test (length (f ++ (x ∷ []))) ((f ++ (x ∷ [])) ++ j) rest → map own_entry rest ≡ filter test j
 
-pub picked : (test : Told → Bool) (j f : Entries) (mine : Places) → Rises (length f) mine → IsSound (f ++ j) mine → IsOwn test mine → IsFull test (length f) (f ++ j) mine
-    → map told_of mine ≡ filter test j
+pub picked : (test : ToldEntry → Bool) (j f : Entries) (mine : Places) → Rises (length f) mine → IsSound (f ++ j) mine → IsOwn test mine → IsFull test (length f) (f ++ j) mine
+    → map own_entry mine ≡ filter test j
 picked test [] f [] r s o w = refl
 picked test [] f (m ∷ mine) r s o w =
     let a : m.0 < length (f ++ []) = slice_get_within (f ++ []) m.0 m.1 (s m.0 m.1 (inl refl)) in
@@ -74,30 +74,30 @@ picked test (x ∷ j) f mine r s o w = decide (picked test j (f ++ (x ∷ []))) 
     m : (f ++ (x ∷ [])) ++ j ≡ f ++ (x ∷ j)
     m = append_assoc f (x ∷ []) j
 
-    next : Again test x f j → (rest : Places) → Rises (length f + 1) rest → IsSound (f ++ (x ∷ j)) rest → IsOwn test rest → IsFull test (length f + 1) (f ++ (x ∷ j)) rest → map told_of rest ≡ filter test j
+    next : Again test x f j → (rest : Places) → Rises (length f + 1) rest → IsSound (f ++ (x ∷ j)) rest → IsOwn test rest → IsFull test (length f + 1) (f ++ (x ∷ j)) rest → map own_entry rest ≡ filter test j
     next again rest a b d e = again rest (subst (λ (k : ℕ). Rises k rest) (sym (one_more f x)) a)
         (subst (λ (l : Entries). IsSound l rest) (sym m) b) d
         (subst (λ (l : Entries). IsFull test (length (f ++ (x ∷ []))) l rest) (sym m) (subst (λ (k : ℕ). IsFull test k (f ++ (x ∷ j)) rest) (sym (one_more f x)) e))
 
-    here : (q : ℕ × Told) (rest : Places) → Rises (length f) (q ∷ rest) → HasPlace (q ∷ rest) (length f) x → q ≡ (length f, x)
+    here : (q : ℕ × ToldEntry) (rest : Places) → Rises (length f) (q ∷ rest) → HasPlace (q ∷ rest) (length f) x → q ≡ (length f, x)
     here q rest a (inl e) = e
     here q rest a (inr h) = let k = rises_has (q.0 + 1) rest (length f) x a.1 h in let b = a.0 in absurd (omega (arith, k, b))
 
-    taken : Again test x f j → (mine : Places) → test x ≡ true → Rises (length f) mine → IsSound (f ++ (x ∷ j)) mine → IsOwn test mine → IsFull test (length f) (f ++ (x ∷ j)) mine → map told_of mine ≡ x ∷ filter test j
+    taken : Again test x f j → (mine : Places) → test x ≡ true → Rises (length f) mine → IsSound (f ++ (x ∷ j)) mine → IsOwn test mine → IsFull test (length f) (f ++ (x ∷ j)) mine → map own_entry mine ≡ x ∷ filter test j
     taken again [] e r s o w = absurd (w (length f) x (omega arith) (seam f x j) e)
     taken again (q ∷ rest) e r s o w =
         let a : q ≡ (length f, x) = here q rest r (w (length f) x (omega arith) (seam f x j) e) in
-        let b : q.0 ≡ length f = ap (λ (z : ℕ × Told). z.0) a in
-        let d : q.1 ≡ x = ap (λ (z : ℕ × Told). z.1) a in
-        let t : map told_of rest ≡ filter test j = next again rest (subst (λ (k : ℕ). Rises (k + 1) rest) b r.1) (λ p y h. s p y (inr h)) (λ p y h. o p y (inr h))
+        let b : q.0 ≡ length f = ap (λ (z : ℕ × ToldEntry). z.0) a in
+        let d : q.1 ≡ x = ap (λ (z : ℕ × ToldEntry). z.1) a in
+        let t : map own_entry rest ≡ filter test j = next again rest (subst (λ (k : ℕ). Rises (k + 1) rest) b r.1) (λ p y h. s p y (inr h)) (λ p y h. o p y (inr h))
         (λ p y k g c. later q rest b p y k (w p y (omega (arith, k)) g c)) in
-        ap (λ (z : Told). z ∷ map told_of rest) d ∙ ap (λ (l : Entries). x ∷ l) t
+        ap (λ (z : ToldEntry). z ∷ map own_entry rest) d ∙ ap (λ (l : Entries). x ∷ l) t
       where
-        later : (q : ℕ × Told) (rest : Places) → q.0 ≡ length f → (p : ℕ) (y : Told) → length f + 1 ≤ p → HasPlace (q ∷ rest) p y → HasPlace rest p y
-        later q rest b p y k (inl e) = let c : q.0 ≡ p = ap (λ (z : ℕ × Told). z.0) e in absurd (omega (arith, b, c, k))
+        later : (q : ℕ × ToldEntry) (rest : Places) → q.0 ≡ length f → (p : ℕ) (y : ToldEntry) → length f + 1 ≤ p → HasPlace (q ∷ rest) p y → HasPlace rest p y
+        later q rest b p y k (inl e) = let c : q.0 ≡ p = ap (λ (z : ℕ × ToldEntry). z.0) e in absurd (omega (arith, b, c, k))
         later q rest b p y k (inr h) = h
 
-    decide : Again test x f j → (b : Bool) → test x ≡ b → map told_of mine ≡ filter test (x ∷ j)
+    decide : Again test x f j → (b : Bool) → test x ≡ b → map own_entry mine ≡ filter test (x ∷ j)
     decide again true e = rw e (taken again mine e r s o w)
     decide again false e = rw e (next again mine (higher test f j x mine e r s o) s o (λ p y k g c. w p y (omega (arith, k)) g c))
 
@@ -115,7 +115,7 @@ pub work_by : (meanings : Meanings) (client n : ℕ) (cs : List Command) (xs : E
 work_by meanings client n [] xs h = subst (IsBy client) (sym h) tt
 work_by meanings client n (c ∷ cs) xs h = subst (IsBy client) (sym h.2) (command_by meanings client n c [] h.0 h.1 h.3 (work_by meanings client (n + 1) cs h.1 h.4))
 
-pub has_by : (client : ℕ) (mine : Places) (p : ℕ) (x : Told) → IsBy client (map told_of mine) → HasPlace mine p x → x.0.client ≡ client
+pub has_by : (client : ℕ) (mine : Places) (p : ℕ) (x : ToldEntry) → IsBy client (map own_entry mine) → HasPlace mine p x → x.0.client ≡ client
 has_by client [] p x b h = absurd h
-has_by client (m ∷ mine) p x b (inl e) = subst (λ (z : ℕ × Told). z.1.0.client ≡ client) e b.0
+has_by client (m ∷ mine) p x b (inl e) = subst (λ (z : ℕ × ToldEntry). z.1.0.client ≡ client) e b.0
 has_by client (m ∷ mine) p x b (inr h) = has_by client mine p x b.1 h

@@ -9,7 +9,7 @@ use Rattle.hangar_lock.specs.Passes.{LockView, PassView}
 use Rattle.hangar_lock.specs.Pasts.{IsPast}
 use Rattle.hangar_lock.specs.Resting.{IsResting, pass_view}
 use Rattle.hangar_lock.specs.Steps.{Seated}
-use Rattle.hangar_lock.specs.Views.{joined}
+use Rattle.hangar_lock.specs.Views.{joining}
 use Rattle.hangar_lock.proofs.Places.{has_number_left}
 
 abbrev lock_view : TableId → CountedWorkspace → LockView
@@ -39,7 +39,7 @@ longer_past opened seen other one two true = two
 longer_past opened seen other one two false = one
 
 pub joined_rests : (me after : Seated) (other : View) → IsResting me → IsPast other.opened.workspace other.seen → other.opened ≡ me.0.opened →
-    after ≡ (joined me.0 other, me.1) → IsResting after
+    after ≡ (joining me.0 other, me.1) → IsResting after
 joined_rests me after other rests past same is = subst IsResting (sym is) record {
   idle = (rests.idle.0, rests.idle.1, rests.idle.2, (rests.idle.3.0, has_number_left me.0.stands other.stands rests.idle.3.0 rests.idle.3.1));
   past = longer_past me.0.opened.workspace me.0.seen other.seen rests.past (subst (λ (w : CountedWorkspace). IsPast w.workspace other.seen) same past)

@@ -10,12 +10,12 @@ use Rattle.hangar_core.specs.Journals.{Entries}
 use Rattle.hangar_core.specs.Standing.{CountedWorkspace}
 use Rattle.hangar_lock.specs.declared.desk.Desk.{Desk}
 use Rattle.hangar_lock.specs.declared.views.View.{View}
-use Rattle.hangar_lock.specs.Places.{HasNumber}
+use Rattle.hangar_lock.specs.Places.{HasPassNumber}
 use Rattle.hangar_lock.specs.Views.{splitting, split_off}
-use Rattle.hangar_lock.specs.Rule.{has_ticket, holders, HasHome, Knows, Kept}
+use Rattle.hangar_lock.specs.Rule.{has_ticket, holders, HasHome, Knows, HasOneJournal}
 use Rattle.hangar_lock.proofs.AllViews.{holders_set, holders_snoc, here, at_end, all_hold, still_alone, end_alone, HoldsTicketNo, StandsFor, home_more}
 
-pub splits : (o : CountedWorkspace) (id : ℕ) (v : View) → HasNumber v.stands 0 → v.split + 2 ≤ 2 ^ 32 → Splits (Kept o) id v (splitting v) (split_off v)
+pub splits : (o : CountedWorkspace) (id : ℕ) (v : View) → HasPassNumber v.stands 0 → v.split + 2 ≤ 2 ^ 32 → Splits (HasOneJournal o) id v (splitting v) (split_off v)
 splits o id v zero_here room s r at =
     let left : View = splitting v in
     let right : View = split_off v in
@@ -78,7 +78,7 @@ splits o id v zero_here room s r at =
       knows = λ j u e. ⊎_elim (λ (t : get_elem? (set s.views id left) j ≡ some u). others j u t)
           (λ (t : (j ≡ length (set s.views id left)) × (right ≡ u)). subst (Knows o r.journal r.owner (r.passes + 1) r.drawn r.turn) t.1 given) (at_end (set s.views id left) right u j e);
       one_owner = end_alone StandsFor (set s.views id left) right (still_alone StandsFor s.views id v left r.one_owner at (λ k h. h))
-          (λ j u k there a b. ⊎_elim (λ (t : v.split + 1 ≡ k). let most = (all_hold (λ (z : View). (n : ℕ) → HasNumber z.stands n → n < r.passes) s.views id left know.below (λ i x other e. (r.knows i x e).below)) j u there k b in let c : ⊥ = omega arith in c) (λ (t : ⊥). t) a);
+          (λ j u k there a b. ⊎_elim (λ (t : v.split + 1 ≡ k). let most = (all_hold (λ (z : View). (n : ℕ) → HasPassNumber z.stands n → n < r.passes) s.views id left know.below (λ i x other e. (r.knows i x e).below)) j u there k b in let c : ⊥ = omega arith in c) (λ (t : ⊥). t) a);
       apart = end_alone HoldsTicketNo (set s.views id left) right (still_alone HoldsTicketNo s.views id v left r.apart at (λ k h. h)) (λ j u k there a b. cc);
     }
   where

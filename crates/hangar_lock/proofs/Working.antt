@@ -12,20 +12,20 @@ use Rattle.hangar_lock.specs.declared.desk.Desk.{Desk}
 use Rattle.hangar_lock.specs.declared.receipts.Receipt.{Receipt}
 use Rattle.hangar_lock.specs.Desks.{IsDesk}
 use Rattle.hangar_lock.specs.Pasts.{IsPast}
-use Rattle.hangar_lock.specs.Places.{StartsWith, Told}
+use Rattle.hangar_lock.specs.Places.{StartsWith, ToldEntry}
 use Rattle.hangar_lock.specs.Steps.{Seated, Works}
-use Rattle.hangar_lock.specs.Views.{left_by}
+use Rattle.hangar_lock.specs.Views.{leaving_with}
 use Rattle.hangar_lock.proofs.SameModels.{action_on, same_later}
 
 all_added : {X : Type 0} (P : X → Type 0) (xs : List X) (x : X) → AllByRecursion P xs → P x → AllByRecursion P (xs ++ x ∷ [])
 all_added P [] x all one = (one, tt)
 all_added P (y ∷ ys) x all one = (all.0, all_added P ys x all.1 one)
 
-replay_more : (w : Workspace) (entries : Entries) (x : Told) → IsReplay w entries → x.1 ≡ (step (after_entries w entries) x.0.action).0 → IsReplay w (entries ++ x ∷ [])
+replay_more : (w : Workspace) (entries : Entries) (x : ToldEntry) → IsReplay w entries → x.1 ≡ (step (after_entries w entries) x.0.action).0 → IsReplay w (entries ++ x ∷ [])
 replay_more w [] x replay reply = (reply, tt)
 replay_more w (entry ∷ entries) x replay reply = (replay.0, replay_more (step w entry.0.action).1 entries x replay.1 reply)
 
-after_more : (w : Workspace) (entries : Entries) (x : Told) → after_entries w (entries ++ x ∷ []) ≡ (step (after_entries w entries) x.0.action).1
+after_more : (w : Workspace) (entries : Entries) (x : ToldEntry) → after_entries w (entries ++ x ∷ []) ≡ (step (after_entries w entries) x.0.action).1
 after_more w [] x = refl
 after_more w (entry ∷ entries) x = after_more (step w entry.0.action).1 entries x
 
@@ -49,8 +49,8 @@ module _ (o : CountedWorkspace) (d : Desk) (entry : Entry) (desk : IsDesk o d) (
   past_more : (d' : Desk) (told : Reply) → IsStepped d.hangar d'.hangar entry.action told → IsPast o.workspace (d.journal ++ (entry, told) ∷ [])
   past_more d' told stepped = record {
     replayed = replay_more o.workspace d.journal (entry, told) desk.past.replayed (ap (λ (made : Reply × Workspace). made.0) (told_is d' told stepped));
-    actions = all_added (λ (x : Told). IsActionOn o.workspace x.0.action) d.journal (entry, told) desk.past.actions on;
-    replies = all_added (λ (x : Told). IsReplyOf o.workspace.models o.workspace.duration x.1) d.journal (entry, told) desk.past.replies (of_models d' told stepped);
+    actions = all_added (λ (x : ToldEntry). IsActionOn o.workspace x.0.action) d.journal (entry, told) desk.past.actions on;
+    replies = all_added (λ (x : ToldEntry). IsReplyOf o.workspace.models o.workspace.duration x.1) d.journal (entry, told) desk.past.replies (of_models d' told stepped);
   }
 
   desk_more : (d' : Desk) (told : Reply) → IsStepped d.hangar d'.hangar entry.action told → d'.journal ≡ d.journal ++ (entry, told) ∷ [] →
@@ -81,7 +81,7 @@ module _ (o : CountedWorkspace) (d : Desk) (entry : Entry) (desk : IsDesk o d) (
 
   pub worked : (d' : Desk) (before after : Seated) (r : Result Receipt OutOfMemory) → before.0.opened ≡ o → before.0.seen ≡ d.journal →
       IfOk r (λ t. IsStepped d.hangar d'.hangar entry.action t.reply) → IfOk r (λ t. d'.journal ≡ d.journal ++ (entry, t.reply) ∷ []) →
-      IfOk r (λ t. t.place ≡ length d.journal) → after ≡ (left_by before.0 d'.journal, []) → IfOk r (Works before entry after)
+      IfOk r (λ t. t.place ≡ length d.journal) → after ≡ (leaving_with before.0 d'.journal, []) → IfOk r (Works before entry after)
   worked d' before after (Ok t) opened seen stepped noted placed left = record {
     place = placed ∙ ap length (sym seen);
     reply =
@@ -91,6 +91,6 @@ module _ (o : CountedWorkspace) (d : Desk) (entry : Entry) (desk : IsDesk o d) (
     past =
         subst (λ (w : CountedWorkspace). IsPast w.workspace (before.0.seen ++ (entry, t.reply) ∷ [])) (sym opened)
         (subst (λ (entries : Entries). IsPast o.workspace (entries ++ (entry, t.reply) ∷ [])) (sym seen) (past_more d' t.reply stepped));
-    after_is = left ∙ ap (λ (entries : Entries). (left_by before.0 entries, [])) (noted ∙ ap (λ (entries : Entries). entries ++ (entry, t.reply) ∷ []) (sym seen));
+    after_is = left ∙ ap (λ (entries : Entries). (leaving_with before.0 entries, [])) (noted ∙ ap (λ (entries : Entries). entries ++ (entry, t.reply) ∷ []) (sym seen));
   }
   worked d' before after (Err e) opened seen stepped noted placed left = tt

@@ -6,7 +6,7 @@ use Rattle.hangar_core.specs.Journals.{Entries, after_entries}
 use Rattle.hangar_core.specs.Standing.{CountedWorkspace}
 use Rattle.hangar_core.specs.Steps.{step}
 use Rattle.hangar_lock.specs.declared.receipts.Receipt.{Receipt}
-use Rattle.hangar_lock.specs.Places.{Places, HasNumber, StartsWith, longer}
+use Rattle.hangar_lock.specs.Places.{Places, HasPassNumber, StartsWith, longer}
 
 -- a lock: which one it is, and the hangar with which it was opened
 pub record LockView : Type 0 where
@@ -49,7 +49,7 @@ joined_with pass other = record {
 
 -- the pass stands for 0 and for every number that was split: each other pass was joined into it
 abbrev pub IsWhole : PassView → Type 0
-IsWhole pass = HasNumber pass.stands 0 × ((number : ℕ) → number ≤ pass.split → HasNumber pass.stands number)
+IsWhole pass = HasPassNumber pass.stands 0 × ((number : ℕ) → number ≤ pass.split → HasPassNumber pass.stands number)
 
 -- an entry went into the journal, behind all that the pass had seen, and the reply is the workspace's after all entries
 -- before it

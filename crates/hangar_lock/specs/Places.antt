@@ -5,21 +5,21 @@ use Rattle.hangar_core.specs.declared.replies.Reply.{Reply}
 use Rattle.hangar_core.specs.Journals.{Entries}
 
 -- an entry with its reply
-abbrev pub Told : Type 0
-Told = Entry × Reply
+abbrev pub ToldEntry : Type 0
+ToldEntry = Entry × Reply
 
 -- entries with their replies, each with its place in a journal
 abbrev pub Places : Type 0
-Places = List (ℕ × Told)
+Places = List (ℕ × ToldEntry)
 
 -- the entry with its reply is among them, at that place
-abbrev pub HasPlace : Places → ℕ → Told → Type 0
+abbrev pub HasPlace : Places → ℕ → ToldEntry → Type 0
 HasPlace [] place told = ⊥
 HasPlace (first ∷ rest) place told = (first ≡ (place, told)) ⊎ HasPlace rest place told
 
-abbrev pub HasNumber : List ℕ → ℕ → Type 0
-HasNumber [] number = ⊥
-HasNumber (first ∷ rest) number = (first ≡ number) ⊎ HasNumber rest number
+abbrev pub HasPassNumber : List ℕ → ℕ → Type 0
+HasPassNumber [] number = ⊥
+HasPassNumber (first ∷ rest) number = (first ≡ number) ⊎ HasPassNumber rest number
 
 -- a journal begins with what was seen of it
 abbrev pub StartsWith : Entries → Entries → Type 0

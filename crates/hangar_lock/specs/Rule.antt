@@ -9,7 +9,7 @@ use Rattle.hangar_core.specs.Standing.{CountedWorkspace}
 use Rattle.hangar_lock.specs.declared.desk.Desk.{Desk}
 use Rattle.hangar_lock.specs.declared.views.View.{View}
 use Rattle.hangar_lock.specs.Desks.{IsDesk}
-use Rattle.hangar_lock.specs.Places.{Told, HasNumber, HasPlace, StartsWith}
+use Rattle.hangar_lock.specs.Places.{ToldEntry, HasPassNumber, HasPlace, StartsWith}
 
 abbrev pub has_ticket : Option ℕ → ℕ
 has_ticket None = 0
@@ -30,25 +30,25 @@ HasHome opened journal views (some (Some desk)) =
 -- what a pass knows is so; `owner` has the number with which each place was made, and `passes` is how many numbers there are
 pub record Knows (start : CountedWorkspace) (journal : Entries) (owner : ℕ → ℕ) (passes drawn turn : ℕ) (view : View) : Type 0 where
   -- its places are right, and they are all those of its numbers
-  pub sound : (place : ℕ) (told : Told) → HasPlace view.mine place told → (slice_get journal place ≡ Some told) × HasNumber view.stands (owner place)
-  pub full : (place : ℕ) (told : Told) → slice_get journal place ≡ Some told → HasNumber view.stands (owner place) → HasPlace view.mine place told
+  pub sound : (place : ℕ) (told : ToldEntry) → HasPlace view.mine place told → (slice_get journal place ≡ Some told) × HasPassNumber view.stands (owner place)
+  pub full : (place : ℕ) (told : ToldEntry) → slice_get journal place ≡ Some told → HasPassNumber view.stands (owner place) → HasPlace view.mine place told
   -- its numbers were given, and all were split from 0
-  pub below : (number : ℕ) → HasNumber view.stands number → number < passes
-  pub root : HasNumber view.stands 0 → view.split + 1 ≡ passes
-  pub others_split : (view.split ≡ 0) ⊎ HasNumber view.stands 0
-  pub ticketed : (ticket : ℕ) → view.ticket ≡ Some ticket → (number : ℕ) × HasNumber view.stands number
-  pub opened : (number : ℕ) → HasNumber view.stands number → view.opened ≡ start
+  pub below : (number : ℕ) → HasPassNumber view.stands number → number < passes
+  pub root : HasPassNumber view.stands 0 → view.split + 1 ≡ passes
+  pub others_split : (view.split ≡ 0) ⊎ HasPassNumber view.stands 0
+  pub ticketed : (ticket : ℕ) → view.ticket ≡ Some ticket → (number : ℕ) × HasPassNumber view.stands number
+  pub opened : (number : ℕ) → HasPassNumber view.stands number → view.opened ≡ start
   pub seen : StartsWith journal view.seen
   -- its ticket was drawn and its turn is not over; inside it has the turn, and has seen all
   pub ticket : (ticket : ℕ) → view.ticket ≡ Some ticket → (turn ≤ ticket) × (ticket < drawn)
   pub inside : view.inside ≡ true → (view.ticket ≡ Some turn) × (view.seen ≡ journal)
 
-pub record Kept (opened : CountedWorkspace) (s : State (Option Desk) View) : Type 0 where
+pub record HasOneJournal (opened : CountedWorkspace) (s : State (Option Desk) View) : Type 0 where
   pub journal : Entries
   pub owner : ℕ → ℕ
   pub passes : ℕ
   pub passes_are : length s.views ≡ passes
-  pub owned : (place : ℕ) (told : Told) → slice_get journal place ≡ Some told → owner place < passes
+  pub owned : (place : ℕ) (told : ToldEntry) → slice_get journal place ≡ Some told → owner place < passes
   pub drawn : ℕ
   pub turn : ℕ
   pub words : s.words ≡ (drawn % 2 ^ 64) ∷ (turn % 2 ^ 64) ∷ []
@@ -61,7 +61,7 @@ pub record Kept (opened : CountedWorkspace) (s : State (Option Desk) View) : Typ
   -- each number and each ticket is of one pass alone
   pub one_owner : (id other : ℕ) (view another : View) (number : ℕ) →
       get_elem? s.views id ≡ some view → get_elem? s.views other ≡ some another →
-      HasNumber view.stands number → HasNumber another.stands number → id ≡ other
+      HasPassNumber view.stands number → HasPassNumber another.stands number → id ≡ other
   pub apart : (id other : ℕ) (view another : View) (ticket : ℕ) →
       get_elem? s.views id ≡ some view → get_elem? s.views other ≡ some another →
       view.ticket ≡ Some ticket → another.ticket ≡ Some ticket → id ≡ other

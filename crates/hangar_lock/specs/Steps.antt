@@ -9,8 +9,8 @@ use Rattle.hangar_lock.specs.declared.receipts.Receipt.{Receipt}
 use Rattle.hangar_lock.specs.declared.views.View.{View}
 use Rattle.hangar_lock.specs.Desks.{IsDesk}
 use Rattle.hangar_lock.specs.Pasts.{IsPast}
-use Rattle.hangar_lock.specs.Places.{HasNumber, StartsWith}
-use Rattle.hangar_lock.specs.Views.{left_by}
+use Rattle.hangar_lock.specs.Places.{HasPassNumber, StartsWith}
+use Rattle.hangar_lock.specs.Views.{leaving_with}
 
 -- what a pass knows, and what it has taken out of the slot
 abbrev pub Seated : Type 0
@@ -38,25 +38,25 @@ Looks st before found after = (ticket : ℕ) → before.0.ticket ≡ Some ticket
 -- pass the turn on, and give back what is to be in the slot
 abbrev pub PassesOn : Step (Option Desk) → Seated → ℕ → Seated → Type 0
 PassesOn st before found after =
-    (desk : Desk) → before.1 ≡ (0, Some desk) ∷ [] → after ≡ (left_by before.0 desk.journal, [])
+    (desk : Desk) → before.1 ≡ (0, Some desk) ∷ [] → after ≡ (leaving_with before.0 desk.journal, [])
 
 -- ---- where a pass stands
 
 -- it neither waits nor is inside, and stands for some number
 abbrev pub IsIdle : Seated → Type 0
-IsIdle me = (me.0.ticket ≡ None) × (me.0.inside ≡ false) × (me.1 ≡ []) × ((number : ℕ) × HasNumber me.0.stands number)
+IsIdle me = (me.0.ticket ≡ None) × (me.0.inside ≡ false) × (me.1 ≡ []) × ((number : ℕ) × HasPassNumber me.0.stands number)
 
 -- it waits with a ticket whose number is told modulo 2 ^ 64
-pub record Waits (told : ℕ) (me : Seated) : Type 0 where
+pub record IsWaiting (told : ℕ) (me : Seated) : Type 0 where
   pub ticket : ℕ
   pub drawn : me.0.ticket ≡ Some ticket
   pub number : ticket % 2 ^ 64 ≡ told
   pub outside : me.0.inside ≡ false
   pub bare : me.1 ≡ []
-  pub stands : (number : ℕ) × HasNumber me.0.stands number
+  pub stands : (number : ℕ) × HasPassNumber me.0.stands number
 
 -- its turn has come
-pub record IsInside (before after : Seated) : Type 0 where
+pub record HasTurn (before after : Seated) : Type 0 where
   pub desk : Desk
   pub after_is : after ≡ (enters_with before.0 desk, (0, Some desk) ∷ [])
   pub more : StartsWith desk.journal before.0.seen
@@ -82,4 +82,4 @@ pub record Works (before : Seated) (entry : Entry) (after : Seated) (receipt : R
   pub place : receipt.place ≡ length before.0.seen
   pub reply : receipt.reply ≡ (step (after_entries before.0.opened.workspace before.0.seen) entry.action).0
   pub past : IsPast before.0.opened.workspace (before.0.seen ++ (entry, receipt.reply) ∷ [])
-  pub after_is : after ≡ (left_by before.0 (before.0.seen ++ (entry, receipt.reply) ∷ []), [])
+  pub after_is : after ≡ (leaving_with before.0 (before.0.seen ++ (entry, receipt.reply) ∷ []), [])

@@ -26,8 +26,8 @@ split_off view = record {
 }
 
 -- a pass that takes another one in
-abbrev pub joined : View → View → View
-joined view other = record {
+abbrev pub joining : View → View → View
+joining view other = record {
   opened = view.opened;
   seen = longer view.seen other.seen;
   mine = view.mine ++ other.mine;
@@ -50,8 +50,8 @@ spent = record {
 }
 
 -- a pass that leaves this journal: what is new in it is its own
-abbrev pub left_by : View → Entries → View
-left_by view journal = record {
+abbrev pub leaving_with : View → Entries → View
+leaving_with view journal = record {
   opened = view.opened;
   seen = journal;
   mine = view.mine ++ placed_from (length view.seen) (drop (length view.seen) journal);

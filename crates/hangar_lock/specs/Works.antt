@@ -5,12 +5,12 @@ use Rattle.hangar_core.specs.declared.replies.Reply.{Reply}
 use Rattle.hangar_core.specs.Fits.{IsCommand, IsWorkOf, Meanings, next_action}
 use Rattle.hangar_core.specs.Journals.{Entries}
 use Rattle.hangar_lock.specs.Passes.{PassView}
-use Rattle.hangar_lock.specs.Places.{Places, Told}
+use Rattle.hangar_lock.specs.Places.{Places, ToldEntry}
 
-abbrev pub told_of : ℕ × Told → Told
-told_of placed = placed.1
+abbrev pub own_entry : ℕ × ToldEntry → ToldEntry
+own_entry placed = placed.1
 
-abbrev pub reply_of : Told → Reply
+abbrev pub reply_of : ToldEntry → Reply
 reply_of told = told.1
 
 -- the places rise, from one on and all below another
@@ -30,20 +30,20 @@ IsBegun meanings client number command replies (told ∷ entries) =
 pub record HasBegun (meanings : Meanings) (client number : ℕ) (command : Command) (before after : PassView) (replies : List Reply) : Type 0 where
   pub gained : Places
   pub mine : after.mine ≡ before.mine ++ gained
-  pub begun : IsBegun meanings client number command [] (map told_of gained)
-  pub replied : map reply_of (map told_of gained) ≡ replies
+  pub begun : IsBegun meanings client number command [] (map own_entry gained)
+  pub replied : map reply_of (map own_entry gained) ≡ replies
   pub rises : RisesTo (length before.seen) (length after.seen) gained
 
 -- a command was done with a pass
 pub record HasDone (meanings : Meanings) (client number : ℕ) (command : Command) (before after : PassView) : Type 0 where
   pub gained : Places
   pub mine : after.mine ≡ before.mine ++ gained
-  pub done : IsCommand meanings client number command [] (map told_of gained)
+  pub done : IsCommand meanings client number command [] (map own_entry gained)
   pub rises : RisesTo (length before.seen) (length after.seen) gained
 
 -- commands were done with a pass, one after another, counted from 0
 pub record HasWorked (meanings : Meanings) (client : ℕ) (commands : List Command) (before after : PassView) : Type 0 where
   pub gained : Places
   pub mine : after.mine ≡ before.mine ++ gained
-  pub work : IsWorkOf meanings client 0 commands (map told_of gained)
+  pub work : IsWorkOf meanings client 0 commands (map own_entry gained)
   pub rises : RisesTo (length before.seen) (length after.seen) gained

@@ -6,7 +6,7 @@ pub mod laws;
 mod lock;
 mod receipts;
 mod rule;
-mod turns;
+mod turnstile;
 mod views;
 
 pub use lock::{HangarLock, Pass};

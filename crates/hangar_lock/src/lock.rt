@@ -5,12 +5,12 @@ ghost use Rattle.hangar_core.specs.Journals.{after_entries};
 ghost use Rattle.hangar_core.specs.Standing.{IsActionOn, IsReplyOf};
 ghost use Rattle.hangar_lock.specs.Passes.{after_split, first_pass, HasActed, HasSeenMore, IsWhole, joined_with, split_from};
 ghost use Rattle.hangar_lock.specs.Pasts.{IsPast};
-ghost use Rattle.hangar_lock.specs.Places.{HasNumber, HasPlace, StartsWith, Told};
+ghost use Rattle.hangar_lock.specs.Places.{HasPassNumber, HasPlace, StartsWith, ToldEntry};
 
 use crate::desk::Desk;
 use crate::receipts::Receipt;
-use crate::rule::{JoinSeats, Place, SplitSeat, TurnTable};
-use crate::turns::Turns;
+use crate::rule::{JoinSeats, PassSeat, SplitSeat, TurnTable};
+use crate::turnstile::Turnstile;
 use aerie_base::OutOfMemory;
 use hangar_core::{Entry, Hangar, Journal};
 use std::alloc::Global;
@@ -21,7 +21,7 @@ use std::sync::Wait;
 /// which lock it is, and the workspace with which it was opened.
 #[derive(Drop)]
 pub struct HangarLock {
-    turns: Turns,
+    turns: Turnstile,
 }
 
 impl std::marker::Model for HangarLock {
@@ -41,7 +41,7 @@ impl std::marker::Model for HangarLock {
 /// What a caller knows of a lock: the first entries of its journal, and which of them are its own. It has no bytes.
 #[derive(Drop)]
 pub struct Pass {
-    seat: Place,
+    seat: PassSeat,
 }
 
 impl std::marker::Model for Pass {
@@ -77,7 +77,7 @@ impl HangarLock {
         match TurnTable::new(alloc, &[0, 0], slots, &opened) {
             Ok((table, seat)) => Ok((
                 HangarLock {
-                    turns: Turns { table },
+                    turns: Turnstile { table },
                 },
                 Pass { seat },
             )),
@@ -108,7 +108,7 @@ impl HangarLock {
     /// A new pass, which has seen what this one has. It takes no memory.
     pub fn split(&self, pass: &mut Pass) -> Result<Pass, OutOfMemory>
         requires own { pass.old.lock ≡ self.now }
-        requires root { HasNumber pass.old.stands 0 }
+        requires root { HasPassNumber pass.old.stands 0 }
         requires few { pass.old.split < 4_294_967_295 }
         ensures left { pass.new ≡ after_split pass.old }
         ensures new { IfOk result (λ new. new ≡ split_from pass.old) }
@@ -142,11 +142,11 @@ impl HangarLock {
         ensures seen { StartsWith result.1 pass.seen }
         ensures hangar { result.0.workspace ≡ after_entries self.opened.workspace result.1 }
         ensures past { IsPast self.opened.workspace result.1 }
-        ensures right { (place : ℕ) (told : Told) → HasPlace pass.mine place told → slice_get result.1 place ≡ Some told }
-        ensures all { (place : ℕ) (told : Told) → slice_get result.1 place ≡ Some told → HasPlace pass.mine place told }
+        ensures right { (place : ℕ) (told : ToldEntry) → HasPlace pass.mine place told → slice_get result.1 place ≡ Some told }
+        ensures all { (place : ℕ) (told : ToldEntry) → slice_get result.1 place ≡ Some told → HasPlace pass.mine place told }
     {
         let HangarLock { turns } = self;
-        let Turns { table } = turns;
+        let Turnstile { table } = turns;
         let Pass { seat } = pass;
         let mut closed = table.close_with(seat);
         let slot = closed.take(0);

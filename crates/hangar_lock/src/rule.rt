@@ -11,36 +11,36 @@ use std::snapshot::Snapshot;
 pub(crate) struct OneJournal;
 
 impl TableRule<Option<Desk>, View, Snapshot<Hangar>> for OneJournal {
-    ghost use Rattle.hangar_lock.specs.Rule.{Kept};
+    ghost use Rattle.hangar_lock.specs.Rule.{HasOneJournal};
     ghost use Rattle.hangar_lock.specs.Views.{first_view};
 
-    ghost holds = { λ key. Kept key.value };
+    ghost holds = { λ key. HasOneJournal key.value };
 
     ghost first = { λ key. first_view key.value };
 }
 
 /// A ticket is drawn.
-pub(crate) struct Draw;
+pub(crate) struct DrawTicket;
 
-impl Play<Option<Desk>, View> for Draw {
+impl Play<Option<Desk>, View> for DrawTicket {
     ghost use Rattle.hangar_lock.specs.Steps.{Draws};
 
     ghost then = { Draws };
 }
 
 /// A look at the turn; where it is the pass's own, it takes the workspace and the journal.
-pub(crate) struct Look;
+pub(crate) struct LookAtTurn;
 
-impl Play<Option<Desk>, View> for Look {
+impl Play<Option<Desk>, View> for LookAtTurn {
     ghost use Rattle.hangar_lock.specs.Steps.{Looks};
 
     ghost then = { Looks };
 }
 
 /// The turn is passed on, and the workspace and the journal are given back.
-pub(crate) struct PassOn;
+pub(crate) struct PassTurnOn;
 
-impl Play<Option<Desk>, View> for PassOn {
+impl Play<Option<Desk>, View> for PassTurnOn {
     ghost use Rattle.hangar_lock.specs.Steps.{PassesOn};
 
     ghost then = { PassesOn };
@@ -61,13 +61,13 @@ impl Split<View> for SplitSeat {
 pub(crate) struct JoinSeats;
 
 impl Join<View> for JoinSeats {
-    ghost use Rattle.hangar_lock.specs.Views.{joined, spent};
+    ghost use Rattle.hangar_lock.specs.Views.{joining, spent};
 
-    ghost both = { joined };
+    ghost both = { joining };
 
     ghost spent = { spent };
 }
 
 pub(crate) type TurnTable = Table<Option<Desk>, View, Snapshot<Hangar>, OneJournal, Global>;
 
-pub(crate) type Place = Seat<Option<Desk>, View>;
+pub(crate) type PassSeat = Seat<Option<Desk>, View>;

@@ -5,7 +5,7 @@ use Rattle.hangar_core.specs.declared.workspaces.Workspace.{Workspace}
 use Rattle.hangar_core.specs.Fits.{commands_of, Fits, Meanings}
 use Rattle.hangar_core.specs.Journals.{Entries, IsReplay}
 use Rattle.hangar_lock.specs.Passes.{IsWhole, joined_with, PassView}
-use Rattle.hangar_lock.specs.Places.{HasPlace, Places, Told}
+use Rattle.hangar_lock.specs.Places.{HasPlace, Places, ToldEntry}
 use Rattle.hangar_lock.specs.Works.{HasWorked}
 
 -- a client's commands were done with a pass, and nothing else
@@ -29,8 +29,8 @@ all_mine (pass ∷ passes) = pass.mine ++ all_mine passes
 abbrev pub JoinedPassesFit : Type 0
 JoinedPassesFit = (meanings : Meanings) (opened : Workspace) (clients : List (List Command)) (passes : List PassView) (journal : Entries) →
     AreWorked meanings clients passes → IsReplay opened journal →
-    ((place : ℕ) (told : Told) → HasPlace (all_mine passes) place told → slice_get journal place ≡ Some told) →
-    ((place : ℕ) (told : Told) → slice_get journal place ≡ Some told → HasPlace (all_mine passes) place told) →
+    ((place : ℕ) (told : ToldEntry) → HasPlace (all_mine passes) place told → slice_get journal place ≡ Some told) →
+    ((place : ℕ) (told : ToldEntry) → slice_get journal place ≡ Some told → HasPlace (all_mine passes) place told) →
     Fits meanings opened clients journal
 
 -- ---- passes split from the first one, and joined into it again

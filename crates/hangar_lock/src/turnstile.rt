@@ -4,12 +4,12 @@ ghost use Rattle.std.specs.Prelude.{◌≡◌, ◌∷◌, [], ◌++◌, ◌%◌,
 ghost use Rattle.hangar_core.specs.Standing.{IsActionOn};
 ghost use Rattle.hangar_lock.specs.declared.desk.Desk.{Desk};
 ghost use Rattle.hangar_lock.specs.Desks.{IsDesk};
-ghost use Rattle.hangar_lock.specs.Steps.{CanLeave, HasEntered, IsIdle, IsInside, Waits, Works};
-ghost use Rattle.hangar_lock.specs.Views.{left_by};
+ghost use Rattle.hangar_lock.specs.Steps.{CanLeave, HasEntered, IsIdle, HasTurn, IsWaiting, Works};
+ghost use Rattle.hangar_lock.specs.Views.{leaving_with};
 
 use crate::desk::Desk;
 use crate::receipts::Receipt;
-use crate::rule::{Draw, Look, PassOn, Place, TurnTable};
+use crate::rule::{DrawTicket, LookAtTurn, PassTurnOn, PassSeat, TurnTable};
 use aerie_base::OutOfMemory;
 use hangar_core::Entry;
 use std::alloc::Global;
@@ -22,39 +22,39 @@ const TURNS: usize = 1;
 
 /// The table with its two words and its slot.
 #[derive(Drop)]
-pub(crate) struct Turns {
+pub(crate) struct Turnstile {
     pub table: TurnTable,
     ghost one_slot: { (table.shared.table_id.words ≡ 2) × (table.shared.table_id.slots ≡ 1) },
 }
 
-impl Turns {
+impl Turnstile {
     /// Draws a ticket.
-    fn draw(&self, seat: &mut Place) -> u64
+    fn draw(&self, seat: &mut PassSeat) -> u64
         requires own { seat.old.table_id ≡ self.now.table.shared.table_id }
         requires idle { IsIdle seat.old.me }
         ensures own { (seat.new.table_id ≡ seat.old.table_id) × (seat.new.id ≡ seat.old.id) }
         ensures drawn { (k : ℕ) × (seat.new.me ≡ (record seat.old.me.0 { ticket = Some k }, seat.old.me.1)) × (k % 2 ^ 64 ≡ result) }
     {
-        self.table.shared.fetch_add::<Draw>(seat, TICKETS, 1)
+        self.table.shared.fetch_add::<DrawTicket>(seat, TICKETS, 1)
     }
 
     /// Looks at the turn, and takes the workspace and the journal where it is the one of a ticket.
-    fn look(&self, seat: &mut Place, ticket: u64) -> bool
+    fn look(&self, seat: &mut PassSeat, ticket: u64) -> bool
         requires own { seat.old.table_id ≡ self.now.table.shared.table_id }
-        requires waits { Waits ticket seat.old.me }
+        requires waits { IsWaiting ticket seat.old.me }
         ensures own { (seat.new.table_id ≡ seat.old.table_id) × (seat.new.id ≡ seat.old.id) }
-        ensures turn { result ≡ true → IsInside seat.old.me seat.new.me }
+        ensures turn { result ≡ true → HasTurn seat.old.me seat.new.me }
         ensures waits { result ≡ false → seat.new.me ≡ seat.old.me }
     {
-        self.table.shared.load::<Look>(seat, TURNS) == ticket
+        self.table.shared.load::<LookAtTurn>(seat, TURNS) == ticket
     }
 
-    /// Waits for the turn of a ticket.
-    fn wait_turn<R: Wait>(&self, rt: &R, seat: &mut Place, ticket: u64)
+    /// IsWaiting for the turn of a ticket.
+    fn wait_turn<R: Wait>(&self, rt: &R, seat: &mut PassSeat, ticket: u64)
         requires own { seat.old.table_id ≡ self.now.table.shared.table_id }
-        requires waits { Waits ticket seat.old.me }
+        requires waits { IsWaiting ticket seat.old.me }
         ensures own { (seat.new.table_id ≡ seat.old.table_id) × (seat.new.id ≡ seat.old.id) }
-        ensures turn { IsInside seat.old.me seat.new.me }
+        ensures turn { HasTurn seat.old.me seat.new.me }
     {
         for _ in rt.forever() {
             if self.look(seat, ticket) {
@@ -64,8 +64,8 @@ impl Turns {
         unreachable!()
     }
 
-    /// Waits until the workspace and the journal are the pass's own.
-    pub fn enter<R: Wait>(&self, rt: &R, seat: &mut Place)
+    /// IsWaiting until the workspace and the journal are the pass's own.
+    pub fn enter<R: Wait>(&self, rt: &R, seat: &mut PassSeat)
         requires own { seat.old.table_id ≡ self.now.table.shared.table_id }
         requires idle { IsIdle seat.old.me }
         ensures own { (seat.new.table_id ≡ seat.old.table_id) × (seat.new.id ≡ seat.old.id) }
@@ -76,7 +76,7 @@ impl Turns {
     }
 
     /// Takes the workspace and the journal out of the slot.
-    fn take(&self, seat: &mut Place) -> Desk
+    fn take(&self, seat: &mut PassSeat) -> Desk
         requires own { seat.old.table_id ≡ self.now.table.shared.table_id }
         requires holds { (desk : Desk) × (seat.old.me.1 ≡ (0, Some desk) ∷ []) }
         ensures own { (seat.new.table_id ≡ seat.old.table_id) × (seat.new.id ≡ seat.old.id) }
@@ -89,7 +89,7 @@ impl Turns {
     }
 
     /// Puts them back.
-    fn put(&self, seat: &mut Place, desk: Desk)
+    fn put(&self, seat: &mut PassSeat, desk: Desk)
         requires own { seat.old.table_id ≡ self.now.table.shared.table_id }
         requires holds { seat.old.me.1 ≡ (0, None) ∷ [] }
         ensures own { (seat.new.table_id ≡ seat.old.table_id) × (seat.new.id ≡ seat.old.id) }
@@ -99,20 +99,20 @@ impl Turns {
     }
 
     /// Passes the turn on.
-    fn pass_on(&self, seat: &mut Place)
+    fn pass_on(&self, seat: &mut PassSeat)
         requires own { seat.old.table_id ≡ self.now.table.shared.table_id }
         requires leaves { (desk : Desk) × CanLeave seat.old.me desk }
         ensures own { (seat.new.table_id ≡ seat.old.table_id) × (seat.new.id ≡ seat.old.id) }
-        ensures left { (desk : Desk) → seat.old.me.1 ≡ (0, Some desk) ∷ [] → seat.new.me ≡ (left_by seat.old.me.0 desk.journal, []) }
+        ensures left { (desk : Desk) → seat.old.me.1 ≡ (0, Some desk) ∷ [] → seat.new.me ≡ (leaving_with seat.old.me.0 desk.journal, []) }
     {
-        self.table.shared.fetch_add::<PassOn>(seat, TURNS, 1);
+        self.table.shared.fetch_add::<PassTurnOn>(seat, TURNS, 1);
     }
 
     /// Steps the workspace and notes the entry, and passes the turn on, also after want of memory.
     pub fn work(
         &self,
         alloc: Global,
-        seat: &mut Place,
+        seat: &mut PassSeat,
         entry: Entry,
     ) -> Result<Receipt, OutOfMemory>
         requires own { seat.old.table_id ≡ self.now.table.shared.table_id }
@@ -120,7 +120,7 @@ impl Turns {
         requires action { IsActionOn seat.old.me.0.opened.workspace entry.action }
         ensures own { (seat.new.table_id ≡ seat.old.table_id) × (seat.new.id ≡ seat.old.id) }
         ensures worked { IfOk result (Works seat.old.me entry seat.new.me) }
-        ensures unchanged { OnErr result (seat.new.me ≡ (left_by seat.old.me.0 seat.old.me.0.seen, [])) }
+        ensures unchanged { OnErr result (seat.new.me ≡ (leaving_with seat.old.me.0 seat.old.me.0.seen, [])) }
     {
         let mut desk = self.take(seat);
         let told = desk.act(alloc, entry);

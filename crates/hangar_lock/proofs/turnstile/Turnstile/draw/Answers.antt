@@ -2,7 +2,7 @@ use Rattle.std.proofs.Common.{rules}
 use mathlib.Core.Option.{none}
 use Rattle.atomic_table.specs.Table.{step}
 use Rattle.hangar_lock.proofs.Draw.{draws}
-use Rattle.hangar_lock.proofs.turns.Turns.draw.Goals as goal
+use Rattle.hangar_lock.proofs.turnstile.Turnstile.draw.Goals as goal
 
 pub fetch_add-requires : goal.fetch_add-requires
 fetch_add-requires c =

@@ -2,7 +2,7 @@ use Rattle.std.proofs.Common.{rules}
 use mathlib.Core.Option.{none}
 use Rattle.atomic_table.specs.Table.{step}
 use Rattle.hangar_lock.proofs.Look.{looks_with}
-use Rattle.hangar_lock.proofs.turns.Turns.look.Goals as goal
+use Rattle.hangar_lock.proofs.turnstile.Turnstile.look.Goals as goal
 
 pub load-requires : goal.load-requires
 load-requires c =

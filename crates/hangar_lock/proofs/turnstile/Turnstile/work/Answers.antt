@@ -4,11 +4,11 @@ use Rattle.hangar_lock.specs.declared.desk.Desk.{Desk}
 use Rattle.hangar_lock.specs.Desks.{IsDesk}
 use Rattle.hangar_lock.specs.Steps.{Seated, CanLeave}
 use Rattle.hangar_lock.specs.Places.{StartsWith}
-use Rattle.hangar_lock.specs.Views.{left_by}
+use Rattle.hangar_lock.specs.Views.{leaving_with}
 use Rattle.hangar_core.specs.Journals.{Entries}
 use Rattle.hangar_lock.proofs.PassOn.{one_desk}
 use Rattle.hangar_lock.proofs.Working.{desk_action, desk_acted, journal_grows, worked}
-use Rattle.hangar_lock.proofs.turns.Turns.work.Goals as goal
+use Rattle.hangar_lock.proofs.turnstile.Turnstile.work.Goals as goal
 
 -- what was taken is what the pass had
 taken_desk : (me : Seated) (d : Desk) (taken : Desk) → CanLeave me d → me.1 ≡ (0, Some taken) ∷ [] → d ≡ taken
@@ -62,4 +62,4 @@ returns-clause-worked c =
     let put = put_is c.args.seat.now.me _ _ c.act-told.new.self c.take-desk.ensures.taken.1 c.put.ensures.put in
     let left = c.pass_on.ensures.left c.act-told.new.self (ap (λ (m : Seated). m.1) put) in
     worked _ _ c.args.entry desk c.requires.action c.act-told.new.self c.args.seat.now.me _ _ refl (taken_seen _ _ _ leaves c.requires.inside.2 has)
-    acted.stepped acted.noted acted.placed (left ∙ ap (λ (m : Seated). (left_by m.0 c.act-told.new.self.journal, [])) put)
+    acted.stepped acted.noted acted.placed (left ∙ ap (λ (m : Seated). (leaving_with m.0 c.act-told.new.self.journal, [])) put)
