@@ -5,15 +5,12 @@ use Rattle.hangar_core.specs.declared.workspaces.Workspace.{Workspace}
 use Rattle.hangar_core.specs.Journals.{Entries}
 use Rattle.hangar_core.specs.Standing.{CountedWorkspace}
 use Rattle.hangar_lock.specs.declared.views.View.{View}
-use Rattle.hangar_lock.specs.Passes.{LockView, PassView}
+use Rattle.hangar_lock.specs.Passes.{lock_view, LockView, PassView}
 use Rattle.hangar_lock.specs.Pasts.{IsPast}
 use Rattle.hangar_lock.specs.Resting.{IsResting, pass_view}
 use Rattle.hangar_lock.specs.Steps.{Seated}
 use Rattle.hangar_lock.specs.Views.{joining}
 use Rattle.hangar_lock.proofs.Places.{has_number_left}
-
-abbrev lock_view : TableId → CountedWorkspace → LockView
-lock_view id opened = record { id = id; opened = opened }
 
 same_lock : (id table : TableId) (view : View) (opened : CountedWorkspace) (pass : PassView) (lock : LockView) →
     pass_view id view ≡ pass → lock_view table opened ≡ lock → pass.lock ≡ lock → lock_view id view.opened ≡ lock_view table opened

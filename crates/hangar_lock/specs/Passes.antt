@@ -13,6 +13,9 @@ pub record LockView : Type 0 where
   pub id : TableId
   pub opened : CountedWorkspace
 
+abbrev pub lock_view : TableId → CountedWorkspace → LockView
+lock_view id opened = record { id = id; opened = opened }
+
 -- a pass of a lock
 pub record PassView : Type 0 where
   pub lock : LockView

@@ -1,5 +1,5 @@
 -- Places in a journal, and the numbers of passes.
-use Rattle.std.specs.Prelude.{◌≡◌, ◌⊎◌, ℕ, suc, List, [], ◌∷◌, ◌++◌, length, nat_le, if◌then◌else◌}
+use Rattle.std.specs.Prelude.{◌≡◌, ◌⊎◌, ℕ, suc, List, [], ◌∷◌, ◌++◌, length, nat_le, if◌then◌else◌, slice_get, Some}
 use Rattle.hangar_core.specs.declared.entries.Entry.{Entry}
 use Rattle.hangar_core.specs.declared.replies.Reply.{Reply}
 use Rattle.hangar_core.specs.Journals.{Entries}
@@ -16,6 +16,14 @@ Places = List (ℕ × ToldEntry)
 abbrev pub HasPlace : Places → ℕ → ToldEntry → Type 0
 HasPlace [] place told = ⊥
 HasPlace (first ∷ rest) place told = (first ≡ (place, told)) ⊎ HasPlace rest place told
+
+-- each of them stands in a journal, at its place
+abbrev pub StandIn : Places → Entries → Type 0
+StandIn places journal = (place : ℕ) (told : ToldEntry) → HasPlace places place told → slice_get journal place ≡ Some told
+
+-- and they are all that the journal has
+abbrev pub HaveAllOf : Places → Entries → Type 0
+HaveAllOf places journal = (place : ℕ) (told : ToldEntry) → slice_get journal place ≡ Some told → HasPlace places place told
 
 abbrev pub HasPassNumber : List ℕ → ℕ → Type 0
 HasPassNumber [] number = ⊥

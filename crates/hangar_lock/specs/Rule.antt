@@ -20,18 +20,24 @@ abbrev pub holders : List View → ℕ
 holders [] = 0
 holders (view ∷ views) = has_ticket view.ticket + holders views
 
+-- no pass is inside
+abbrev pub AllAreOutside : List View → Type 0
+AllAreOutside views = (id : ℕ) (view : View) → get_elem? views id ≡ some view → view.inside ≡ false
+
 -- what the slot has: the workspace and the journal, or nothing while a pass is inside
 abbrev pub HasHome : CountedWorkspace → Entries → List View → Maybe (Option Desk) → Type 0
 HasHome opened journal views none = (id : ℕ) × (view : View) × (get_elem? views id ≡ some view) × (view.inside ≡ true)
 HasHome opened journal views (some None) = ⊥
 HasHome opened journal views (some (Some desk)) =
-    (desk.journal ≡ journal) × IsDesk opened desk × ((id : ℕ) (view : View) → get_elem? views id ≡ some view → view.inside ≡ false)
+    (desk.journal ≡ journal) × IsDesk opened desk × AllAreOutside views
 
 -- what a pass knows is so; `owner` has the number with which each place was made, and `passes` is how many numbers there are
 pub record Knows (start : CountedWorkspace) (journal : Entries) (owner : ℕ → ℕ) (passes drawn turn : ℕ) (view : View) : Type 0 where
   -- its places are right, and they are all those of its numbers
-  pub sound : (place : ℕ) (told : ToldEntry) → HasPlace view.mine place told → (slice_get journal place ≡ Some told) × HasPassNumber view.stands (owner place)
-  pub full : (place : ℕ) (told : ToldEntry) → slice_get journal place ≡ Some told → HasPassNumber view.stands (owner place) → HasPlace view.mine place told
+  pub sound : (place : ℕ) (told : ToldEntry) → HasPlace view.mine place told →
+      (slice_get journal place ≡ Some told) × HasPassNumber view.stands (owner place)
+  pub full : (place : ℕ) (told : ToldEntry) → slice_get journal place ≡ Some told →
+      HasPassNumber view.stands (owner place) → HasPlace view.mine place told
   -- its numbers were given, and all were split from 0
   pub below : (number : ℕ) → HasPassNumber view.stands number → number < passes
   pub root : HasPassNumber view.stands 0 → view.split + 1 ≡ passes

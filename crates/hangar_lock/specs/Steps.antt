@@ -22,10 +22,14 @@ enters_with view desk = record view { seen = desk.journal; inside = true }
 
 -- ---- the kinds of step
 
--- draw a ticket, whose number was found in the word
-abbrev pub Draws : Step (Option Desk) → Seated → ℕ → Seated → Type 0
-Draws st before found after =
+-- a pass has a ticket more, whose number was found in the word
+abbrev pub HasDrawn : Seated → Seated → ℕ → Type 0
+HasDrawn before after found =
     (ticket : ℕ) × (after ≡ (record before.0 { ticket = Some ticket }, before.1)) × (ticket % 2 ^ 64 ≡ found)
+
+-- draw a ticket
+abbrev pub Draws : Step (Option Desk) → Seated → ℕ → Seated → Type 0
+Draws st before found after = HasDrawn before after found
 
 -- look at the turn: where it is the pass's own, it takes what the slot has; where not, nothing changes
 abbrev pub Looks : Step (Option Desk) → Seated → ℕ → Seated → Type 0
@@ -35,10 +39,20 @@ Looks st before found after = (ticket : ℕ) → before.0.ticket ≡ Some ticket
     × StartsWith desk.journal before.0.seen × IsDesk before.0.opened desk)
     × (found ≢ ticket % 2 ^ 64 → after ≡ before)
 
+-- what a pass had is in the slot, and what is new in the journal is its own
+abbrev pub HasLeft : Seated → Seated → Type 0
+HasLeft before after =
+    (desk : Desk) → before.1 ≡ (0, Some desk) ∷ [] → after ≡ (leaving_with before.0 desk.journal, [])
+
 -- pass the turn on, and give back what is to be in the slot
 abbrev pub PassesOn : Step (Option Desk) → Seated → ℕ → Seated → Type 0
-PassesOn st before found after =
-    (desk : Desk) → before.1 ≡ (0, Some desk) ∷ [] → after ≡ (leaving_with before.0 desk.journal, [])
+PassesOn st before found after = HasLeft before after
+
+-- ---- what it has taken
+
+-- the workspace and the journal are in the hand of a pass, and its slot is empty
+abbrev pub HasTaken : Seated → Seated → Desk → Type 0
+HasTaken before after desk = (before.1 ≡ (0, Some desk) ∷ []) × (after ≡ (before.0, (0, None) ∷ []))
 
 -- ---- where a pass stands
 

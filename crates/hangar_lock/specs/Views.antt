@@ -7,7 +7,15 @@ use Rattle.hangar_lock.specs.Places.{longer, placed_from}
 
 -- the pass with which a lock begins
 abbrev pub first_view : CountedWorkspace → View
-first_view opened = record { opened = opened; seen = []; mine = []; stands = 0 ∷ []; split = 0; ticket = None; inside = false }
+first_view opened = record {
+  opened = opened;
+  seen = [];
+  mine = [];
+  stands = 0 ∷ [];
+  split = 0;
+  ticket = None;
+  inside = false;
+}
 
 -- a number was split from a pass
 abbrev pub splitting : View → View

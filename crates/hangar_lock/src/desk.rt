@@ -1,8 +1,9 @@
 //! What the lock guards.
 
-ghost use Rattle.std.specs.Prelude.{◌≡◌, ◌≤◌, ◌∷◌, [], ◌++◌, length, IfOk, OnErr};
+ghost use Rattle.std.specs.Prelude.{◌≡◌, ◌≤◌, length, IfOk, OnErr};
 ghost use Rattle.hangar_core.specs.Journals.{accepted_in};
-ghost use Rattle.hangar_core.specs.Standing.{IsActionOn, IsStepped};
+ghost use Rattle.hangar_core.specs.Standing.{IsActionOn};
+ghost use Rattle.hangar_lock.specs.Desks.{HasNoted, IsDeskStepped};
 
 use crate::receipts::Receipt;
 use aerie_base::OutOfMemory;
@@ -22,8 +23,8 @@ impl Desk {
     pub fn act(&mut self, alloc: Global, entry: Entry) -> Result<Receipt, OutOfMemory>
         requires kept { self.old.hangar.accepted ≤ accepted_in self.old.journal }
         requires action { IsActionOn self.old.hangar.workspace entry.action }
-        ensures stepped { IfOk result (λ told. IsStepped self.old.hangar self.new.hangar entry.action told.reply) }
-        ensures noted { IfOk result (λ told. self.new.journal ≡ self.old.journal ++ (entry, told.reply) ∷ []) }
+        ensures stepped { IfOk result (IsDeskStepped self.old self.new entry.action) }
+        ensures noted { IfOk result (HasNoted self.old self.new entry) }
         ensures placed { IfOk result (λ told. told.place ≡ length self.old.journal) }
         ensures kept { self.new.hangar.accepted ≤ accepted_in self.new.journal }
         ensures unchanged { OnErr result (self.new ≡ self.old) }

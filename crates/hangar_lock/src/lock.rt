@@ -1,11 +1,11 @@
 //! The lock and its passes.
 
-ghost use Rattle.std.specs.Prelude.{◌≡◌, ◌<◌, ℕ, Some, IfOk, IsOk, OnErr, slice_get};
+ghost use Rattle.std.specs.Prelude.{◌≡◌, ◌<◌, IfOk, IsOk, OnErr};
 ghost use Rattle.hangar_core.specs.Journals.{after_entries};
-ghost use Rattle.hangar_core.specs.Standing.{IsActionOn, IsReplyOf};
+ghost use Rattle.hangar_core.specs.Standing.{IsActionOn};
 ghost use Rattle.hangar_lock.specs.Passes.{after_split, first_pass, HasActed, HasSeenMore, IsWhole, joined_with, split_from};
-ghost use Rattle.hangar_lock.specs.Pasts.{IsPast};
-ghost use Rattle.hangar_lock.specs.Places.{HasPassNumber, HasPlace, StartsWith, ToldEntry};
+ghost use Rattle.hangar_lock.specs.Pasts.{IsPast, IsReplyIn};
+ghost use Rattle.hangar_lock.specs.Places.{HasPassNumber, HaveAllOf, StandIn, StartsWith};
 
 use crate::desk::Desk;
 use crate::receipts::Receipt;
@@ -29,13 +29,13 @@ impl std::marker::Model for HangarLock {
     ghost use Rattle.aerie_base.specs.contracts.expressions.Expr as expr;
     ghost use Rattle.aerie_base.specs.contracts.conditions.Cond as cond;
     ghost use Rattle.aerie_base.specs.contracts.statements.Stmt as stmt;
-    ghost use Rattle.hangar_lock.specs.Passes.{LockView};
+    ghost use Rattle.hangar_lock.specs.Passes.{lock_view, LockView};
 
     ghost Value = { LockView };
 
     ghost coded = { Prim.hlevel (codes, expr.the_row.coded, cond.the_row.coded, stmt.the_row.coded) };
 
-    ghost view = { λ lock. record { id = lock.turns.table.shared.table_id; opened = lock.turns.table.shared.key.value } };
+    ghost view = { λ lock. lock_view lock.turns.table.shared.table_id lock.turns.table.shared.key.value };
 }
 
 /// What a caller knows of a lock: the first entries of its journal, and which of them are its own. It has no bytes.
@@ -97,7 +97,7 @@ impl HangarLock {
         requires own { pass.old.lock ≡ self.now }
         requires action { IsActionOn self.now.opened.workspace entry.action }
         ensures acted { IfOk result (λ receipt. HasActed pass.old entry receipt pass.new) }
-        ensures fetched { IfOk result (λ receipt. IsReplyOf self.now.opened.workspace.models self.now.opened.workspace.duration receipt.reply) }
+        ensures fetched { IfOk result (λ receipt. IsReplyIn self.now.opened.workspace receipt.reply) }
         ensures unheard { OnErr result (HasSeenMore pass.old pass.new) }
         ensures past { IsPast self.now.opened.workspace pass.new.seen }
     {
@@ -114,11 +114,8 @@ impl HangarLock {
         ensures new { IfOk result (λ new. new ≡ split_from pass.old) }
         ensures free { IsOk result }
     {
-        let seat = self
-            .turns
-            .table
-            .shared
-            .split_seat::<SplitSeat>(&mut pass.seat);
+        let table = &self.turns.table.shared;
+        let seat = table.split_seat::<SplitSeat>(&mut pass.seat);
         Ok(Pass { seat })
     }
 
@@ -129,10 +126,8 @@ impl HangarLock {
         ensures joined { pass.new ≡ joined_with pass.old other }
     {
         let Pass { seat } = other;
-        self.turns
-            .table
-            .shared
-            .join_seat::<JoinSeats>(&mut pass.seat, seat);
+        let table = &self.turns.table.shared;
+        table.join_seat::<JoinSeats>(&mut pass.seat, seat);
     }
 
     /// Ends the lock with its only pass, and gives the workspace and the journal. It takes no memory.
@@ -142,8 +137,8 @@ impl HangarLock {
         ensures seen { StartsWith result.1 pass.seen }
         ensures hangar { result.0.workspace ≡ after_entries self.opened.workspace result.1 }
         ensures past { IsPast self.opened.workspace result.1 }
-        ensures right { (place : ℕ) (told : ToldEntry) → HasPlace pass.mine place told → slice_get result.1 place ≡ Some told }
-        ensures all { (place : ℕ) (told : ToldEntry) → slice_get result.1 place ≡ Some told → HasPlace pass.mine place told }
+        ensures right { StandIn pass.mine result.1 }
+        ensures all { HaveAllOf pass.mine result.1 }
     {
         let HangarLock { turns } = self;
         let Turnstile { table } = turns;

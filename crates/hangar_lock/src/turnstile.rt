@@ -4,7 +4,7 @@ ghost use Rattle.std.specs.Prelude.{◌≡◌, ◌∷◌, [], ◌++◌, ◌%◌,
 ghost use Rattle.hangar_core.specs.Standing.{IsActionOn};
 ghost use Rattle.hangar_lock.specs.declared.desk.Desk.{Desk};
 ghost use Rattle.hangar_lock.specs.Desks.{IsDesk};
-ghost use Rattle.hangar_lock.specs.Steps.{CanLeave, HasEntered, IsIdle, HasTurn, IsWaiting, Works};
+ghost use Rattle.hangar_lock.specs.Steps.{CanLeave, HasDrawn, HasEntered, HasLeft, HasTaken, HasTurn, IsIdle, IsWaiting, Works};
 ghost use Rattle.hangar_lock.specs.Views.{leaving_with};
 
 use crate::desk::Desk;
@@ -33,7 +33,7 @@ impl Turnstile {
         requires own { seat.old.table_id ≡ self.now.table.shared.table_id }
         requires idle { IsIdle seat.old.me }
         ensures own { (seat.new.table_id ≡ seat.old.table_id) × (seat.new.id ≡ seat.old.id) }
-        ensures drawn { (k : ℕ) × (seat.new.me ≡ (record seat.old.me.0 { ticket = Some k }, seat.old.me.1)) × (k % 2 ^ 64 ≡ result) }
+        ensures drawn { HasDrawn seat.old.me seat.new.me result }
     {
         self.table.shared.fetch_add::<DrawTicket>(seat, TICKETS, 1)
     }
@@ -80,7 +80,7 @@ impl Turnstile {
         requires own { seat.old.table_id ≡ self.now.table.shared.table_id }
         requires holds { (desk : Desk) × (seat.old.me.1 ≡ (0, Some desk) ∷ []) }
         ensures own { (seat.new.table_id ≡ seat.old.table_id) × (seat.new.id ≡ seat.old.id) }
-        ensures taken { (seat.old.me.1 ≡ (0, Some result) ∷ []) × (seat.new.me ≡ (seat.old.me.0, (0, None) ∷ [])) }
+        ensures taken { HasTaken seat.old.me seat.new.me result }
     {
         match self.table.shared.exchange(seat, 0, None) {
             Some(desk) => desk,
@@ -103,7 +103,7 @@ impl Turnstile {
         requires own { seat.old.table_id ≡ self.now.table.shared.table_id }
         requires leaves { (desk : Desk) × CanLeave seat.old.me desk }
         ensures own { (seat.new.table_id ≡ seat.old.table_id) × (seat.new.id ≡ seat.old.id) }
-        ensures left { (desk : Desk) → seat.old.me.1 ≡ (0, Some desk) ∷ [] → seat.new.me ≡ (leaving_with seat.old.me.0 desk.journal, []) }
+        ensures left { HasLeft seat.old.me seat.new.me }
     {
         self.table.shared.fetch_add::<PassTurnOn>(seat, TURNS, 1);
     }

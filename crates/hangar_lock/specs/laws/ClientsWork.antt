@@ -29,7 +29,8 @@ CommandsHaveFewParts = (meanings : Meanings) (command : Command) (replies : List
 
 -- and where no action is next it is done
 abbrev pub CommandsEnd : Type 0
-CommandsEnd = (meanings : Meanings) (client number : ℕ) (command : Command) (before after : PassView) (replies : List Reply) →
+CommandsEnd = (meanings : Meanings) (client number : ℕ) (command : Command) (before after : PassView)
+    (replies : List Reply) →
     HasBegun meanings client number command before after replies → next_action meanings command replies ≡ None →
     HasDone meanings client number command before after
 
@@ -39,7 +40,8 @@ WorkBegins = (meanings : Meanings) (client : ℕ) (pass : PassView) → HasWorke
 
 -- the next command takes the work on
 abbrev pub WorkGoesOn : Type 0
-WorkGoesOn = (meanings : Meanings) (client number : ℕ) (commands : List Command) (none : Command) (before between after : PassView) →
+WorkGoesOn = (meanings : Meanings) (client number : ℕ) (commands : List Command) (none : Command)
+    (before between after : PassView) →
     number < length commands → HasWorked meanings client (take number commands) before between →
     HasDone meanings client number (slice_index_or commands number none) between after →
     HasWorked meanings client (take (number + 1) commands) before after

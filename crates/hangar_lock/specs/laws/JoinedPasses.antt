@@ -5,7 +5,7 @@ use Rattle.hangar_core.specs.declared.workspaces.Workspace.{Workspace}
 use Rattle.hangar_core.specs.Fits.{commands_of, Fits, Meanings}
 use Rattle.hangar_core.specs.Journals.{Entries, IsReplay}
 use Rattle.hangar_lock.specs.Passes.{IsWhole, joined_with, PassView}
-use Rattle.hangar_lock.specs.Places.{HasPlace, Places, ToldEntry}
+use Rattle.hangar_lock.specs.Places.{HaveAllOf, Places, StandIn}
 use Rattle.hangar_lock.specs.Works.{HasWorked}
 
 -- a client's commands were done with a pass, and nothing else
@@ -27,11 +27,10 @@ all_mine (pass ∷ passes) = pass.mine ++ all_mine passes
 
 -- where a journal is a replay whose places are exactly those of the passes, one for each client's work, it fits
 abbrev pub JoinedPassesFit : Type 0
-JoinedPassesFit = (meanings : Meanings) (opened : Workspace) (clients : List (List Command)) (passes : List PassView) (journal : Entries) →
+JoinedPassesFit = (meanings : Meanings) (opened : Workspace) (clients : List (List Command))
+    (passes : List PassView) (journal : Entries) →
     AreWorked meanings clients passes → IsReplay opened journal →
-    ((place : ℕ) (told : ToldEntry) → HasPlace (all_mine passes) place told → slice_get journal place ≡ Some told) →
-    ((place : ℕ) (told : ToldEntry) → slice_get journal place ≡ Some told → HasPlace (all_mine passes) place told) →
-    Fits meanings opened clients journal
+    StandIn (all_mine passes) journal → HaveAllOf (all_mine passes) journal → Fits meanings opened clients journal
 
 -- ---- passes split from the first one, and joined into it again
 
@@ -53,7 +52,9 @@ pub record AreOfOneLock (first : PassView) (passes : List PassView) : Type 0 whe
 
 -- it is whole when all are joined into it, and what was done with them is what was done with it
 abbrev pub JoinedPassesAreWhole : Type 0
-JoinedPassesAreWhole = (first : PassView) (passes : List PassView) → AreOfOneLock first passes → IsWhole (joined_with_all first passes)
+JoinedPassesAreWhole = (first : PassView) (passes : List PassView) →
+    AreOfOneLock first passes → IsWhole (joined_with_all first passes)
 
 abbrev pub JoinedPassesHaveAll : Type 0
-JoinedPassesHaveAll = (first : PassView) (passes : List PassView) → (joined_with_all first passes).mine ≡ first.mine ++ all_mine passes
+JoinedPassesHaveAll = (first : PassView) (passes : List PassView) →
+    (joined_with_all first passes).mine ≡ first.mine ++ all_mine passes
