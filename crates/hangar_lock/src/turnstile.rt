@@ -9,7 +9,7 @@ ghost use Rattle.hangar_lock.specs.Views.{leaving_with};
 
 use crate::desk::Desk;
 use crate::receipts::Receipt;
-use crate::rule::{DrawTicket, LookAtTurn, PassTurnOn, PassSeat, TurnTable};
+use crate::rule::{DrawTicket, LookAtTurn, PassSeat, PassTurnOn, TurnTable};
 use aerie_base::OutOfMemory;
 use hangar_core::Entry;
 use std::alloc::Global;
