@@ -27,7 +27,7 @@ use Rattle.run_data.specs.Transitions.{Next, more, finished, begins, onward}
 use Rattle.run_data.specs.laws.BatchFrames.{AnyFrame, HasPath, OfReady, OfChild, AreFramesOf, BatchFrames}
 use Rattle.run_data.specs.laws.Orders.{EachOf}
 use Rattle.run_data.specs.laws.OrderedTables.{PutIsThere}
-use Rattle.planned_spans.specs.PlannedSpans.{Among, IsSpanOf, PlannedHaveSpans}
+use Rattle.planned_spans.specs.PlannedSpans.{IsOneOf, IsSpanOf, PlannedHaveSpans}
 use Rattle.planned_spans.proofs.MadeFrames.{has_frame}
 use Rattle.planned_spans.proofs.Paths.{same_itself, same_is}
 use Rattle.planned_spans.proofs.PlannedTasks.{HasPhase, phase_changed, ready_has_job, least_is_upto, after_no_frame, planned_put}
@@ -303,7 +303,7 @@ module _ (model : Parts) (plan : Plan) (bound : ℕ) (path : List ℕ) (at_time 
     next_stage : (at : SimulationState) (jobs : List (ℕ × Job)) → IsReached model plan bound (more at) → ready_jobs at.cells at.table ≡ jobs → Stage at → GoesWell (next_by model plan bound at jobs)
     next_stage at [] reached e stage =
         judged_stage at (ready_jobs at.cells (on_each (woken at.cells) at.table)) stage
-        (λ has. let job = ready_has_job at.cells path state at.table has in subst (λ (jobs : List (ℕ × Job)). Among job.0 jobs) e job.1)
+        (λ has. let job = ready_has_job at.cells path state at.table has in subst (λ (jobs : List (ℕ × Job)). IsOneOf job.0 jobs) e job.1)
     next_stage at (job ∷ rest) reached e stage =
         outcome_stage at (batch model bound at.spent at.cells (job ∷ rest)) reached (ap (batch model bound at.spent at.cells) e) stage
 
@@ -319,13 +319,13 @@ both true true h = (refl, refl)
 both true false h = absurd (cc)
 both false b h = absurd (cc)
 
-passes : (test : Directive → Bool) (directive : Directive) (directives : List Directive) → IsTrue (list_all test directives) → Among directive directives → IsTrue (test directive)
+passes : (test : Directive → Bool) (directive : Directive) (directives : List Directive) → IsTrue (list_all test directives) → IsOneOf directive directives → IsTrue (test directive)
 passes test directive [] all among = absurd among
 passes test directive (first ∷ rest) all (inl same) = subst (λ (d : Directive). IsTrue (test d)) same (both (test first) (list_all test rest) all).0
 passes test directive (first ∷ rest) all (inr among) = passes test directive rest (both (test first) (list_all test rest) all).1 among
 
 module _ (put : PutIsThere) (batch_frames : BatchFrames) (model : Parts) (plan : Plan) (bound : ℕ) (directive : Directive)
-    (valid : IsTrue (valid_model model)) (of : IsPlanOf model plan) (among : Among directive plan.directives) (loose : directive.anchor ≡ None) where
+    (valid : IsTrue (valid_model model)) (of : IsPlanOf model plan) (among : IsOneOf directive plan.directives) (loose : directive.anchor ≡ None) where
   abbrev begins_in : TaskState
   begins_in = activity_begun model directive.kind directive.arguments
 
@@ -356,7 +356,7 @@ module _ (put : PutIsThere) (batch_frames : BatchFrames) (model : Parts) (plan :
           (phase_changed (rested 0) (root directive.id) (with_directives model plan.directives daemons_in) (delayed directive.start begins_in) (delayed directive.start begins_in)
           (λ where_ task is. ap (rested_phase 0) is ∙ ap (λ (b : Bool). if b then ready begins_in else delayed directive.start begins_in) e) planned_there)
 
-  pub has_span : (run : Run) → IsFresh model plan bound run → run.outcome ≡ Completed → (span : SpanOf) × Among span (spans_of model run) × IsSpanOf directive span
+  pub has_span : (run : Run) → IsFresh model plan bound run → run.outcome ≡ Completed → (span : SpanOf) × IsOneOf span (spans_of model run) × IsSpanOf directive span
   has_span run fresh completed =
       let begun_there = stands model plan bound (root directive.id) directive.start begins_in put batch_frames valid of (ltb-true directive.start plan.duration good_parts.1) first_stage (finished run) fresh completed in
       let frame = begun_there.0 in

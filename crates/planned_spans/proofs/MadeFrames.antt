@@ -12,7 +12,7 @@ use Rattle.run_data.specs.Batches.{Batch, limit, failed, committed, Blame, unles
 use Rattle.run_data.specs.Frames.{Made, Making, with_child, with_frame, frame_of, job_step, of_items, of_step, too_deep, made_within, made_by, made_by_all, room_of}
 use Rattle.run_data.specs.Steps.{Stepped}
 use Rattle.run_data.specs.laws.BatchFrames.{AnyFrame, HasPath}
-use Rattle.planned_spans.specs.PlannedSpans.{Among}
+use Rattle.planned_spans.specs.PlannedSpans.{IsOneOf}
 
 -- ---- some frame of several
 
@@ -74,15 +74,15 @@ parts_of None rest made e = absurd (cc)
 parts_of (Some child) None made e = absurd (cc)
 parts_of (Some child) (Some rest) made e = (child, rest, refl, refl, sym (ap frames_in e))
 
-own_of_all : (model : Parts) (budget : ℕ) (jobs : List (ℕ × Job)) (made : Made) (job : ℕ × Job) → made_by_all model budget jobs ≡ Some made → Among job jobs →
+own_of_all : (model : Parts) (budget : ℕ) (jobs : List (ℕ × Job)) (made : Made) (job : ℕ × Job) → made_by_all model budget jobs ≡ Some made → IsOneOf job jobs →
     HasPath job.1.path made.frames
 own_of_all model budget [] made job e among = absurd among
 own_of_all model budget (first ∷ rest) made job e among =
     by among (parts_of (made_by model budget first) (made_by_all model budget rest) made e) (λ others is further. own_of_all model budget rest others job is further)
   where
-    by : Among job (first ∷ rest) →
+    by : IsOneOf job (first ∷ rest) →
         (one : Made) × (others : Made) × (made_by model budget first ≡ Some one) × (made_by_all model budget rest ≡ Some others) × (made.frames ≡ one.frames ++ others.frames) →
-        ((others : Made) → made_by_all model budget rest ≡ Some others → Among job rest → HasPath job.1.path others.frames) →
+        ((others : Made) → made_by_all model budget rest ≡ Some others → IsOneOf job rest → HasPath job.1.path others.frames) →
         HasPath job.1.path made.frames
     by (inl same) parts others =
         let own : HasPath first.1.path parts.0.frames = own_within model budget (room_of first.1.path) first.0 first.1 parts.0 parts.2 in
@@ -118,7 +118,7 @@ module _ (bound spent : ℕ) (before cells : List CellState) (touched : List ℕ
   by_making None e = absurd (cc)
   by_making (Some made) e = (made, refl, by_cost (if nat_lt bound (spent + cost_of made.frames) then false else true) made e)
 
-  pub has_frame : (model : Parts) (jobs : List (ℕ × Job)) (job : ℕ × Job) → batch model bound spent before jobs ≡ committed cells touched frames → Among job jobs → HasPath job.1.path frames
+  pub has_frame : (model : Parts) (jobs : List (ℕ × Job)) (job : ℕ × Job) → batch model bound spent before jobs ≡ committed cells touched frames → IsOneOf job jobs → HasPath job.1.path frames
   has_frame model jobs job e among =
       let found = by_making (made_by_all model bound jobs) e in
       subst (λ frames. HasPath job.1.path frames) found.2

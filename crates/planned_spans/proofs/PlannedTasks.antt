@@ -16,7 +16,7 @@ use Rattle.run_data.specs.TaskStates.{activity_begun}
 use Rattle.run_data.specs.Tasks.{TaskPhase, anchored, ready, delayed, waiting, calling, over, Task, Table, task_at, with_task, on_each, planned, with_directives, ready_jobs, job_if_ready, after_frame, after_frames, task_after, children_made, children_in}
 use Rattle.run_data.specs.laws.BatchFrames.{HasPath}
 use Rattle.run_data.specs.laws.OrderedTables.{PutIsThere}
-use Rattle.planned_spans.specs.PlannedSpans.{Among}
+use Rattle.planned_spans.specs.PlannedSpans.{IsOneOf}
 use Rattle.planned_spans.proofs.Paths.{at_same, at_itself}
 
 -- a task with this phase stands at a path
@@ -48,14 +48,14 @@ phase_changed change path table phase next changes has =
 
 -- a ready task has its job
 pub ready_has_job : (cells : List CellState) (path : List ℕ) (state : TaskState) (table : Table) → HasPhase table path (ready state) →
-    (job : ℕ × Job) × Among job (ready_jobs cells table) × (job.1.path ≡ path)
+    (job : ℕ × Job) × IsOneOf job (ready_jobs cells table) × (job.1.path ≡ path)
 ready_has_job cells path state table has = go table has.task has.there has.is
   where
-    go : (table : Table) (task : Task) → task_at table path ≡ Some task → task.phase ≡ ready state → (job : ℕ × Job) × Among job (ready_jobs cells table) × (job.1.path ≡ path)
+    go : (table : Table) (task : Task) → task_at table path ≡ Some task → task.phase ≡ ready state → (job : ℕ × Job) × IsOneOf job (ready_jobs cells table) × (job.1.path ≡ path)
     go [] task there is = absurd (cc)
     go (entry ∷ rest) task there is = by (is_at (path_cmp path) entry.0) refl there (go rest task)
       where
-        later : (phase : TaskPhase) → (job : ℕ × Job) → Among job (ready_jobs cells rest) → Among job (job_if_ready cells entry.0 entry.1 phase (ready_jobs cells rest))
+        later : (phase : TaskPhase) → (job : ℕ × Job) → IsOneOf job (ready_jobs cells rest) → IsOneOf job (job_if_ready cells entry.0 entry.1 phase (ready_jobs cells rest))
         later (ready state) job among = inr among
         later (anchored to edge start state) job among = among
         later (delayed until state) job among = among
@@ -64,14 +64,14 @@ ready_has_job cells path state table has = go table has.task has.there has.is
         later (over result) job among = among
 
         by : (here : Bool) → is_at (path_cmp path) entry.0 ≡ here → cond here (Some entry.1) (task_at rest path) ≡ Some task →
-            (task_at rest path ≡ Some task → task.phase ≡ ready state → (job : ℕ × Job) × Among job (ready_jobs cells rest) × (job.1.path ≡ path)) →
-            (job : ℕ × Job) × Among job (ready_jobs cells (entry ∷ rest)) × (job.1.path ≡ path)
+            (task_at rest path ≡ Some task → task.phase ≡ ready state → (job : ℕ × Job) × IsOneOf job (ready_jobs cells rest) × (job.1.path ≡ path)) →
+            (job : ℕ × Job) × IsOneOf job (ready_jobs cells (entry ∷ rest)) × (job.1.path ≡ path)
         by true at e further =
             let same : entry.1 ≡ task = cc in
             let phase : entry.1.phase ≡ ready state = ap (λ (t : Task). t.phase) same ∙ is in
             let job : ℕ × Job = (entry.1.made, record { path = entry.0; state = state; view = cells }) in (
               job,
-              subst (λ (p : TaskPhase). Among job (job_if_ready cells entry.0 entry.1 p (ready_jobs cells rest))) (sym phase) (inl refl),
+              subst (λ (p : TaskPhase). IsOneOf job (job_if_ready cells entry.0 entry.1 p (ready_jobs cells rest))) (sym phase) (inl refl),
               sym (at_same path entry.0 at),
             )
         by false at e further = let found = further e is in (found.0, later entry.1.phase found.0 found.1, found.2)
@@ -164,7 +164,7 @@ module _ (put : PutIsThere) where
       ∙ put_elsewhere table (root id) (root directive.id) _ (λ e. none.0 (root_same id directive.id e))
 
   pub planned_put : (model : Parts) (next before : ℕ) (directive : Directive) (directives : List Directive) (table : Table) → rise_to next before (ids_of directives) ≡ true →
-      Among directive directives → directive.anchor ≡ None →
+      IsOneOf directive directives → directive.anchor ≡ None →
       HasPhase (with_directives model directives table) (root directive.id) (delayed directive.start (activity_begun model directive.kind directive.arguments))
   planned_put model next before directive [] table rise among loose = absurd among
   planned_put model next before directive (first ∷ rest) table rise (inl same) loose =

@@ -17,7 +17,7 @@ use Rattle.run_data.specs.declared.tasks.BodyId.TheVariants as body
 use Rattle.run_data.specs.declared.runs.Run.{Run}
 use Rattle.run_data.specs.Spans.{SpanOf, Timed, is_of_path, task_ended, span_if, span_of_body, spans_from, put_span, sorted_spans, spans_of, comes_first, parameters_of, timed}
 use Rattle.run_data.specs.TaskStates.{activity_begun}
-use Rattle.planned_spans.specs.PlannedSpans.{Among}
+use Rattle.planned_spans.specs.PlannedSpans.{IsOneOf}
 use Rattle.planned_spans.proofs.Paths.{same_is}
 
 -- the first frame of a path
@@ -27,29 +27,29 @@ first_of path (entry ∷ rest) = if is_of_path path entry then Some entry else f
 
 -- ---- one of these
 
-among_front : {A : Type 0} (item : A) (items others : List A) → Among item items → Among item (items ++ others)
+among_front : {A : Type 0} (item : A) (items others : List A) → IsOneOf item items → IsOneOf item (items ++ others)
 among_front item [] others among = absurd among
 among_front item (first ∷ rest) others (inl e) = inl e
 among_front item (first ∷ rest) others (inr among) = inr (among_front item rest others among)
 
-among_back : {A : Type 0} (item : A) (items others : List A) → Among item others → Among item (items ++ others)
+among_back : {A : Type 0} (item : A) (items others : List A) → IsOneOf item others → IsOneOf item (items ++ others)
 among_back item [] others among = among
 among_back item (first ∷ rest) others among = inr (among_back item rest others among)
 
 -- ---- in order
 
-among_put : (span one : SpanOf) (spans : List SpanOf) → Among span (one ∷ spans) → Among span (put_span one spans)
+among_put : (span one : SpanOf) (spans : List SpanOf) → IsOneOf span (one ∷ spans) → IsOneOf span (put_span one spans)
 among_put span one [] among = among
 among_put span one (first ∷ rest) among = by (comes_first one first) among (among_put span one rest)
   where
-    by : (before : Bool) → Among span (one ∷ first ∷ rest) → (Among span (one ∷ rest) → Among span (put_span one rest)) →
-        Among span (if before then one ∷ first ∷ rest else first ∷ put_span one rest)
+    by : (before : Bool) → IsOneOf span (one ∷ first ∷ rest) → (IsOneOf span (one ∷ rest) → IsOneOf span (put_span one rest)) →
+        IsOneOf span (if before then one ∷ first ∷ rest else first ∷ put_span one rest)
     by true among further = among
     by false (inl e) further = inr (further (inl e))
     by false (inr (inl e)) further = inl e
     by false (inr (inr among)) further = inr (further (inr among))
 
-among_sorted : (span : SpanOf) (spans : List SpanOf) → Among span spans → Among span (sorted_spans spans)
+among_sorted : (span : SpanOf) (spans : List SpanOf) → IsOneOf span spans → IsOneOf span (sorted_spans spans)
 among_sorted span [] among = absurd among
 among_sorted span (first ∷ rest) (inl e) = among_put span first (sorted_spans rest) (inl e)
 among_sorted span (first ∷ rest) (inr among) = among_put span first (sorted_spans rest) (inr (among_sorted span rest among))
@@ -61,24 +61,24 @@ module _ (all : List Timed) (model : Parts) (path : List ℕ) (time kind : ℕ) 
   begun_span = span_if (task_ended all frame.path) all model time frame kind
 
   at_first : (before : List Timed) → list_any (is_of_path path) before ≡ false → path ≡ frame.path →
-      Among begun_span (if list_any (is_of_path frame.path) before then [] else span_of_body all model time frame frame.before.kind)
+      IsOneOf begun_span (if list_any (is_of_path frame.path) before then [] else span_of_body all model time frame frame.before.kind)
   at_first before none same =
-      subst (λ (p : List ℕ). Among begun_span (if list_any (is_of_path p) before then [] else span_of_body all model time frame frame.before.kind)) same
-      (subst (λ (b : Bool). Among begun_span (if b then [] else span_of_body all model time frame frame.before.kind)) (sym none)
-      (subst (λ (k : BodyId). Among begun_span (span_of_body all model time frame k)) (sym begins) (inl refl)))
+      subst (λ (p : List ℕ). IsOneOf begun_span (if list_any (is_of_path p) before then [] else span_of_body all model time frame frame.before.kind)) same
+      (subst (λ (b : Bool). IsOneOf begun_span (if b then [] else span_of_body all model time frame frame.before.kind)) (sym none)
+      (subst (λ (k : BodyId). IsOneOf begun_span (span_of_body all model time frame k)) (sym begins) (inl refl)))
 
   among_from : (before entries : List Timed) → list_any (is_of_path path) before ≡ false → first_of path entries ≡ Some (time, frame) →
-      Among begun_span (spans_from all model before entries)
+      IsOneOf begun_span (spans_from all model before entries)
   among_from before [] none first = absurd (cc)
   among_from before (entry ∷ rest) none first = by (is_of_path path entry) refl first (among_from (entry ∷ before) rest)
     where
       by : (of : Bool) → is_of_path path entry ≡ of → (if of then Some entry else first_of path rest) ≡ Some (time, frame) →
-          (list_any (is_of_path path) (entry ∷ before) ≡ false → first_of path rest ≡ Some (time, frame) → Among begun_span (spans_from all model (entry ∷ before) rest)) →
-          Among begun_span (spans_from all model before (entry ∷ rest))
+          (list_any (is_of_path path) (entry ∷ before) ≡ false → first_of path rest ≡ Some (time, frame) → IsOneOf begun_span (spans_from all model (entry ∷ before) rest)) →
+          IsOneOf begun_span (spans_from all model before (entry ∷ rest))
       by true of e further =
           let same : entry ≡ (time, frame) = cc in
           among_front begun_span _ (spans_from all model (entry ∷ before) rest)
-          (subst (λ (x : Timed). Among begun_span (if list_any (is_of_path x.1.path) before then [] else span_of_body all model x.0 x.1 x.1.before.kind)) (sym same)
+          (subst (λ (x : Timed). IsOneOf begun_span (if list_any (is_of_path x.1.path) before then [] else span_of_body all model x.0 x.1 x.1.before.kind)) (sym same)
           (at_first before none (same_is path frame.path (ap (is_of_path path) (sym same) ∙ of))))
       by false of e further =
           among_back begun_span _ (spans_from all model (entry ∷ before) rest)
@@ -87,7 +87,7 @@ module _ (all : List Timed) (model : Parts) (path : List ℕ) (time kind : ℕ) 
 -- the task has its span among those of the run
 pub begun_has_span : (model : Parts) (run : Run) (path : List ℕ) (time kind : ℕ) (frame : Frame) → frame.before.kind ≡ body.Activity kind →
     first_of path (timed run.instants) ≡ Some (time, frame) →
-    Among (span_if (task_ended (timed run.instants) frame.path) (timed run.instants) model time frame kind) (spans_of model run)
+    IsOneOf (span_if (task_ended (timed run.instants) frame.path) (timed run.instants) model time frame kind) (spans_of model run)
 begun_has_span model run path time kind frame begins first =
     among_sorted _ (spans_from (timed run.instants) model [] (timed run.instants))
     (among_from (timed run.instants) model path time kind frame begins [] (timed run.instants) refl first)

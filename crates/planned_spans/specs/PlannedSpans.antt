@@ -12,9 +12,9 @@ use Rattle.run_data.specs.Fresh.{IsFresh}
 use Rattle.run_data.specs.Spans.{SpanOf, spans_of}
 
 -- one of these
-abbrev pub Among : {A : Type 0} → A → List A → Type 0
-Among item [] = ⊥
-Among item (first ∷ rest) = (first ≡ item) ⊎ Among item rest
+abbrev pub IsOneOf : {A : Type 0} → A → List A → Type 0
+IsOneOf item [] = ⊥
+IsOneOf item (first ∷ rest) = (first ≡ item) ⊎ IsOneOf item rest
 
 -- a span is that of a directive without an anchor: it starts where the directive stands
 pub record IsSpanOf (directive : Directive) (span : SpanOf) : Type 0 where
@@ -27,5 +27,5 @@ pub record IsSpanOf (directive : Directive) (span : SpanOf) : Type 0 where
 abbrev pub PlannedHaveSpans : Type 0
 PlannedHaveSpans =
     (model : Parts) (plan : Plan) (bound : ℕ) (run : Run) (directive : Directive) → IsTrue (valid_model model) → IsPlanOf model plan →
-    IsFresh model plan bound run → run.outcome ≡ Completed → Among directive plan.directives → directive.anchor ≡ None →
-    (span : SpanOf) × Among span (spans_of model run) × IsSpanOf directive span
+    IsFresh model plan bound run → run.outcome ≡ Completed → IsOneOf directive plan.directives → directive.anchor ≡ None →
+    (span : SpanOf) × IsOneOf span (spans_of model run) × IsSpanOf directive span
