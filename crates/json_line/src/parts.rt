@@ -47,11 +47,7 @@ impl JsonLine {
 
     /// A member whose value is a text that is put together of parts.
     #[tactic(auto, unfolding(crate::specs::Parts::member_tokens))]
-    pub fn text_member_of<T: JsonText>(
-        &mut self,
-        name: &str,
-        value: &T,
-    ) -> Result<(), OutOfMemory>
+    pub fn text_member_of<T: JsonText>(&mut self, name: &str, value: &T) -> Result<(), OutOfMemory>
         ensures { OnOk result (self.new ≡ self.old ++ member_tokens name.now (string (T.as_text value.now))) }
     {
         self.key(name)?;

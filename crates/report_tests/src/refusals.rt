@@ -41,10 +41,7 @@ fn refusals(rt: HostRuntime) {
         "{\"refused\":{\"name\":\"Words\"}}\n",
     );
     let mut unknown = bare(&rt, alloc, "Unknown");
-    unknown.place = Some(Place {
-        line: 3,
-        column: 7,
-    });
+    unknown.place = Some(Place { line: 3, column: 7 });
     unknown.word = Some(text(&rt, alloc, "\"a\""));
     told(
         &rt,

@@ -162,9 +162,10 @@ module _ (first next : ℕ) (all : List Directive) (rise : IsTrue (rise_to next 
 
   each_in : (directives : List Directive) → ((id : ℕ) → IsTrue (list_any (nat_eq id) (ids_of directives)) → IsIn id) → AreIn directives
   each_in [] more = tt
-  each_in (directive ∷ rest) more =
-      (more directive.id (in_front directive.id (ids_of rest) (nat_eq directive.id directive.id) (eq-eqb directive.id directive.id refl)),
-      each_in rest (λ id is. more id (or_there (nat_eq id directive.id) (list_any (nat_eq id) (ids_of rest)) is)))
+  each_in (directive ∷ rest) more = (
+    more directive.id (in_front directive.id (ids_of rest) (nat_eq directive.id directive.id) (eq-eqb directive.id directive.id refl)),
+    each_in rest (λ id is. more id (or_there (nat_eq id directive.id) (list_any (nat_eq id) (ids_of rest)) is)),
+  )
 
   all_in : AreIn all
   all_in = each_in all (λ id is. is)

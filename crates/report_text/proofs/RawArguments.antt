@@ -232,9 +232,10 @@ module _ (enums : List EnumType) where
     known_from : (parameters : List Parameter) (at : ℕ) → IsTrue (are_distinct (names_of all)) → ((k : ℕ) → slice_get all (at + k) ≡ slice_get parameters k) → AreKnown parameters
     known_from [] at distinct is = tt
     known_from (parameter ∷ rest) at distinct is =
-        let here : slice_get all at ≡ Some parameter = ap (slice_get all) (no_more at) ∙ is 0 in
-        (ap (option_and_then (slice_get all)) (position_is (λ (other : Parameter). same_name other.name parameter.name) all ∙ place_of_name (λ (other : Parameter). other.name) all at parameter distinct here) ∙ here,
-        known_from rest (at + 1) distinct (λ k. ap (slice_get all) (one_on at k) ∙ is (suc k)))
+        let here : slice_get all at ≡ Some parameter = ap (slice_get all) (no_more at) ∙ is 0 in (
+          ap (option_and_then (slice_get all)) (position_is (λ (other : Parameter). same_name other.name parameter.name) all ∙ place_of_name (λ (other : Parameter). other.name) all at parameter distinct here) ∙ here,
+          known_from rest (at + 1) distinct (λ k. ap (slice_get all) (one_on at k) ∙ is (suc k)),
+        )
       where
         no_more : (at : ℕ) → at ≡ at + 0
         no_more at = omega arith

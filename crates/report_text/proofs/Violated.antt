@@ -22,3 +22,12 @@ module _ {A : Type 0} (form : A → List Data) (all : List A) where
       ∙ ap (λ (a : A). line ++ listed_tokens (form a ++ flat_map form (drop (at + 1) all))) is
       ∙ ap (λ (k : ℕ). line ++ listed_tokens (form (get_or all at one) ++ flat_map form (drop k all))) (sym one_on)
       ∙ ap (λ (left : List A). line ++ listed_tokens (flat_map form left)) (sym (drop-cons all at one within))
+
+  -- nothing is left
+  pub ends : (line whole : List Token) (at : ℕ) → at ≤ length all → length all ≤ at → with_left line at ≡ whole → line ≡ whole
+  unfolding listed_tokens
+  ends line whole at below above so_far =
+      let end : at ≡ length all = omega (arith, below, above) in
+      sym (append-nil line)
+      ∙ ap (λ (left : List A). line ++ listed_tokens (flat_map form left)) (sym (ap (λ (k : ℕ). drop k all) end ∙ drop-length all))
+      ∙ so_far

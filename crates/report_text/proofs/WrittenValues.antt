@@ -182,13 +182,14 @@ module _ (enums : List EnumType) (good : IsTrue (list_all is_enum enums)) (free 
       let there = found.1.1.1 in
       let is = enum_is at enum here in
       let word = written_word at number enum variant here there in
-      let free_variant = each_is is_free_name enum.variants number variant is.variants there in
-      (ap (λ (xs : List ℕ). variant_of_word xs) word
-      ∙ ap (λ (t : Bool). if t then Some (raw.Word (written_variant enum variant)) else None) (variant_text enum.name variant is.name free_variant)
-      ∙ ap (λ (xs : List ℕ). Some (raw.Word xs)) (sym word),
-      ap (λ (xs : List ℕ). option_map (value.Variant at) (variant_written (slice_get enums at) xs)) word
-      ∙ ap (λ (o : Option EnumType). option_map (value.Variant at) (variant_written o (written_variant enum variant))) here
-      ∙ ap (option_map (value.Variant at)) (variant_found enum number variant is there))
+      let free_variant = each_is is_free_name enum.variants number variant is.variants there in (
+        ap (λ (xs : List ℕ). variant_of_word xs) word
+            ∙ ap (λ (t : Bool). if t then Some (raw.Word (written_variant enum variant)) else None) (variant_text enum.name variant is.name free_variant)
+            ∙ ap (λ (xs : List ℕ). Some (raw.Word xs)) (sym word),
+        ap (λ (xs : List ℕ). option_map (value.Variant at) (variant_written (slice_get enums at) xs)) word
+            ∙ ap (λ (o : Option EnumType). option_map (value.Variant at) (variant_written o (written_variant enum variant))) here
+            ∙ ap (option_map (value.Variant at)) (variant_found enum number variant is there),
+      )
 
   pub value_read : (of : Kind) (given : Value) → IsTrue (is_value_of enums of given) → IsWritten of given
   value_read of given good = go of given (both (same_kind (value_kind given) of) (is_value enums given) good)

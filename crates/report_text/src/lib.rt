@@ -34,4 +34,3 @@ pub use refusals::{Refusal, refusal_line};
 pub use span_lines::{Calendar, write_spans};
 pub use violation_lines::write_violations;
 pub use wordings::Wording;
-

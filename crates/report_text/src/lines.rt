@@ -117,7 +117,9 @@ pub fn reply_line(
     ensures { IfOk result (λ line. string_bytes line ≡ line_of (reply_data client.now command branch.now model.now named reply.now)) }
 {
     let mut line = JsonLine::new(alloc);
-    write_line(&mut line, alloc, client, command, branch, model, named, reply)?;
+    write_line(
+        &mut line, alloc, client, command, branch, model, named, reply,
+    )?;
     line.finish()
 }
 

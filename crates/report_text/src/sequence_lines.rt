@@ -13,17 +13,17 @@ use aerie_base::{Name, OutOfMemory, Time};
 use json_line::{JsonData, JsonIn, JsonLine};
 use seq_expand::Sent;
 
-/// A time as a command has it.
+/// The time of a command.
 #[derive(Drop)]
-struct SentTime {
-    at: i64,
+struct SentTime<'b> {
+    sent: &'b Sent,
 }
 
-impl<'a> JsonIn<Calendar<'a>> for SentTime {
-    ghost data_in = { λ calendar time. utc_data calendar.start time.at };
+impl<'a, 'b> JsonIn<Calendar<'a>> for SentTime<'b> {
+    ghost data_in = { λ calendar time. utc_data calendar.start time.sent.now.at };
 
     fn write_in(&self, calendar: &Calendar<'a>, line: &mut JsonLine) -> Result<(), OutOfMemory> {
-        match Time::new(self.at) {
+        match Time::new(self.sent.at) {
             Some(time) => line.text_of(&Utc {
                 start: &calendar.start,
                 time,
@@ -43,7 +43,7 @@ impl<'a> JsonIn<Calendar<'a>> for Sent {
         line.member("at", &self.at)?;
         line.member("name", &self.name)?;
         line.member("path", &self.path)?;
-        line.member_in("utc", calendar, &SentTime { at: self.at })?;
+        line.member_in("utc", calendar, &SentTime { sent: self })?;
         line.end_object()
     }
 }
