@@ -1,0 +1,9 @@
+pub mod FreeTimes
+pub mod MergedGaps
+pub mod Rising
+pub mod SameValues
+pub mod SortedAnchors
+pub mod Spreading
+pub mod ReadTemplates
+pub mod ReadGoals
+pub mod ArgumentsInTurn
