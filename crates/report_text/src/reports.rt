@@ -91,8 +91,29 @@ pub(crate) fn write_report<'a>(
     requires report { IsReportOf calendar.now.wording report.now }
     ensures { OnOk result (line.new ≡ line.old ++ data_tokens (report_data branch.now calendar.now.wording named report.now)) }
 {
-    let wording = &calendar.wording;
     let run = report.run.get().run();
+    let constraints = report.constraints.get().as_slice();
+    write_found(line, calendar, branch, named, report, run, constraints)
+}
+
+/// The same by the run and the constraints of the report.
+fn write_found<'a>(
+    line: &mut JsonLine,
+    calendar: &Calendar<'a>,
+    branch: &Name,
+    named: bool,
+    report: &Report,
+    run: &Run,
+    constraints: &[Constraint],
+) -> Result<(), OutOfMemory>
+    requires start { calendar.now.start ≡ report.now.start }
+    requires run { run.now ≡ report.now.run.run }
+    requires constraints { constraints.now ≡ report.now.constraints }
+    requires fresh { IsFresh calendar.now.wording run.now.plan run.now.bound run.now }
+    requires all { IsTrue (list_all (is_constraint calendar.now.wording) constraints.now) }
+    ensures { OnOk result (line.new ≡ line.old ++ data_tokens (report_data branch.now calendar.now.wording named report.now)) }
+{
+    let wording = &calendar.wording;
     line.begin_object()?;
     line.member("attached", &report.attached)?;
     line.member("branch", branch)?;
@@ -103,6 +124,6 @@ pub(crate) fn write_report<'a>(
     line.member("revision", &report.revision)?;
     write_spans_member(line, calendar, run)?;
     line.member_if("statements", &report.statements)?;
-    write_violations_member(line, wording, run, report.constraints.get().as_slice())?;
+    write_violations_member(line, wording, run, constraints)?;
     line.end_object()
 }

@@ -11,6 +11,7 @@ use crate::span_lines::{Calendar, Utc};
 use crate::wordings::Wording;
 use aerie_base::{Name, OutOfMemory, Time};
 use json_line::{JsonData, JsonIn, JsonLine};
+use run_data::Run;
 use seq_expand::Sent;
 
 /// The time of a command.
@@ -72,14 +73,29 @@ pub(crate) fn write_sequence<'a>(
     requires { calendar.now.start ≡ report.now.start }
     ensures { OnOk result (line.new ≡ line.old ++ data_tokens (sequence_data branch.now calendar.now.wording report.now)) }
 {
+    let run = report.run.get().run();
+    write_expanded(line, calendar, branch, report, run)
+}
+
+/// The same by the run of the report.
+fn write_expanded<'a>(
+    line: &mut JsonLine,
+    calendar: &Calendar<'a>,
+    branch: &Name,
+    report: &SequenceReport,
+    run: &Run,
+) -> Result<(), OutOfMemory>
+    requires start { calendar.now.start ≡ report.now.start }
+    requires run { run.now ≡ report.now.run.run }
+    ensures { OnOk result (line.new ≡ line.old ++ data_tokens (sequence_data branch.now calendar.now.wording report.now)) }
+{
     let wording = &calendar.wording;
-    let sequence = &report.sequence;
     line.begin_object()?;
     line.member("branch", branch)?;
-    line.member("close", &sequence.close)?;
-    line.member_in("commands", calendar, &sequence.commands)?;
-    line.member_in("outcome", wording, &report.run.get().run().outcome)?;
-    line.member_in("outside", wording, &sequence.outside)?;
+    line.member("close", &report.sequence.close)?;
+    line.member_in("commands", calendar, &report.sequence.commands)?;
+    line.member_in("outcome", wording, &run.outcome)?;
+    line.member_in("outside", wording, &report.sequence.outside)?;
     line.member("revision", &report.revision)?;
     line.end_object()
 }
