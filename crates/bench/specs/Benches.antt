@@ -21,7 +21,7 @@ pub record IsSameBench (before after : BenchOf) : Type 0 where
   pub model_at : after.model_at ≡ before.model_at
 
 -- a kept run of a plan that is of the bench's model and was made under its bound
-pub record IsKeptOf (bench : BenchOf) (planned : Plan) (kept : KeptRun) : Type 0 where
+pub record IsKeptFor (bench : BenchOf) (planned : Plan) (kept : KeptRun) : Type 0 where
   pub model : kept.model ≡ bench.model
   pub plan : kept.run.plan ≡ planned
   pub bound : kept.run.bound ≡ bench.bound

@@ -6,7 +6,7 @@ ghost use Rattle.aerie_base.specs.plans.OfModel.{IsPlanOf};
 ghost use Rattle.run_data.specs.Fresh.{IsFresh};
 ghost use Rattle.run_data.specs.Waves.{last_count, RoseAlike};
 ghost use Rattle.engine_core.specs.RunFrames.{PaysForRun};
-ghost use Rattle.bench.specs.Benches.{IsKeptOf, IsSameBench};
+ghost use Rattle.bench.specs.Benches.{IsKeptFor, IsSameBench};
 
 use crate::compiled_model::CompiledModel;
 use aerie_base::{Model, OutOfMemory, Plan, Shared, Steps};
@@ -103,7 +103,7 @@ impl<'a> Bench<'a> {
 
     /// Whether a kept run is the fresh run of the plan for this model and under this bound.
     fn has_made(&self, kept: &Kept, plan: &Plan) -> bool
-        ensures same { IsTrue result → IsKeptOf self.now plan.now kept.now }
+        ensures same { IsTrue result → IsKeptFor self.now plan.now kept.now }
         ensures fresh { IsTrue result → IsFresh self.now.model plan.now self.now.bound kept.now.run }
     {
         let run = kept.run();
@@ -112,7 +112,7 @@ impl<'a> Bench<'a> {
 
     /// Whether a run of a model is of this model, of the plan and under this bound.
     fn is_of(&self, model: &Model, run: &Run, plan: &Plan) -> bool
-        ensures { IsTrue result → IsKeptOf self.now plan.now (record { model = model.now; run = run.now }) }
+        ensures { IsTrue result → IsKeptFor self.now plan.now (record { model = model.now; run = run.now }) }
     {
         run.bound == self.bound
             && run.plan.is_same(plan)

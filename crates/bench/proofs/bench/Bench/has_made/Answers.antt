@@ -4,12 +4,12 @@ use Rattle.aerie_base.specs.declared.plans.Plan.{Plan}
 use Rattle.run_data.specs.declared.runs.Run.{Run}
 use Rattle.run_data.specs.Fresh.{IsFresh}
 use Rattle.run_data.specs.KeptRuns.{KeptRun}
-use Rattle.bench.specs.Benches.{BenchOf, IsKeptOf}
+use Rattle.bench.specs.Benches.{BenchOf, IsKeptFor}
 use Rattle.bench.proofs.bench.Bench.has_made.Goals as goal
 
 -- a kept run of the plan, seen by its model and its run, is its fresh run
 fresh_again : (bench : BenchOf) (plan : Plan) (kept : KeptRun) (model : Parts) (run : Run) → model ≡ kept.model → run ≡ kept.run →
-    IsFresh kept.model kept.run.plan kept.run.bound kept.run → IsKeptOf bench plan (record { model = model; run = run }) →
+    IsFresh kept.model kept.run.plan kept.run.bound kept.run → IsKeptFor bench plan (record { model = model; run = run }) →
     IsFresh bench.model plan bench.bound kept.run
 fresh_again bench plan kept model run model_is run_is fresh is =
     subst (λ (of : Parts). IsFresh of plan bench.bound kept.run) (sym model_is ∙ is.model)
