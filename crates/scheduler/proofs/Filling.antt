@@ -1,6 +1,6 @@
 -- Where a goal comes from some place does not depend on how many gaps are allowed for, once they are more than the trials
 -- that are left.
-use Rattle.std.proofs.Common.{◌≡◌, ℕ, zero, suc, ◌<◌, ◌≤◌, List, [], ◌∷◌, ◌++◌, Option, Some, None, refl, sym, ap, ◌∙◌, arith}
+use Rattle.std.proofs.Common.{◌≡◌, ℕ, zero, suc, ◌<◌, List, [], ◌∷◌, ◌++◌, Option, Some, None, refl, ap, ◌∙◌, arith}
 use Rattle.aerie_base.specs.declared.models.model.Parts.{Parts}
 use Rattle.aerie_base.specs.declared.plans.Plan.{Plan}
 use Rattle.run_data.specs.declared.runs.Run.{Run}
@@ -8,7 +8,6 @@ use Rattle.constraints.specs.declared.types.Constraint.{Constraint}
 use Rattle.goals.specs.declared.gap.Gap.{Gap}
 use Rattle.goals.specs.declared.types.Goal.{Goal}
 use Rattle.goals.specs.Goals.{first_gap, candidates_of}
-use Rattle.scheduler.specs.Trials.{Found}
 use Rattle.scheduler.specs.Scheduling.{Placing, with_found, found_for, after_gap, gaps_filled, all_filled}
 use Rattle.scheduler.proofs.Verdicts.{took_one}
 

@@ -1,5 +1,5 @@
 -- All goals: as many lists of ids as goals, and the schedule that comes of them.
-use Rattle.std.proofs.Common.{◌≡◌, ℕ, suc, ◌-◌, ◌≤◌, List, [], ◌∷◌, ◌++◌, length, drop, refl, sym, ap, ◌∙◌, arith, append-nil}
+use Rattle.std.proofs.Common.{◌≡◌, ℕ, suc, ◌-◌, ◌≤◌, List, [], ◌∷◌, length, drop, refl, sym, ap, ◌∙◌, arith, append-nil}
 use Rattle.std.proofs.lemmas.List.{drop_all}
 use Rattle.aerie_base.specs.declared.models.model.Parts.{Parts}
 use Rattle.aerie_base.specs.declared.plans.Plan.{Plan}
@@ -7,7 +7,6 @@ use Rattle.run_data.specs.declared.runs.Run.{Run}
 use Rattle.constraints.specs.declared.types.Constraint.{Constraint}
 use Rattle.goals.specs.declared.types.Goal.{Goal}
 use Rattle.scheduler.specs.declared.progress.GoalProgress.{GoalProgress}
-use Rattle.scheduler.specs.declared.scheduled.Schedule.{Schedule}
 use Rattle.scheduler.specs.FreshRuns.{fresh_run}
 use Rattle.scheduler.specs.Scheduling.{GoalsPlaced, goal_placed, goals_placed, statuses_on, with_statuses, trial_limit, schedule_of}
 use Rattle.scheduler.specs.Standing.{IsKeptOf, all_shown, placed_behind, schedule_after}

@@ -1,21 +1,18 @@
 -- One turn of a goal in the program, as the definitions have it.
-use Rattle.std.proofs.Common.{◌≡◌, ◌⊎◌, inl, inr, ℕ, suc, ◌+◌, ◌<◌, Bool, true, false, ◌&&◌, List, [], ◌∷◌, ◌++◌, Option, Some, None, IsTrue, refl, sym, ap, ◌∙◌, subst, arith}
+use Rattle.std.proofs.Common.{◌≡◌, ℕ, suc, ◌<◌, Bool, true, [], ◌∷◌, ◌++◌, Option, Some, None, refl, sym, ap, ◌∙◌, subst, arith}
 use Rattle.aerie_base.specs.declared.models.model.Parts.{Parts}
 use Rattle.aerie_base.specs.declared.plans.Plan.{Plan}
 use Rattle.aerie_base.specs.plans.OfModel.{IsPlanOf}
-use Rattle.run_data.specs.declared.runs.Run.{Run}
-use Rattle.run_data.specs.Fresh.{IsFresh}
 use Rattle.run_data.specs.KeptRuns.{KeptRun}
 use Rattle.goals.specs.declared.gap.Gap.{Gap}
-use Rattle.goals.specs.declared.types.Goal.{Goal}
 use Rattle.goals.specs.Goals.{first_gap, candidates_of}
 use Rattle.scheduler.specs.declared.placing.Placing as held
 use Rattle.scheduler.specs.declared.requests.GoalRequest.{GoalRequest}
 use Rattle.scheduler.specs.declared.searching.Search.{Search}
 use Rattle.scheduler.specs.FreshRuns.{fresh_run, kept_run}
-use Rattle.scheduler.specs.Trials.{Found, first_accepted}
-use Rattle.scheduler.specs.Scheduling.{Placing, all_filled, found_for, unless_open, ended, goal_placed}
-use Rattle.scheduler.specs.Standing.{IsEither, IsRequest, IsKeptOf, searched_of, shown, search_for, placed_by, placed_after, goal_filled, filled_if, turns_if, turns_left, goal_ended, goal_placed_for}
+use Rattle.scheduler.specs.Trials.{Found}
+use Rattle.scheduler.specs.Scheduling.{all_filled}
+use Rattle.scheduler.specs.Standing.{IsRequest, IsKeptOf, searched_of, shown, search_for, placed_after, goal_filled, filled_if, turns_if, turns_left}
 use Rattle.scheduler.proofs.Filling.{none_found, one_found, found_took}
 use Rattle.scheduler.proofs.MadePlans.{made_of_model}
 use Rattle.scheduler.proofs.Placed.{made_at}

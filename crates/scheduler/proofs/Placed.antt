@@ -1,5 +1,5 @@
 -- What a schedule placed is in its plan, and has its span on a completed run.
-use Rattle.std.proofs.Common.{◌≡◌, ◌⊎◌, inl, inr, ℕ, ℤ, zero, suc, nat_eq, Bool, true, false, ◌&&◌, not, List, [], ◌∷◌, ◌++◌, Option, Some, None, IsTrue, is_none, Result, Ok, Err, refl, sym, ap, ◌∙◌, subst}
+use Rattle.std.proofs.Common.{◌≡◌, ◌⊎◌, inl, inr, ℕ, zero, suc, Bool, true, false, ◌&&◌, List, [], ◌∷◌, ◌++◌, Option, Some, None, IsTrue, is_none, refl, sym, ap, ◌∙◌, subst}
 use Rattle.std.proofs.lemmas.Bool.{eq-eqb, false≢true}
 use Rattle.std.proofs.lemmas.Bool.Decides.{Decides-int_eq}
 use Rattle.aerie_base.specs.Paths.{root}
@@ -23,14 +23,12 @@ use Rattle.constraints.specs.declared.types.Constraint.{Constraint}
 use Rattle.goals.specs.declared.gap.Gap.{Gap}
 use Rattle.goals.specs.declared.types.Goal.{Goal}
 use Rattle.goals.specs.declared.types.Template.{Template}
-use Rattle.goals.specs.declared.status.GoalStatus.{GoalStatus}
-use Rattle.goals.specs.Goals.{first_gap, candidates_of, is_goal_met, is_completed}
-use Rattle.goals.specs.Matching.{matches}
+use Rattle.goals.specs.Goals.{first_gap, candidates_of, is_completed}
 use Rattle.planned_spans.specs.PlannedSpans.{IsOneOf, IsSpanOf, PlannedHaveSpans}
 use Rattle.scheduler.specs.declared.scheduled.Schedule.{Schedule}
 use Rattle.scheduler.specs.FreshRuns.{fresh_run}
-use Rattle.scheduler.specs.Trials.{directive_with, made_with, is_accepted, Verdict, refused, rejected, accepted, Found, verdict_if, verdict_on, verdict_of, found_by, first_accepted}
-use Rattle.scheduler.specs.Scheduling.{Placing, GoalsPlaced, with_found, found_for, after_gap, gaps_filled, all_filled, unless_open, ended, goal_placed, then_others, goals_placed, goal_status, statuses_on, trial_limit, schedule_of}
+use Rattle.scheduler.specs.Trials.{directive_with, made_with, is_accepted, verdict_if, verdict_on, found_by, first_accepted}
+use Rattle.scheduler.specs.Scheduling.{Placing, GoalsPlaced, with_found, found_for, after_gap, gaps_filled, all_filled, unless_open, ended, goal_placed, goals_placed, goal_status, statuses_on, trial_limit, schedule_of}
 use Rattle.scheduler.specs.Told.{EachWith, IsTold, IsPlaced, AreAllPlaced, IsLikePlan}
 use Rattle.scheduler.proofs.MadePlans.{placed_there}
 

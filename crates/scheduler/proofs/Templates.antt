@@ -1,5 +1,5 @@
 -- The template of a goal of the model is of the model.
-use Rattle.std.proofs.Common.{◌≡◌, Bool, true, false, ◌&&◌, IsTrue, refl}
+use Rattle.std.proofs.Common.{Bool, true, false, ◌&&◌, IsTrue, refl}
 use Rattle.goals.specs.OfModel.{is_template, is_goal_kind}
 use Rattle.scheduler.specs.declared.requests.GoalRequest.{GoalRequest}
 use Rattle.scheduler.specs.Standing.{IsRequest}

@@ -1,3 +1,4 @@
+pub mod Cases
 pub mod FreshRuns
 pub mod ScheduleLaws
 pub mod Scheduling

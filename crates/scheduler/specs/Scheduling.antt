@@ -1,5 +1,5 @@
 -- The schedule of a plan: goals in order, gap after gap, candidate after candidate.
-use Rattle.std.specs.Prelude.{ℕ, zero, suc, ◌-◌, Bool, true, false, not, ◌&&◌, List, [], ◌∷◌, ◌++◌, Option, Some, None}
+use Rattle.std.specs.Prelude.{ℕ, zero, suc, ◌-◌, Bool, true, false, List, [], ◌∷◌, ◌++◌, Option, Some, None}
 use Rattle.aerie_base.specs.declared.models.model.Parts.{Parts}
 use Rattle.aerie_base.specs.declared.plans.Plan.{Plan}
 use Rattle.run_data.specs.declared.runs.Run.{Run}

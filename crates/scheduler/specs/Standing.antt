@@ -1,12 +1,10 @@
 -- What the program holds while it schedules, as the definitions have it.
-use Rattle.std.specs.Prelude.{◌≡◌, ◌⊎◌, ℕ, zero, suc, Bool, true, false, IsTrue, List, [], ◌∷◌, ◌++◌, ◌-◌, Option, Some, None, option_map}
+use Rattle.std.specs.Prelude.{◌≡◌, ◌⊎◌, ℕ, suc, Bool, true, false, IsTrue, List, [], ◌∷◌, ◌++◌, ◌-◌, Option, Some, None, option_map}
 use Rattle.std.specs.List.{list_all}
 use Rattle.aerie_base.specs.declared.models.model.Parts.{Parts}
 use Rattle.aerie_base.specs.declared.plans.Plan.{Plan}
 use Rattle.aerie_base.specs.plans.OfModel.{IsPlanOf}
-use Rattle.run_data.specs.declared.runs.Run.{Run}
 use Rattle.run_data.specs.KeptRuns.{KeptRun}
-use Rattle.constraints.specs.declared.types.Constraint.{Constraint}
 use Rattle.constraints.specs.OfModel.{is_constraint}
 use Rattle.goals.specs.declared.gap.Gap.{Gap}
 use Rattle.goals.specs.declared.types.Goal.{Goal}
@@ -21,7 +19,7 @@ use Rattle.scheduler.specs.declared.trials.Trial.{Trial}
 use Rattle.scheduler.specs.declared.trials.Trial.TheVariants as trial
 use Rattle.scheduler.specs.FreshRuns.{fresh_run, kept_run}
 use Rattle.scheduler.specs.Trials.{Verdict, refused, rejected, accepted, Found, verdict_of, first_accepted}
-use Rattle.scheduler.specs.Scheduling.{Placing, GoalsPlaced, found_for, all_filled, unless_open, goal_placed, goals_placed, statuses_on, trial_limit}
+use Rattle.scheduler.specs.Scheduling.{Placing, GoalsPlaced, found_for, all_filled, unless_open, goal_placed, statuses_on, trial_limit}
 
 -- ---- what is asked
 

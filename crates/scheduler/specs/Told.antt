@@ -1,5 +1,5 @@
 -- What a schedule tells of its goals, and of what it placed for them.
-use Rattle.std.specs.Prelude.{◌≡◌, ◌⊎◌, ℕ, true, false, List, [], ◌∷◌, Option, Some, None}
+use Rattle.std.specs.Prelude.{◌≡◌, ◌⊎◌, ℕ, true, false, List, [], ◌∷◌, Some, None}
 use Rattle.aerie_base.specs.Paths.{root}
 use Rattle.aerie_base.specs.declared.models.model.Parts.{Parts}
 use Rattle.aerie_base.specs.declared.plans.Directive.{Directive}
@@ -15,6 +15,8 @@ use Rattle.goals.specs.declared.types.Template.{Template}
 use Rattle.goals.specs.declared.status.GoalStatus.{GoalStatus}
 use Rattle.goals.specs.Goals.{first_gap}
 use Rattle.goals.specs.Matching.{matches}
+use Rattle.scheduler.specs.declared.scheduled.Schedule.{Schedule}
+use Rattle.scheduler.specs.FreshRuns.{fresh_run}
 
 -- each with the one at the same place of another list, and as many of them
 abbrev pub EachWith : {A B : Type 0} → (A → B → Type 0) → List A → List B → Type 0
@@ -53,3 +55,13 @@ AreAllPlaced model plan run goal status = run.outcome ≡ Completed → EachOf (
 pub record IsLikePlan (plan made : Plan) : Type 0 where
   pub model : made.model ≡ plan.model
   pub duration : made.duration ≡ plan.duration
+
+-- ---- of a schedule
+
+-- what its statuses tell of the goals holds on the fresh run of its plan
+abbrev pub TellsOf : Parts → ℕ → List Goal → Schedule → Type 0
+TellsOf model bound goals made = EachWith (IsTold model (fresh_run model bound made.plan)) goals made.goals
+
+-- and what they have as placed is in its plan and on that run
+abbrev pub HasPlacedFor : Parts → ℕ → List Goal → Schedule → Type 0
+HasPlacedFor model bound goals made = EachWith (AreAllPlaced model made.plan (fresh_run model bound made.plan)) goals made.goals

@@ -6,9 +6,8 @@ ghost use Rattle.aerie_base.specs.plans.OfModel.{IsPlanOf};
 ghost use Rattle.constraints.specs.OfModel.{is_constraint};
 ghost use Rattle.goals.specs.OfModel.{is_goal};
 ghost use Rattle.scheduler.specs.Scheduling.{schedule_of};
-ghost use Rattle.scheduler.specs.FreshRuns.{fresh_run};
-ghost use Rattle.scheduler.specs.Standing.{IsKeptOf, schedule_after};
-ghost use Rattle.scheduler.specs.Told.{AreAllPlaced, EachWith, IsLikePlan, IsTold};
+ghost use Rattle.scheduler.specs.Standing.{schedule_after};
+ghost use Rattle.scheduler.specs.Told.{HasPlacedFor, IsLikePlan, TellsOf};
 
 use crate::laws::fresh_runs_are_given;
 use crate::progress::{GoalProgress, TRIAL_LIMIT, place_goals, statuses};
@@ -120,8 +119,8 @@ pub fn schedule<M: Simulator, L: Ledger, K: Ledger>(
     ensures scheduled { IfOk result (λ made. made ≡ schedule_of model.now (M.bound simulator.old) constraints.now goals.now plan.now) }
     ensures plan { IfOk result (λ made. IsPlanOf model.now made.plan) }
     ensures same_place { IfOk result (λ made. IsLikePlan plan.now made.plan) }
-    ensures told { IfOk result (λ made. EachWith (IsTold model.now (fresh_run model.now (M.bound simulator.old) made.plan)) goals.now made.goals) }
-    ensures placed { IfOk result (λ made. EachWith (AreAllPlaced model.now made.plan (fresh_run model.now (M.bound simulator.old) made.plan)) goals.now made.goals) }
+    ensures told { IfOk result (TellsOf model.now (M.bound simulator.old) goals.now) }
+    ensures placed { IfOk result (HasPlacedFor model.now (M.bound simulator.old) goals.now) }
     ensures steps { steps.old ≤ steps.new }
     ensures looks { looks.old ≤ looks.new }
     ensures same_model { M.model simulator.new ≡ M.model simulator.old }

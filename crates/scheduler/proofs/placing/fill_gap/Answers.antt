@@ -1,4 +1,4 @@
-use Rattle.std.proofs.Common.{◌≡◌, ◌<◌, ◌∙◌, Some, ap, sym, subst}
+use Rattle.std.proofs.Common.{◌<◌, ◌∙◌, ap, sym, subst}
 use Rattle.run_data.specs.KeptRuns.{KeptRun}
 use Rattle.goals.specs.Goals.{first_gap}
 use Rattle.scheduler.specs.declared.placing.Placing.{Placing}

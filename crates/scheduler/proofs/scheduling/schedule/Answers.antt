@@ -1,6 +1,5 @@
-use Rattle.std.proofs.Common.{ℕ, ◌≡◌, sym, subst}
+use Rattle.std.proofs.Common.{sym, subst}
 use Rattle.aerie_base.specs.plans.OfModel.{IsPlanOf}
-use Rattle.goals.specs.declared.types.Template.{Template}
 use Rattle.scheduler.specs.declared.scheduled.Schedule.{Schedule}
 use Rattle.scheduler.specs.FreshRuns.{fresh_run}
 use Rattle.scheduler.specs.Scheduling.{schedule_of}
