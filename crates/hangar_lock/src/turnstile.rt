@@ -49,7 +49,7 @@ impl Turnstile {
         self.table.shared.load::<LookAtTurn>(seat, TURNS) == ticket
     }
 
-    /// IsWaiting for the turn of a ticket.
+    /// Waits for the turn of a ticket.
     fn wait_turn<R: Wait>(&self, rt: &R, seat: &mut PassSeat, ticket: u64)
         requires own { seat.old.table_id ≡ self.now.table.shared.table_id }
         requires waits { IsWaiting ticket seat.old.me }
@@ -64,7 +64,7 @@ impl Turnstile {
         unreachable!()
     }
 
-    /// IsWaiting until the workspace and the journal are the pass's own.
+    /// Waits until the workspace and the journal are the pass's own.
     pub fn enter<R: Wait>(&self, rt: &R, seat: &mut PassSeat)
         requires own { seat.old.table_id ≡ self.now.table.shared.table_id }
         requires idle { IsIdle seat.old.me }
