@@ -1,0 +1,9 @@
+//! Tests of what the program is asked for and of how sessions are judged, through public calls.
+#![tactic(auto)]
+
+#[cfg(test)]
+mod command_lines;
+#[cfg(test)]
+mod lines;
+#[cfg(test)]
+mod sessions;

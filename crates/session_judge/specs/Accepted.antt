@@ -1,0 +1,23 @@
+-- The line of a session that is accepted.
+use Rattle.std.specs.Prelude.{ℕ, ◌+◌, List, [], ◌∷◌, codes, length, min}
+use Rattle.serde_json.specs.Data.{Data, string}
+use Rattle.aerie_text.specs.Json.{object_of}
+use Rattle.report_text.specs.Fields.{natural_data}
+use Rattle.session_reader.specs.declared.session.Client.{Client}
+use Rattle.session_reader.specs.declared.session.Session.{Session}
+
+-- the commands of all clients
+abbrev pub command_count : List Client → ℕ
+command_count [] = 0
+command_count (client ∷ clients) = length client.commands + command_count clients
+
+-- the most that is told
+abbrev pub count_limit : ℕ
+count_limit = 18_446_744_073_709_551_615
+
+-- how many clients there are, and how many commands all of them have
+abbrev pub accepted_data : Session → Data
+accepted_data session =
+    object_of ((codes "clients", natural_data (length session.clients))
+    ∷ (codes "commands", natural_data (min (command_count session.clients) count_limit))
+    ∷ (codes "session", string (codes "ok")) ∷ [])

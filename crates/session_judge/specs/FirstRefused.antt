@@ -1,0 +1,55 @@
+-- Sections of one sort: the rules of all models, or the refusal that stands first in the text.
+use Rattle.std.specs.Prelude.{ℕ, List, [], ◌∷◌, Option, Some, None, Result, Ok, Err, nat_lt, if◌then◌else◌}
+use Rattle.report_text.specs.declared.refusals.Refusal.{Refusal}
+use Rattle.session_reader.specs.Sections.{TokenRange}
+use Rattle.session_reader.specs.declared.session.ModelPart.{ModelPart}
+
+-- rules, or why they are refused
+abbrev pub RulesAnswer : Type 0 → Type 0
+RulesAnswer A = Result A Refusal
+
+-- a refusal, and the number of the first token of its section
+abbrev pub SectionRefusal : Type 0
+SectionRefusal = ℕ × Refusal
+
+-- the number of the first token of a section
+abbrev pub begin_of : Option TokenRange → ℕ
+begin_of None = 0
+begin_of (Some range) = range.0
+
+-- the one whose section begins first
+abbrev pub first_of_two : SectionRefusal → SectionRefusal → SectionRefusal
+first_of_two one other = if nat_lt other.0 one.0 then other else one
+
+abbrev pub first_of_both : Option SectionRefusal → Option SectionRefusal → Option SectionRefusal
+first_of_both None other = other
+first_of_both (Some one) None = Some one
+first_of_both (Some one) (Some other) = Some (first_of_two one other)
+
+module _ {A : Type 0} where
+  abbrev pub refusal_in : ℕ → RulesAnswer A → Option SectionRefusal
+  refusal_in begin (Ok rules) = None
+  refusal_in begin (Err refusal) = Some (begin, refusal)
+
+  abbrev pub in_front_of : RulesAnswer A → List A → List A
+  in_front_of (Ok rules) later = rules ∷ later
+  in_front_of (Err refusal) later = later
+
+  -- of the models' sections that are refused, the refusal of the one that begins first
+  abbrev pub first_refused : (ModelPart → Option TokenRange) → (ModelPart → RulesAnswer A) → List ModelPart → Option SectionRefusal
+  first_refused section answer [] = None
+  first_refused section answer (part ∷ parts) =
+      first_of_both (refusal_in (begin_of (section part)) (answer part)) (first_refused section answer parts)
+
+  -- the rules of the models whose sections are not refused, in the order of the models
+  abbrev pub accepted_rules : (ModelPart → RulesAnswer A) → List ModelPart → List A
+  accepted_rules answer [] = []
+  accepted_rules answer (part ∷ parts) = in_front_of (answer part) (accepted_rules answer parts)
+
+  abbrev pub unless_refused : Option SectionRefusal → List A → RulesAnswer (List A)
+  unless_refused None rules = Ok rules
+  unless_refused (Some refused) rules = Err refused.1
+
+  -- the rules of all models, or the refusal that stands first in the text
+  abbrev pub all_rules : (ModelPart → Option TokenRange) → (ModelPart → RulesAnswer A) → List ModelPart → RulesAnswer (List A)
+  all_rules section answer parts = unless_refused (first_refused section answer parts) (accepted_rules answer parts)

@@ -1,0 +1,5 @@
+pub mod Accepted
+pub mod FirstRefused
+pub mod Judging
+pub mod Rules
+pub mod Telling
