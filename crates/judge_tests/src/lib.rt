@@ -4,6 +4,8 @@
 #[cfg(test)]
 mod command_lines;
 #[cfg(test)]
+mod limits;
+#[cfg(test)]
 mod lines;
 #[cfg(test)]
 mod sessions;

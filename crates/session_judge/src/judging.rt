@@ -9,7 +9,7 @@ ghost use Rattle.session_reader.specs.SessionTexts.{byte_limit, text_answer};
 ghost use Rattle.session_reader.specs.WellFormed.{HasSectionsWithin, IsSession};
 ghost use Rattle.session_judge.specs.Judging.{IsJudged, judged_answer, judged_session, judged_text, with_rules as with_rules_by};
 
-use crate::constraints::session_constraints;
+use crate::constraint_sections::session_constraints;
 use crate::judge_error::JudgeError;
 use crate::judged::JudgedSession;
 use crate::telling::{named_refusal, told_offset, told_session};

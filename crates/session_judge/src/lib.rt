@@ -3,7 +3,7 @@
 #![tactic(auto)]
 
 mod accepted;
-mod constraints;
+mod constraint_sections;
 mod gathered;
 mod judge_error;
 mod judged;
