@@ -9,6 +9,7 @@ pub mod Mapping
 pub mod Meetings
 pub mod Merging
 pub mod Pushing
+pub mod ReadSeries
 pub mod ReadByRules
 pub mod RuleReading
 pub mod Runs

@@ -1,11 +1,13 @@
 pub mod Evaluating
 pub mod Following
 pub mod GivenSeries
+pub mod HeldTimes
 pub mod Holding
 pub mod Judging
 pub mod Local
 pub mod Meeting
 pub mod OfModel
+pub mod OverSources
 pub mod Pieces
 pub mod Recursion
 pub mod RecursionLaws

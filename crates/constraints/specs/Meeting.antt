@@ -1,6 +1,8 @@
 -- Times at which spans of two types meet, by one sweep over the spans in the order of their starts.
 use Rattle.std.specs.Prelude.{◌≡◌, ℕ, ◌≤◌, Bool, false, max, min, List, [], ◌∷◌, ◌++◌, nat_eq, if◌then◌else◌}
 use Rattle.run_data.specs.Spans.{SpanOf, same_path}
+use Rattle.span_table.specs.AsDefined.{defined_span}
+use Rattle.span_table.specs.declared.span.Span.{Span}
 use Rattle.windows.specs.Times.{Interval}
 use Rattle.constraints.specs.declared.meeting.Ends.{Ends}
 use Rattle.constraints.specs.Holding.{times_of}
@@ -45,6 +47,10 @@ abbrev pub meetings_of : ℕ → ℕ → ℕ → Ends → SpanOf → List Interv
 meetings_of reach one other ends span =
     times_if (nat_eq span.kind other) (span.start, min (times_of reach span).1 ends.one)
     ++ times_if (nat_eq span.kind one) (span.start, min (times_of reach span).1 ends.other)
+
+-- the same of a span as it is read off a run
+abbrev pub met_by : ℕ → ℕ → ℕ → Ends → Span → List Interval
+met_by reach one other ends span = meetings_of reach one other ends (defined_span span)
 
 abbrev pub swept : ℕ → ℕ → ℕ → Ends → List SpanOf → List Interval
 swept reach one other ends [] = []

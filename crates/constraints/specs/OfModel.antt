@@ -60,6 +60,12 @@ abbrev pub may_equal : Parts → Value → Option Kind → Bool
 may_equal model value None = false
 may_equal model value (Some found) = not (same_kind found kind.Int) && is_value_of model.enums found value
 
+abbrev pub may_be_equal : Parts → Reading → Value → Bool
+may_be_equal model reading value = may_equal model value (reading_kind model reading)
+
+abbrev pub reads_number : Parts → Reading → Bool
+reads_number model reading = is_of_kind kind.Int (reading_kind model reading)
+
 -- ---- sums
 
 -- a whole number, with a coefficient in its range

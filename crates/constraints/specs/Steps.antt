@@ -3,10 +3,11 @@ use Rattle.std.specs.Prelude.{ℕ, ◌≡◌, ◌<◌, pos, Bool, List, [], ◌�
 use Rattle.aerie_base.specs.declared.values.Value.{Value}
 use Rattle.aerie_base.specs.declared.values.Value.TheVariants as value
 use Rattle.aerie_base.specs.Ranges.{IsNumber}
-use Rattle.aerie_base.specs.expressions.Arithmetic.{number_in}
+use Rattle.aerie_base.specs.expressions.Arithmetic.{number_in, same_value}
 use Rattle.profiles.specs.Samples.{RiseBehind, last_started}
 use Rattle.windows.specs.declared.segments.Segment.{Segment}
 use Rattle.windows.specs.Times.{Interval}
+use Rattle.constraints.specs.Holding.{equals_or_not}
 
 -- each with the time at which it begins
 abbrev pub Step : Type 0
@@ -15,6 +16,10 @@ Step = ℕ × Value
 -- the value of the last step that begins no later; 0 where there is none
 abbrev pub step_value : List Step → ℕ → Value
 step_value steps t = unwrap_or (option_map (λ step. step.1) (last_started (λ step. step.0) steps t)) (value.Int (pos 0))
+
+-- whether that value is equal to another, or unequal
+abbrev pub step_equals : Bool → List Step → Value → ℕ → Bool
+step_equals equal steps value t = equals_or_not equal (same_value (step_value steps t) value)
 
 -- the first of them begins at 0, each further one later than the one before it, and there is one where there is some time
 abbrev pub RiseFromZero : List ℕ → Type 0

@@ -4,7 +4,7 @@ use Rattle.std.specs.List.{list_any}
 use Rattle.aerie_base.specs.declared.models.model.Parts.{Parts}
 use Rattle.run_data.specs.declared.runs.Run.{Run}
 use Rattle.run_data.specs.Spans.{SpanOf, spans_of, same_path}
-use Rattle.windows.specs.Times.{Interval, covers}
+use Rattle.windows.specs.Times.{Interval, TimeSet, covers}
 use Rattle.windows.specs.Intervals.{intervals_of}
 use Rattle.constraints.specs.declared.types.Rule.{Rule}
 use Rattle.constraints.specs.declared.types.Rule.TheVariants.{Plain, Each, Forbid}
@@ -17,6 +17,10 @@ use Rattle.constraints.specs.Holding.{window_holds, times_of}
 abbrev pub listed : Option (List ℕ) → ℕ → List Interval → List Violation
 listed path reach [] = []
 listed path reach (first ∷ rest) = (record { path = path; intervals = record { reach = reach; intervals = first ∷ rest } }) ∷ []
+
+-- one at these times
+abbrev pub listed_times : Option (List ℕ) → TimeSet → List Violation
+listed_times path times = listed path times.reach times.intervals
 
 -- the violation at the times below the reach at which this does not hold
 abbrev pub where_not : Option (List ℕ) → ℕ → (ℕ → Bool) → List Violation
@@ -53,6 +57,10 @@ abbrev pub violations_of_rule : Parts → Run → Rule → List Violation
 violations_of_rule model run (Plain window) = where_not None run.reach (window_holds model run window None)
 violations_of_rule model run (Each kind window) = violations_of_spans model run kind window (spans_of model run)
 violations_of_rule model run (Forbid one other) = where_not None run.reach (λ t. not (meet run.reach one other (spans_of model run) t))
+
+-- these are they
+abbrev pub AreOfRule : Parts → Run → Rule → List Violation → Type 0
+AreOfRule model run rule found = found ≡ violations_of_rule model run rule
 
 -- the violations of a constraint over a run
 abbrev pub violations_of : Parts → Run → Constraint → List Violation

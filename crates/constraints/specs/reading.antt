@@ -1,7 +1,10 @@
 pub mod Refusals
+pub mod RefusalLaws
 pub mod RuleNames
 pub mod RawWindows
 pub mod WindowRefusals
 pub mod ConstraintRefusals
 pub mod Meaning
+pub mod RuleLiterals
+pub mod ReadParts
 pub mod ConstraintAnswers

@@ -1,14 +1,12 @@
 //! Comparisons of sums.
 
-ghost use Rattle.std.specs.Prelude.{◌≡◌, ℕ, ◌*◌, ◌<◌, ◌≤◌, ◌+ℤ◌, ◌*ℤ◌, negsuc, IsTrue, IfOk};
-ghost use Rattle.std.specs.Int.RustNames.{unsigned_abs};
-ghost use Rattle.aerie_base.specs.expressions.Arithmetic.{compared};
-ghost use Rattle.windows.specs.Linear.{AreSegments, segments_value};
-ghost use Rattle.windows.specs.Times.{AreIntervals};
-ghost use Rattle.constraints.specs.Holding.{sum_value, rule_term_value};
+ghost use Rattle.std.specs.Prelude.{◌≡◌, ◌*◌, negsuc, IsTrue, IfOk};
+ghost use Rattle.windows.specs.Linear.{AreSegments};
+ghost use Rattle.constraints.specs.HeldTimes.{HasTimes};
 ghost use Rattle.constraints.specs.OfModel.{is_sum, is_term};
+ghost use Rattle.constraints.specs.OverSources.{compared_over};
 ghost use Rattle.constraints.specs.Sources.{AreSources};
-ghost use Rattle.constraints.specs.SumPieces.{AreModest, SumTo, product_limit};
+ghost use Rattle.constraints.specs.SumPieces.{AreModest, ComeNoFurther, HasMore, HasSum, HasTermMore, IsSmallTerm, product_limit};
 
 use crate::readings::reading_segments;
 use crate::sources::Sources;
@@ -28,10 +26,10 @@ fn with_term(
     requires sources { AreSources sources.now }
     requires term { IsTrue (is_term sources.now.model.now term.now) }
     requires form { AreSegments sources.now.run.now.reach sum.now }
-    requires small { (t : ℕ) → t < sources.now.run.now.reach → unsigned_abs (segments_value sum.now t) ≤ product_limit * 16 }
+    requires small { ComeNoFurther sources.now.run.now.reach (product_limit * 16) sum.now }
     ensures form { IfOk result (λ made. AreSegments sources.now.run.now.reach made) }
-    ensures values { IfOk result (λ made. (t : ℕ) → t < sources.now.run.now.reach → segments_value made t ≡ segments_value sum.now t +ℤ rule_term_value sources.now.model.now sources.now.run.now term.now t) }
-    ensures small { IfOk result (λ made. (t : ℕ) → t < sources.now.run.now.reach → unsigned_abs (rule_term_value sources.now.model.now sources.now.run.now term.now t) ≤ product_limit) }
+    ensures values { IfOk result (HasTermMore sources.now.model.now sources.now.run.now sum.now term.now) }
+    ensures small { IfOk result (λ made. IsSmallTerm sources.now.model.now sources.now.run.now term.now) }
 {
     let reach = sources.run.reach;
     let segments = reading_segments(alloc, sources, &term.resource)?;
@@ -49,7 +47,7 @@ fn sum_segments(
 ) -> Result<List<Segment>, OutOfMemory>
     requires sources { AreSources sources.now }
     requires sum { IsTrue (is_sum sources.now.model.now sum.now) }
-    ensures { IfOk result (SumTo sources.now.model.now sources.now.run.now sum.now.terms sum.now.constant 16) }
+    ensures { IfOk result (HasSum sources.now.model.now sources.now.run.now sum.now) }
 {
     let terms = sum.terms.as_slice();
     let mut made = constant_segments(alloc, sources.run.reach, sum.constant)?;
@@ -69,7 +67,7 @@ fn difference_of(
     requires left { AreModest reach left.now }
     requires right { AreModest reach right.now }
     ensures form { IfOk result (λ made. AreSegments reach made) }
-    ensures values { IfOk result (λ made. (t : ℕ) → t < reach → segments_value made t ≡ segments_value left.now t +ℤ negsuc 0 *ℤ segments_value right.now t) }
+    ensures values { IfOk result (HasMore reach left.now (negsuc 0) right.now) }
 {
     let one = left.as_slice();
     let other = right.as_slice();
@@ -89,7 +87,7 @@ pub(crate) fn times_compared(
     requires left { IsTrue (is_sum sources.now.model.now left.now) }
     requires right { IsTrue (is_sum sources.now.model.now right.now) }
     ensures reach { IfOk result (λ made. made.reach ≡ sources.now.run.now.reach) }
-    ensures times { IfOk result (λ made. AreIntervals made.reach (λ t. compared how.now (sum_value sources.now.model.now sources.now.run.now left.now t) (sum_value sources.now.model.now sources.now.run.now right.now t)) made.intervals) }
+    ensures times { IfOk result (HasTimes (compared_over sources.now left.now how.now right.now)) }
 {
     let one = sum_segments(alloc, sources, left)?;
     let other = sum_segments(alloc, sources, right)?;

@@ -1,12 +1,11 @@
 //! When a window holds.
 
-ghost use Rattle.std.specs.Prelude.{◌≡◌, ℕ, Bool, IsTrue, IfOk};
-ghost use Rattle.windows.specs.Times.{AreIntervals, long_contains, shifted_contains};
-ghost use Rattle.windows.specs.Intervals.{intervals_of};
-ghost use Rattle.constraints.specs.Evaluating.{holds_by_fold, is_window_by_fold};
-ghost use Rattle.run_data.specs.Spans.{spans_of};
-ghost use Rattle.constraints.specs.Holding.{bound_covers, window_holds, some_covers};
+ghost use Rattle.std.specs.Prelude.{◌≡◌, IsTrue, IfOk};
+ghost use Rattle.constraints.specs.Evaluating.{is_window_by_fold};
+ghost use Rattle.constraints.specs.HeldTimes.{HasLonger, HasShifted, HasTimes};
+ghost use Rattle.constraints.specs.Holding.{bound_covers};
 ghost use Rattle.constraints.specs.OfModel.{is_shift, is_window};
+ghost use Rattle.constraints.specs.OverSources.{covered_over, folded_over, holds_over};
 ghost use Rattle.constraints.specs.Sources.{AreSources};
 
 use crate::comparing::times_compared;
@@ -28,7 +27,7 @@ pub(crate) fn holding(
     requires sources { AreSources sources.now }
     requires window { IsTrue (is_window sources.now.model.now window.now) }
     ensures reach { IfOk result (λ made. made.reach ≡ sources.now.run.now.reach) }
-    ensures times { IfOk result (λ made. AreIntervals made.reach (window_holds sources.now.model.now sources.now.run.now window.now bound.now) made.intervals) }
+    ensures times { IfOk result (HasTimes (holds_over sources.now window.now bound.now)) }
 {
     holding_by_fold(alloc, sources, window, bound)
 }
@@ -43,7 +42,7 @@ fn holding_by_fold(
     requires sources { AreSources sources.now }
     requires window { IsTrue (is_window_by_fold sources.now.model.now window.now) }
     ensures reach { IfOk result (λ made. made.reach ≡ sources.now.run.now.reach) }
-    ensures times { IfOk result (λ made. AreIntervals made.reach (holds_by_fold sources.now.model.now sources.now.run.now window.now bound.now) made.intervals) }
+    ensures times { IfOk result (HasTimes (folded_over sources.now window.now bound.now)) }
 {
     match window {
         Window::Literal(truth) => always(alloc, sources, *truth),
@@ -84,7 +83,7 @@ fn holding_by_fold(
 /// The maximal intervals that are at least so long.
 fn longer(alloc: Global, part: &Windows, least: &Time) -> Result<Windows, OutOfMemory>
     ensures reach { IfOk result (λ made. made.reach ≡ part.now.reach) }
-    ensures times { IfOk result (λ made. (test : ℕ → Bool) → AreIntervals part.now.reach test part.now.intervals → AreIntervals made.reach (λ t. long_contains least.now (intervals_of part.now.reach test) t) made.intervals) }
+    ensures times { IfOk result (HasLonger least.now part.now) }
 {
     let made = part.longer_than(alloc, *least)?;
     Ok(made)
@@ -95,7 +94,7 @@ fn shifted(alloc: Global, part: &Windows, start: i64, end: i64) -> Result<Window
     requires start { IsTrue (is_shift start) }
     requires end { IsTrue (is_shift end) }
     ensures reach { IfOk result (λ made. made.reach ≡ part.now.reach) }
-    ensures times { IfOk result (λ made. (test : ℕ → Bool) → AreIntervals part.now.reach test part.now.intervals → AreIntervals made.reach (λ t. shifted_contains start end (intervals_of part.now.reach test) t) made.intervals) }
+    ensures times { IfOk result (HasShifted start end part.now) }
 {
     let made = part.shifted(alloc, start, end)?;
     Ok(made)
@@ -104,7 +103,7 @@ fn shifted(alloc: Global, part: &Windows, start: i64, end: i64) -> Result<Window
 /// All times, or none.
 fn always(alloc: Global, sources: &Sources, truth: bool) -> Result<Windows, OutOfMemory>
     ensures reach { IfOk result (λ made. made.reach ≡ sources.now.run.now.reach) }
-    ensures times { IfOk result (λ made. AreIntervals made.reach (λ t. truth) made.intervals) }
+    ensures times { IfOk result (HasTimes (λ t. truth)) }
 {
     let reach = sources.run.reach;
     if truth {
@@ -117,7 +116,7 @@ fn always(alloc: Global, sources: &Sources, truth: bool) -> Result<Windows, OutO
 fn during(alloc: Global, sources: &Sources, kind: u16) -> Result<Windows, OutOfMemory>
     requires sources { AreSources sources.now }
     ensures reach { IfOk result (λ made. made.reach ≡ sources.now.run.now.reach) }
-    ensures times { IfOk result (λ made. AreIntervals made.reach (λ t. some_covers sources.now.run.now.reach kind (spans_of sources.now.model.now sources.now.run.now) t) made.intervals) }
+    ensures times { IfOk result (HasTimes (covered_over sources.now kind)) }
 {
     let made = sources.times(alloc, kind)?;
     Ok(made)
@@ -130,7 +129,7 @@ fn during_bound(
     bound: &Option<(Time, Time)>,
 ) -> Result<Windows, OutOfMemory>
     ensures reach { IfOk result (λ made. made.reach ≡ sources.now.run.now.reach) }
-    ensures times { IfOk result (λ made. AreIntervals made.reach (bound_covers bound.now) made.intervals) }
+    ensures times { IfOk result (HasTimes (bound_covers bound.now)) }
 {
     let reach = sources.run.reach;
     match bound {

@@ -1,17 +1,16 @@
 //! The violations of a constraint.
 
-ghost use Rattle.std.specs.Prelude.{◌≡◌, ◌≤◌, ◌++◌, IsTrue, true, not, None, Some, map, IfOk, OnOk};
+ghost use Rattle.std.specs.Prelude.{◌≡◌, ◌≤◌, ◌++◌, IsTrue, true, None, Some, IfOk, OnOk};
 ghost use Rattle.std.specs.List.{All};
 ghost use Rattle.run_data.specs.Fresh.{IsFresh};
-ghost use Rattle.run_data.specs.Spans.{spans_of};
-ghost use Rattle.span_table.specs.AsDefined.{defined_span};
 ghost use Rattle.span_table.specs.SpanLaws.{IsInTime};
-ghost use Rattle.constraints.specs.Holding.{window_holds};
-ghost use Rattle.constraints.specs.Judging.{times_held, times_not_held, violations_if};
+ghost use Rattle.constraints.specs.Judging.{times_held};
 ghost use Rattle.constraints.specs.Local.{is_local as local};
 ghost use Rattle.constraints.specs.OfModel.{is_constraint, is_window};
+ghost use Rattle.constraints.specs.OverSources.{all_violations_over, endless, held_over, not_held_over, violations_over};
 ghost use Rattle.constraints.specs.Sources.{AreSources};
-ghost use Rattle.constraints.specs.Violating.{listed, meet, violations_of, violations_of_spans, where_not};
+ghost use Rattle.constraints.specs.Violating.{AreOfRule, listed_times, violations_of};
+ghost use Rattle.constraints.specs.declared.types.Rule.TheVariants as rule;
 
 use crate::evaluation::holding;
 use crate::local::is_local;
@@ -67,7 +66,7 @@ pub fn window_times(
 fn held(alloc: Global, sources: &Sources, window: &Window) -> Result<Windows, OutOfMemory>
     requires sources { AreSources sources.now }
     requires window { IsTrue (is_window sources.now.model.now window.now) }
-    ensures { IfOk result (λ made. made ≡ times_held sources.now.model.now sources.now.run.now window.now None) }
+    ensures { IfOk result (λ made. made ≡ held_over sources.now window.now None) }
 {
     let made = holding(alloc, sources, window, &None)?;
     Ok(made)
@@ -82,7 +81,7 @@ fn not_held(
 ) -> Result<Windows, OutOfMemory>
     requires sources { AreSources sources.now }
     requires window { IsTrue (is_window sources.now.model.now window.now) }
-    ensures { IfOk result (λ made. made ≡ times_not_held sources.now.model.now sources.now.run.now window.now bound.now) }
+    ensures { IfOk result (λ made. made ≡ not_held_over sources.now window.now bound.now) }
 {
     let times = holding(alloc, sources, window, bound)?;
     let made = times.not(alloc)?;
@@ -91,7 +90,7 @@ fn not_held(
 
 /// Puts a violation at these times behind the others, unless there are none.
 fn put(found: &mut List<Violation>, path: Option<Path>, times: Windows) -> Result<(), OutOfMemory>
-    ensures { OnOk result (found.new ≡ found.old ++ listed path times.reach times.intervals) }
+    ensures { OnOk result (found.new ≡ found.old ++ listed_times path times) }
 {
     if times.intervals().is_empty() {
         return Ok(());
@@ -105,7 +104,7 @@ fn put(found: &mut List<Violation>, path: Option<Path>, times: Windows) -> Resul
 
 /// A violation at these times, unless there are none.
 fn one_violation(alloc: Global, times: Windows) -> Result<List<Violation>, OutOfMemory>
-    ensures { IfOk result (λ found. found ≡ listed None times.reach times.intervals) }
+    ensures { IfOk result (λ found. found ≡ listed_times None times) }
 {
     let mut found = List::new(alloc);
     put(&mut found, None, times)?;
@@ -122,7 +121,7 @@ fn plain(
 ) -> Result<List<Violation>, OutOfMemory>
     requires fresh { IsFresh model.now run.now.plan run.now.bound run.now }
     requires window { IsTrue (is_window model.now window.now) }
-    ensures { IfOk result (λ found. found ≡ where_not None run.now.reach (window_holds model.now run.now window.now None)) }
+    ensures { IfOk result (AreOfRule model.now run.now (rule.Plain window.now)) }
 {
     let sources = Sources::of(alloc, model, run, window)?;
     let times = not_held(alloc, &sources, window, &None)?;
@@ -138,7 +137,7 @@ fn forbid(
     one: u16,
     other: u16,
 ) -> Result<List<Violation>, OutOfMemory>
-    ensures { IfOk result (λ found. found ≡ where_not None run.now.reach (λ t. not (meet run.now.reach one other (spans_of model.now run.now) t))) }
+    ensures { IfOk result (AreOfRule model.now run.now (rule.Forbid one other)) }
 {
     let spans = spans(alloc, model, run)?;
     let all = spans.as_slice();
@@ -154,7 +153,7 @@ fn put_for_span(
     span: &Span,
     times: Windows,
 ) -> Result<(), OutOfMemory>
-    ensures { OnOk result (found.new ≡ found.old ++ listed (Some span.now.path) times.reach times.intervals) }
+    ensures { OnOk result (found.new ≡ found.old ++ listed_times (Some span.now.path) times) }
 {
     let path = span.path.copy(alloc)?;
     put(found, Some(path), times)?;
@@ -172,11 +171,11 @@ fn spliced(
     times: &(Time, Time),
 ) -> Result<Windows, OutOfMemory>
     requires near { local window.now ≡ true }
-    requires outside { outside.now ≡ times_not_held sources.now.model.now sources.now.run.now window.now None }
-    requires inside { inside.now ≡ times_not_held sources.now.model.now sources.now.run.now window.now (Some (0, sources.now.run.now.reach)) }
+    requires outside { outside.now ≡ not_held_over sources.now window.now None }
+    requires inside { inside.now ≡ not_held_over sources.now window.now (endless sources.now) }
     requires order { times.now.0 ≤ times.now.1 }
     requires within { times.now.1 ≤ sources.now.run.now.reach }
-    ensures { IfOk result (λ made. made ≡ times_not_held sources.now.model.now sources.now.run.now window.now (Some times.now)) }
+    ensures { IfOk result (λ made. made ≡ not_held_over sources.now window.now (Some times.now)) }
 {
     let made = outside.replaced(alloc, inside, times.0, times.1)?;
     Ok(made)
@@ -194,10 +193,10 @@ fn put_spliced(
     kind: u16,
 ) -> Result<(), OutOfMemory>
     requires near { local window.now ≡ true }
-    requires outside { outside.now ≡ times_not_held sources.now.model.now sources.now.run.now window.now None }
-    requires inside { inside.now ≡ times_not_held sources.now.model.now sources.now.run.now window.now (Some (0, sources.now.run.now.reach)) }
+    requires outside { outside.now ≡ not_held_over sources.now window.now None }
+    requires inside { inside.now ≡ not_held_over sources.now window.now (endless sources.now) }
     requires in_time { IsInTime sources.now.run.now.reach span.now }
-    ensures { OnOk result (found.new ≡ found.old ++ violations_if sources.now.model.now sources.now.run.now kind window.now (defined_span span.now)) }
+    ensures { OnOk result (found.new ≡ found.old ++ violations_over sources.now kind window.now span.now) }
 {
     if !is_of_type(span, kind) {
         return Ok(());
@@ -221,7 +220,7 @@ fn each_spliced(
     requires window { IsTrue (is_window sources.now.model.now window.now) }
     requires near { local window.now ≡ true }
     requires in_time { All (IsInTime sources.now.run.now.reach) spans.now }
-    ensures { IfOk result (λ found. found ≡ violations_of_spans sources.now.model.now sources.now.run.now kind window.now (map defined_span spans.now)) }
+    ensures { IfOk result (λ found. found ≡ all_violations_over sources.now kind window.now spans.now) }
 {
     let endless = Some((first_time(), sources.run.reach));
     let outside = not_held(alloc, sources, window, &None)?;
@@ -246,7 +245,7 @@ fn put_evaluated(
 ) -> Result<(), OutOfMemory>
     requires sources { AreSources sources.now }
     requires window { IsTrue (is_window sources.now.model.now window.now) }
-    ensures { OnOk result (found.new ≡ found.old ++ violations_if sources.now.model.now sources.now.run.now kind window.now (defined_span span.now)) }
+    ensures { OnOk result (found.new ≡ found.old ++ violations_over sources.now kind window.now span.now) }
 {
     if !is_of_type(span, kind) {
         return Ok(());
@@ -268,7 +267,7 @@ fn each_evaluated(
 ) -> Result<List<Violation>, OutOfMemory>
     requires sources { AreSources sources.now }
     requires window { IsTrue (is_window sources.now.model.now window.now) }
-    ensures { IfOk result (λ found. found ≡ violations_of_spans sources.now.model.now sources.now.run.now kind window.now (map defined_span spans.now)) }
+    ensures { IfOk result (λ found. found ≡ all_violations_over sources.now kind window.now spans.now) }
 {
     let mut found = List::new(alloc);
     for span in spans {
@@ -287,7 +286,7 @@ fn each(
 ) -> Result<List<Violation>, OutOfMemory>
     requires fresh { IsFresh model.now run.now.plan run.now.bound run.now }
     requires window { IsTrue (is_window model.now window.now) }
-    ensures { IfOk result (λ found. found ≡ violations_of_spans model.now run.now kind window.now (spans_of model.now run.now)) }
+    ensures { IfOk result (AreOfRule model.now run.now (rule.Each kind window.now)) }
 {
     let sources = Sources::of(alloc, model, run, window)?;
     let spans = spans(alloc, model, run)?;

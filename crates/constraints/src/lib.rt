@@ -2,9 +2,11 @@
 #![tactic(auto)]
 
 mod comparing;
+mod copies;
 mod evaluation;
 mod forms;
 mod judging;
+pub mod laws;
 mod local;
 mod meeting;
 mod reading;
@@ -19,9 +21,11 @@ mod violation;
 
 pub use judging::{violations, window_times};
 pub use reading::{
-    RuleRefusal, WrongRule, form_error, judge_name, judge_type, judge_window, number_of_type,
-    place_of_enum, place_of_type, read_constraints, refusal_error, refuse, refuse_unless,
-    short_number, variant_place, window_of,
+    RuleRefusal, WrongRule, form_error, is_of_kind, judge_literal, judge_name, judge_type,
+    judge_window, literal_kind, literal_value, number_of_type, number_or_first, known_parameter,
+    parameters_if_known, place_of_enum, place_of_parameter, place_of_type, read_constraints,
+    refusal_error, refuse, refuse_unless, short_number, signed_time, time_within, activity_named,
+    variant_place, window_of,
 };
 pub use rule_error::RuleError;
 pub use types::{Constraint, Reading, Rule, RuleSum, RuleTerm, Window};

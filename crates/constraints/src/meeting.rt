@@ -2,8 +2,8 @@
 
 ghost use Rattle.std.specs.Prelude.{◌≡◌, ◌++◌, if◌then◌else◌, map, max, min, IfOk, OnOk};
 ghost use Rattle.span_table.specs.AsDefined.{defined_span};
-ghost use Rattle.windows.specs.Times.{AreIntervals};
-ghost use Rattle.constraints.specs.Meeting.{ByStart, HaveOwnPaths, ends_with, meetings_of, no_ends};
+ghost use Rattle.constraints.specs.HeldTimes.{HasTimes};
+ghost use Rattle.constraints.specs.Meeting.{ByStart, HaveOwnPaths, ends_with, met_by, no_ends};
 ghost use Rattle.constraints.specs.Violating.{meet};
 
 use crate::span_times::{is_of_type, put_if, times_of};
@@ -70,7 +70,7 @@ fn put_meetings(
     reach: Time,
     ends: &Ends,
 ) -> Result<(), OutOfMemory>
-    ensures { OnOk result (times.new.items ≡ times.old.items ++ meetings_of reach one other ends.now (defined_span span.now)) }
+    ensures { OnOk result (times.new.items ≡ times.old.items ++ met_by reach one other ends.now span.now) }
 {
     let lasts = times_of(span, reach);
     let is_other = is_of_type(span, other);
@@ -92,7 +92,7 @@ pub(crate) fn meetings(
     requires order { ByStart (map defined_span spans.now) }
     requires paths { HaveOwnPaths (map defined_span spans.now) }
     ensures reach { IfOk result (λ made. made.reach ≡ reach) }
-    ensures times { IfOk result (λ made. AreIntervals made.reach (meet reach one other (map defined_span spans.now)) made.intervals) }
+    ensures times { IfOk result (HasTimes (meet reach one other (map defined_span spans.now))) }
 {
     let mut times = Vec::new(alloc);
     let mut ends = no_ends();

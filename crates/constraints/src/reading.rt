@@ -1,6 +1,7 @@
 //! Rules are read: as they are written, what is refused of them, and what they mean.
 
 mod constraints;
+mod literals;
 mod meaning;
 mod names;
 mod refusals;
@@ -9,7 +10,11 @@ mod window_meaning;
 mod window_refusals;
 
 pub use constraints::{form_error, read_constraints, refusal_error};
-pub use names::{place_of_enum, place_of_type, short_number, variant_place};
+pub use literals::{
+    judge_literal, literal_kind, literal_value, known_parameter, parameters_if_known, place_of_parameter,
+    activity_named,
+};
+pub use names::{is_of_kind, place_of_enum, place_of_type, short_number, variant_place};
 pub use refusals::{RuleRefusal, WrongRule, refuse, refuse_unless};
-pub use window_meaning::{number_of_type, window_of};
+pub use window_meaning::{number_of_type, number_or_first, signed_time, time_within, window_of};
 pub use window_refusals::{judge_name, judge_type, judge_window};

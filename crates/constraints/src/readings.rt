@@ -1,12 +1,9 @@
 //! What rules read, over the time of a run.
 
-ghost use Rattle.std.specs.Prelude.{◌≡◌, ◌<◌, IsTrue, slice_get, IfOk};
-ghost use Rattle.aerie_base.specs.declared.values.Kind.TheVariants as kind;
-ghost use Rattle.aerie_base.specs.expressions.Arithmetic.{truth_in};
-ghost use Rattle.windows.specs.Times.{AreIntervals};
-ghost use Rattle.constraints.specs.Following.{AreTimesEqual, FollowsReading};
-ghost use Rattle.constraints.specs.Holding.{reading_value};
-ghost use Rattle.constraints.specs.OfModel.{is_of_kind, is_truth, may_equal, reading_kind, resource_kind};
+ghost use Rattle.std.specs.Prelude.{◌≡◌, IsTrue, IfOk};
+ghost use Rattle.constraints.specs.HeldTimes.{HasTimes};
+ghost use Rattle.constraints.specs.OfModel.{reads_number, is_truth, may_be_equal};
+ghost use Rattle.constraints.specs.OverSources.{AreEqualOver, FollowOver, truth_over};
 ghost use Rattle.constraints.specs.Sources.{AreSources};
 ghost use Rattle.constraints.specs.declared.types.Reading.TheVariants as read;
 
@@ -29,8 +26,8 @@ fn resource_times(
     equal: bool,
 ) -> Result<Windows, OutOfMemory>
     requires sources { AreSources sources.now }
-    requires typed { IsTrue (may_equal sources.now.model.now value.now (resource_kind sources.now.model.now.cells (slice_get sources.now.model.now.resources number))) }
-    ensures { IfOk result (AreTimesEqual sources.now.model.now sources.now.run.now (read.Resource number) value.now equal) }
+    requires typed { IsTrue (may_be_equal sources.now.model.now (read.Resource number) value.now) }
+    ensures { IfOk result (AreEqualOver sources.now (read.Resource number) value.now equal) }
 {
     let reach = sources.run.reach;
     let profile = sources.profile(alloc, number)?;
@@ -54,8 +51,8 @@ fn series_times(
     value: &Value,
     equal: bool,
 ) -> Result<Windows, OutOfMemory>
-    requires typed { IsTrue (may_equal sources.now.model.now value.now (reading_kind sources.now.model.now (read.Series series.now))) }
-    ensures { IfOk result (AreTimesEqual sources.now.model.now sources.now.run.now (read.Series series.now) value.now equal) }
+    requires typed { IsTrue (may_be_equal sources.now.model.now (read.Series series.now) value.now) }
+    ensures { IfOk result (AreEqualOver sources.now (read.Series series.now) value.now equal) }
 {
     let reach = sources.run.reach;
     match series {
@@ -80,8 +77,8 @@ pub(crate) fn reading_times(
     equal: bool,
 ) -> Result<Windows, OutOfMemory>
     requires sources { AreSources sources.now }
-    requires typed { IsTrue (may_equal sources.now.model.now value.now (reading_kind sources.now.model.now reading.now)) }
-    ensures { IfOk result (AreTimesEqual sources.now.model.now sources.now.run.now reading.now value.now equal) }
+    requires typed { IsTrue (may_be_equal sources.now.model.now reading.now value.now) }
+    ensures { IfOk result (AreEqualOver sources.now reading.now value.now equal) }
 {
     match reading {
         Reading::Resource(number) => resource_times(alloc, sources, *number, value, equal),
@@ -98,7 +95,7 @@ pub(crate) fn truth_times(
     requires sources { AreSources sources.now }
     requires typed { IsTrue (is_truth sources.now.model.now reading.now) }
     ensures reach { IfOk result (λ made. made.reach ≡ sources.now.run.now.reach) }
-    ensures times { IfOk result (λ made. AreIntervals made.reach (λ t. truth_in (reading_value sources.now.model.now sources.now.run.now reading.now t)) made.intervals) }
+    ensures times { IfOk result (HasTimes (truth_over sources.now reading.now)) }
 {
     let made = reading_times(alloc, sources, reading, &Value::Truth(true), true)?;
     Ok(made)
@@ -111,8 +108,8 @@ fn resource_segments(
     number: u16,
 ) -> Result<List<Segment>, OutOfMemory>
     requires sources { AreSources sources.now }
-    requires typed { IsTrue (is_of_kind kind.Int (resource_kind sources.now.model.now.cells (slice_get sources.now.model.now.resources number))) }
-    ensures { IfOk result (FollowsReading sources.now.model.now sources.now.run.now (read.Resource number)) }
+    requires typed { IsTrue (reads_number sources.now.model.now (read.Resource number)) }
+    ensures { IfOk result (FollowOver sources.now (read.Resource number)) }
 {
     // the model is valid, and below the reach its cells are in range
     sources.model.resources();
@@ -133,8 +130,8 @@ fn series_segments(
     sources: &Sources,
     series: &Series,
 ) -> Result<List<Segment>, OutOfMemory>
-    requires typed { IsTrue (is_of_kind kind.Int (reading_kind sources.now.model.now (read.Series series.now))) }
-    ensures { IfOk result (FollowsReading sources.now.model.now sources.now.run.now (read.Series series.now)) }
+    requires typed { IsTrue (reads_number sources.now.model.now (read.Series series.now)) }
+    ensures { IfOk result (FollowOver sources.now (read.Series series.now)) }
 {
     let reach = sources.run.reach;
     reach.get();
@@ -149,8 +146,8 @@ pub(crate) fn reading_segments(
     reading: &Reading,
 ) -> Result<List<Segment>, OutOfMemory>
     requires sources { AreSources sources.now }
-    requires typed { IsTrue (is_of_kind kind.Int (reading_kind sources.now.model.now reading.now)) }
-    ensures { IfOk result (FollowsReading sources.now.model.now sources.now.run.now reading.now) }
+    requires typed { IsTrue (reads_number sources.now.model.now reading.now) }
+    ensures { IfOk result (FollowOver sources.now reading.now) }
 {
     match reading {
         Reading::Resource(number) => resource_segments(alloc, sources, *number),

@@ -128,7 +128,7 @@ fn type_times_read(
     kind: u16,
     reach: Time,
 ) -> Result<Option<Windows>, OutOfMemory>
-    ensures { IfOk result (λ made. IfSome made (λ made. IsTimesIn reach (map defined_span spans.now) kind made)) }
+    ensures { IfOk result (λ made. IfSome made (IsTimesIn reach (map defined_span spans.now) kind)) }
 {
     if !names_type(window, kind) {
         return Ok(None);

@@ -2,8 +2,8 @@
 
 ghost use Rattle.std.specs.Prelude.{◌≡◌, ◌++◌, map, nat_eq, IfOk, OnOk};
 ghost use Rattle.span_table.specs.AsDefined.{defined_span};
-ghost use Rattle.windows.specs.Times.{AreIntervals};
 ghost use Rattle.constraints.specs.Meeting.{times_if};
+ghost use Rattle.constraints.specs.HeldTimes.{HasTimes};
 ghost use Rattle.constraints.specs.Holding.{some_covers, times_of};
 
 use aerie_base::{OutOfMemory, Time};
@@ -47,7 +47,7 @@ pub(crate) fn type_times(
     reach: Time,
 ) -> Result<Windows, OutOfMemory>
     ensures reach { IfOk result (λ made. made.reach ≡ reach) }
-    ensures times { IfOk result (λ made. AreIntervals made.reach (some_covers reach kind (map defined_span spans.now)) made.intervals) }
+    ensures times { IfOk result (HasTimes (some_covers reach kind (map defined_span spans.now))) }
 {
     let mut covered = Vec::new(alloc);
     for span in spans {

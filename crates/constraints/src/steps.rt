@@ -1,11 +1,11 @@
 //! Values that stay from step to step.
 
-ghost use Rattle.std.specs.Prelude.{◌≡◌, ◌+◌, ◌<◌, ◌≤◌, drop, length, map, IfOk};
+ghost use Rattle.std.specs.Prelude.{◌≡◌, ◌+◌, ◌<◌, drop, length, map, IfOk};
 ghost use Rattle.aerie_base.specs.Ranges.{IsNumber};
-ghost use Rattle.aerie_base.specs.expressions.Arithmetic.{number_in, same_value as are_same};
-ghost use Rattle.windows.specs.Times.{AreIntervals};
+ghost use Rattle.aerie_base.specs.expressions.Arithmetic.{number_in};
+ghost use Rattle.constraints.specs.HeldTimes.{HasTimes};
 ghost use Rattle.constraints.specs.Holding.{equals_or_not};
-ghost use Rattle.constraints.specs.Steps.{AreSteps, HaveNumbers, flat, first_step, step_value, truth_step};
+ghost use Rattle.constraints.specs.Steps.{AreSteps, HaveNumbers, flat, first_step, step_equals, truth_step};
 
 use crate::span_times::put_if;
 use aerie_base::{List, OutOfMemory, Time, Value, same_value};
@@ -40,7 +40,7 @@ pub(crate) fn times_equal(
 ) -> Result<Windows, OutOfMemory>
     requires steps { AreSteps reach steps.now }
     ensures reach { IfOk result (λ made. made.reach ≡ reach) }
-    ensures times { IfOk result (λ made. AreIntervals made.reach (λ t. equals_or_not equal (are_same (step_value steps.now t) value.now)) made.intervals) }
+    ensures times { IfOk result (HasTimes (step_equals equal steps.now value.now)) }
 {
     let mut times = Vec::new(alloc);
     for at in 0..steps.len() {

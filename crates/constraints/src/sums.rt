@@ -4,6 +4,7 @@ ghost use Rattle.std.specs.Prelude.{◌≡◌, ℕ, ◌+◌, ◌-◌, ◌<◌, �
 ghost use Rattle.std.specs.Int.RustNames.{unsigned_abs};
 ghost use Rattle.aerie_base.specs.Ranges.{IsTime};
 ghost use Rattle.constraints.specs.Pieces.{CanBeAdded, IsAdded};
+ghost use Rattle.constraints.specs.SumPieces.{HasMore, MayBeAdded};
 ghost use Rattle.windows.specs.Linear.{AreSegments, IsSum, first_start, segment_value, segments_value};
 
 use aerie_base::{List, OutOfMemory, Time};
@@ -129,9 +130,9 @@ pub(crate) fn plus_times(
     requires sum { AreSegments reach sum.now }
     requires segments { AreSegments reach segments.now }
     requires product { (t : ℕ) → t < reach → IsSum (coefficient *ℤ segments_value segments.now t) }
-    requires total { (t : ℕ) → t < reach → IsSum (segments_value sum.now t +ℤ coefficient *ℤ segments_value segments.now t) }
+    requires total { MayBeAdded reach sum.now coefficient segments.now }
     ensures form { IfOk result (λ made. AreSegments reach made) }
-    ensures values { IfOk result (λ made. (t : ℕ) → t < reach → segments_value made t ≡ segments_value sum.now t +ℤ coefficient *ℤ segments_value segments.now t) }
+    ensures values { IfOk result (HasMore reach sum.now coefficient segments.now) }
 {
     let mut made = List::new(alloc);
     let (mut at_sum, mut at_more) = (0, 0);

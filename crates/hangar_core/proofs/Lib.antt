@@ -13,5 +13,6 @@ pub mod Counts
 pub mod KeptFields
 pub mod EditedBranches
 pub mod Working
+pub mod SameSession
 pub mod Stepping
 pub mod Noting

@@ -21,10 +21,11 @@ use Rattle.hangar_core.specs.Replies.{accepted_with}
 use Rattle.hangar_core.specs.Workspaces.{Answered, branch_limit, branch_named, has_name, on_branch, on_found}
 use Rattle.hangar_core.specs.Opening.{dropped_where, empty_plan, forked_from, opened, opened_unless}
 use Rattle.hangar_core.specs.Changing.{Told, attached, by_model, edited, fetched, if_edited, if_migrated, mapping_to, migrated_by, migrated_to, placed_branch, told_added, told_edited, told_loaded, with_plan}
-use Rattle.hangar_core.specs.Standing.{AreRevisionsWithin, CountedWorkspace, IsBranchIn, IsHangar, IsReplyOf, IsStepped, IsWorkspace}
+use Rattle.hangar_core.specs.Standing.{AreRevisionsWithin, CountedWorkspace, IsBranchIn, IsHangar, IsOfSameSession, IsReplyOf, IsStepped, IsWorkspace}
 use Rattle.hangar_core.specs.Steps.{step}
 use Rattle.hangar_core.proofs.Plain.{none_some, some_same}
 use Rattle.hangar_core.proofs.Counts.{step_counts, step_stays}
+use Rattle.hangar_core.proofs.SameSession.{step_same}
 
 -- ---- what is answered
 
@@ -146,5 +147,6 @@ stepped before accepted count w new action told b h e n s =
           (ap (λ (a : Answered). a.1) e ∙ step_stays w action h.stands.names (ap (λ (a : Answered). accepted_with a.0) (sym e) ∙ z))
           ∙ counted w (accepted + count) accepted (omega (arith, n, z));
       stands = s;
+      session = subst (λ (a : Answered). IsOfSameSession w a.1) (sym e) (step_same w action);
       of_models = subst (λ (a : Answered). IsReplyOf w.models w.duration a.0) (sym e) (step_told w action h.stands);
     }

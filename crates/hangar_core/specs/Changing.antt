@@ -1,5 +1,5 @@
 -- What becomes of one branch by an action on it.
-use Rattle.std.specs.Prelude.{ℕ, ◌+◌, ◌&&◌, nat_eq, Bool, false, List, length, slice_get, Option, Some, None, Result, Ok, Err, if◌then◌else◌}
+use Rattle.std.specs.Prelude.{◌≡◌, ℕ, ◌+◌, ◌&&◌, nat_eq, Bool, false, List, length, slice_get, Option, Some, None, Result, Ok, Err, if◌then◌else◌}
 use Rattle.std.specs.List.{find}
 use Rattle.aerie_base.specs.declared.models.model.Parts.{Parts}
 use Rattle.aerie_base.specs.declared.plans.Plan.{Plan}
@@ -18,6 +18,10 @@ use Rattle.hangar_core.specs.declared.replies.Reply.TheVariants.{Added, Edited, 
 -- what is answered, and the branch after it
 abbrev pub Told : Type 0
 Told = Reply × Branch
+
+-- what a change makes of a branch, with the reply
+abbrev pub IsMadeBy : (Branch → Told) → Branch → Branch → Reply → Type 0
+IsMadeBy change before after reply = (reply, after) ≡ change before
 
 -- another plan, one revision on
 abbrev pub with_plan : Branch → Plan → Branch
@@ -80,6 +84,10 @@ migrated_to branch mapping (Some model) = if_migrated branch (migrate_of model m
 abbrev pub migrated_by : List Parts → Branch → Option Mapping → Told
 migrated_by models branch None = (NoMapping, branch)
 migrated_by models branch (Some mapping) = migrated_to branch mapping (slice_get models mapping.to)
+
+-- by a mapping that is there
+abbrev pub migrated_through : List Parts → Mapping → Branch → Told
+migrated_through models mapping branch = migrated_by models branch (Some mapping)
 
 -- Migrate: the plan in the model with a name; the kept run stays
 abbrev pub migrated_branch : List Parts → List Mapping → List ℕ → Branch → Told

@@ -15,6 +15,8 @@ use Rattle.hangar_core.specs.declared.branches.Branch.{Branch}
 use Rattle.hangar_core.specs.declared.replies.Reply.{Reply}
 use Rattle.hangar_core.specs.declared.replies.Reply.TheVariants as told
 use Rattle.plan_edit.specs.declared.mappings.Mapping.{Mapping}
+use Rattle.hangar_core.specs.declared.workspaces.Workspace.{Workspace}
+use Rattle.hangar_core.specs.Workspaces.{Answered, on_branch}
 use Rattle.hangar_core.specs.Changing.{Told, attached, edited, fetched, migrated_branch, placed_branch, told_added, told_edited, told_loaded}
 
 -- the edited plan, by its model
@@ -33,6 +35,10 @@ told_of (Move id at) = told_edited
 told_of (Set id parameter value) = told_edited
 told_of (Load text) = told_loaded
 
+-- an edit of the plan of a branch
+abbrev pub edited_as : List Parts → Edit → Branch → Told
+edited_as models edit = edited models (edit_of edit) (told_of edit)
+
 -- a refusal is told as it is, and want of memory is none
 abbrev pub IsToldRefusal : EditError → Result Reply OutOfMemory → Type 0
 IsToldRefusal refusal (Ok reply) = (reply ≡ told.Edit refusal) × (refusal ≡ error.OutOfMemory → ⊥)
@@ -40,11 +46,15 @@ IsToldRefusal refusal (Err memory) = Unit {0}
 
 -- what becomes of a branch by a change
 abbrev pub change_of : List Parts → List Mapping → BranchChange → Branch → Told
-change_of models mappings (change.Edit edit) = edited models (edit_of edit) (told_of edit)
+change_of models mappings (change.Edit edit) = edited_as models edit
 change_of models mappings (change.Migrate model) = migrated_branch models mappings model
 change_of models mappings change.Fetch = fetched
 change_of models mappings (change.Attach kept) = attached kept
 change_of models mappings (change.Place seen plan) = placed_branch seen plan
+
+-- a change of the branch with a name
+abbrev pub changed_by : Workspace → List ℕ → BranchChange → Answered
+changed_by workspace name change = on_branch workspace name (change_of workspace.models workspace.mappings change)
 
 -- what becomes of the branch at a place by a change; all others stay
 abbrev pub IsMadeOf : Told → ℕ → List Branch → List Branch → Reply → Type 0

@@ -1,5 +1,5 @@
 -- Branches begin and end.
-use Rattle.std.specs.Prelude.{◌≡◌, ℕ, ◌+◌, not, nat_lt, Bool, List, [], ◌∷◌, ◌++◌, filter, length, Option, Some, None, is_some, if◌then◌else◌}
+use Rattle.std.specs.Prelude.{◌≡◌, ℕ, ◌+◌, not, nat_lt, Bool, List, [], ◌∷◌, ◌++◌, filter, length, slice_get, Option, Some, None, is_some, if◌then◌else◌}
 use Rattle.std.specs.Map.{lookup}
 use Rattle.std.specs.Ordering.{nat_cmp}
 use Rattle.std.specs.BTreeMap.{insert_entry, is_at}
@@ -78,6 +78,10 @@ abbrev pub forked_from : Workspace → List ℕ → Option Branch → Answered
 forked_from workspace name None = refused workspace NoBranch
 forked_from workspace name (Some source) = opened workspace name source.plan source.kept
 
+-- from the branch at a place
+abbrev pub forked_at : Workspace → List ℕ → ℕ → Answered
+forked_at workspace name at = forked_from workspace name (slice_get workspace.branches at)
+
 -- Fork: the plan and the kept run of another branch
 abbrev pub forked : Workspace → List ℕ → List ℕ → Answered
 forked workspace name source = forked_from workspace name (branch_named workspace source)
@@ -97,6 +101,10 @@ without_branch workspace name revision = record workspace {
 abbrev pub dropped_where : Workspace → List ℕ → Option Branch → Answered
 dropped_where workspace name None = refused workspace NoBranch
 dropped_where workspace name (Some branch) = (Dropped, without_branch workspace name branch.revision)
+
+-- the branch at a place
+abbrev pub dropped_at : Workspace → List ℕ → ℕ → Answered
+dropped_at workspace name at = dropped_where workspace name (slice_get workspace.branches at)
 
 -- Drop: the branch leaves
 abbrev pub dropped_branch : Workspace → List ℕ → Answered

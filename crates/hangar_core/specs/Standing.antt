@@ -128,6 +128,21 @@ IsChangeOn models duration change.Fetch = Unit {0}
 IsChangeOn models duration (change.Attach kept) = IsKeptIn models kept
 IsChangeOn models duration (change.Place seen plan) = IsPlanIn models duration plan
 
+-- what a branch of a workspace becomes is one of the workspace as well
+abbrev pub StaysIn : List Parts → Branch → Branch → Type 0
+StaysIn models before after = (duration : ℕ) → IsBranchIn models duration before → IsBranchIn models duration after
+
+-- by a change that the workspace takes
+abbrev pub StaysWith : List Parts → BranchChange → Branch → Branch → Type 0
+StaysWith models change before after =
+    (duration : ℕ) → IsChangeOn models duration change → IsBranchIn models duration before → IsBranchIn models duration after
+
+-- all of them
+abbrev pub AllStayWith : List Parts → BranchChange → List Branch → List Branch → Type 0
+AllStayWith models change before after =
+    (duration : ℕ) → IsChangeOn models duration change →
+    AllByRecursion (IsBranchIn models duration) before → AllByRecursion (IsBranchIn models duration) after
+
 -- a branch whose plan is of one of the models, and whose revision may rise
 abbrev pub MayChange : List Parts → Option Branch → Type 0
 MayChange models None = ⊥
@@ -152,11 +167,18 @@ IsReplyOf models duration (reply.Misfit id number) = Unit {0}
 IsReplyOf models duration (reply.Edit refusal) = Unit {0}
 IsReplyOf models duration (reply.Stale seen now) = Unit {0}
 
--- what a step of a hangar leaves: the machine's reply and workspace, one accepted action more or none, and a workspace that
--- stands, whose plans and runs the reply tells of
+-- a workspace of the same session: what no action changes
+pub record IsOfSameSession (before after : Workspace) : Type 0 where
+  pub models : after.models ≡ before.models
+  pub mappings : after.mappings ≡ before.mappings
+  pub duration : after.duration ≡ before.duration
+
+-- what a step of a hangar leaves: the machine's reply and workspace, one accepted action more or none, and a workspace of the
+-- same session that stands, whose plans and runs the reply tells of
 pub record IsStepped (before after : CountedWorkspace) (action : Action) (told : Reply) : Type 0 where
   pub machine : (told, after.workspace) ≡ step before.workspace action
   pub counted : after.accepted ≡ before.accepted + accepted_with told
   pub unmoved : accepted_with told ≡ 0 → after ≡ before
   pub stands : IsWorkspace after.workspace
+  pub session : IsOfSameSession before.workspace after.workspace
   pub of_models : IsReplyOf before.workspace.models before.workspace.duration told

@@ -1,5 +1,5 @@
 -- A workspace: the models of a session, the mappings between them, and branches of plans in the order in which they began.
-use Rattle.std.specs.Prelude.{ℕ, Bool, List, map, Option, Some, None, if◌then◌else◌}
+use Rattle.std.specs.Prelude.{ℕ, Bool, List, map, slice_get, option_and_then, Option, Some, None, if◌then◌else◌}
 use Rattle.std.specs.List.{find}
 use Rattle.aerie_base.specs.models.Names.{same_name}
 use Rattle.hangar_core.specs.declared.branches.Branch.{Branch}
@@ -18,6 +18,10 @@ Answered = Reply × Workspace
 -- a refusal changes nothing
 abbrev pub refused : Workspace → Reply → Answered
 refused workspace reply = (reply, workspace)
+
+-- what stands at a place, if it is given
+abbrev pub item_there : {A : Type 0} → List A → Option ℕ → Option A
+item_there items place = option_and_then (slice_get items) place
 
 -- ---- branches by name
 

@@ -1,9 +1,10 @@
 //! What becomes of a branch by an action on it.
 
-ghost use Rattle.std.specs.Prelude.{◌≡◌, ◌<◌, ◌^◌, ℕ, Some, IfOk, IfSome, OnErr, option_and_then, slice_get, length};
-ghost use Rattle.hangar_core.specs.Changing.{attached as attached_by, edited as edited_by, fetched as fetched_by, is_named as is_named_by, mapping_to as mapping_to_by, migrated_branch as migrated_to_by, migrated_by as migrated_by_mapping, placed_branch as placed_by};
-ghost use Rattle.hangar_core.specs.Edits.{change_of, edit_of, IsToldRefusal, told_of};
-ghost use Rattle.hangar_core.specs.Standing.{AreModels, IsBranchIn, IsChangeOn, IsMappingIn, IsPlanAmong, IsPlanIn};
+ghost use Rattle.std.specs.Prelude.{◌≡◌, ◌<◌, ◌^◌, IfOk, IfSome, OnErr, slice_get, length};
+ghost use Rattle.hangar_core.specs.Changing.{attached as attached_by, fetched as fetched_by, IsMadeBy, is_named as is_named_by, mapping_to as mapping_to_by, migrated_branch as moved_to, migrated_through, placed_branch as placed_by};
+ghost use Rattle.hangar_core.specs.Edits.{change_of, edited_as, IsToldRefusal};
+ghost use Rattle.hangar_core.specs.Standing.{AreModels, IsMappingIn, IsPlanAmong, StaysIn, StaysWith};
+ghost use Rattle.hangar_core.specs.Workspaces.{item_there};
 
 use crate::branches::Branch;
 use crate::edits::Edit;
@@ -51,9 +52,9 @@ pub fn changed(
     requires models { AreModels models.now mappings.now }
     requires plan { IsPlanAmong models.now branch.old.plan }
     requires few { branch.old.revision < 2 ^ 63 }
-    ensures made { IfOk result (λ reply. (reply, branch.new) ≡ change_of models.now mappings.now change branch.old) }
+    ensures made { IfOk result (IsMadeBy (change_of models.now mappings.now change) branch.old branch.new) }
     ensures unchanged { OnErr result (branch.new ≡ branch.old) }
-    ensures stays { (duration : ℕ) → IsChangeOn models.now duration change → IsBranchIn models.now duration branch.old → IsBranchIn models.now duration branch.new }
+    ensures stays { StaysWith models.now change branch.old branch.new }
     ensures name { branch.new.name ≡ branch.old.name }
 {
     match change {
@@ -74,9 +75,9 @@ fn edited(
 ) -> Result<Reply, OutOfMemory>
     requires plan { IsPlanAmong models.now branch.old.plan }
     requires few { branch.old.revision < 2 ^ 63 }
-    ensures made { IfOk result (λ reply. (reply, branch.new) ≡ edited_by models.now (edit_of edit.now) (told_of edit.now) branch.old) }
+    ensures made { IfOk result (IsMadeBy (edited_as models.now edit.now) branch.old branch.new) }
     ensures unchanged { OnErr result (branch.new ≡ branch.old) }
-    ensures stays { (duration : ℕ) → IsBranchIn models.now duration branch.old → IsBranchIn models.now duration branch.new }
+    ensures stays { StaysIn models.now branch.old branch.new }
     ensures name { branch.new.name ≡ branch.old.name }
 {
     let model = &models[usize::from(branch.plan.get().model)];
@@ -107,7 +108,7 @@ fn mapping_to(
     from: u16,
     name: &Name,
 ) -> Option<usize>
-    ensures found { option_and_then (slice_get mappings.now) result ≡ mapping_to_by models.now mappings.now from name.now }
+    ensures found { item_there mappings.now result ≡ mapping_to_by models.now mappings.now from name.now }
     ensures within { IfSome result (λ place. place < length mappings.now) }
 {
     for place in 0..mappings.len() {
@@ -140,9 +141,9 @@ fn migrated(
     requires models { AreModels models.now mappings.now }
     requires plan { IsPlanAmong models.now branch.old.plan }
     requires few { branch.old.revision < 2 ^ 63 }
-    ensures made { IfOk result (λ reply. (reply, branch.new) ≡ migrated_to_by models.now mappings.now name.now branch.old) }
+    ensures made { IfOk result (IsMadeBy (moved_to models.now mappings.now name.now) branch.old branch.new) }
     ensures unchanged { OnErr result (branch.new ≡ branch.old) }
-    ensures stays { (duration : ℕ) → IsBranchIn models.now duration branch.old → IsBranchIn models.now duration branch.new }
+    ensures stays { StaysIn models.now branch.old branch.new }
     ensures name { branch.new.name ≡ branch.old.name }
 {
     match mapping_to(models, mappings, branch.plan.get().model, name) {
@@ -162,9 +163,9 @@ fn migrated_by(
     requires from { mapping.now.from ≡ branch.old.plan.model }
     requires plan { IsPlanAmong models.now branch.old.plan }
     requires few { branch.old.revision < 2 ^ 63 }
-    ensures made { IfOk result (λ reply. (reply, branch.new) ≡ migrated_by_mapping models.now branch.old (Some mapping.now)) }
+    ensures made { IfOk result (IsMadeBy (migrated_through models.now mapping.now) branch.old branch.new) }
     ensures unchanged { OnErr result (branch.new ≡ branch.old) }
-    ensures stays { (duration : ℕ) → IsBranchIn models.now duration branch.old → IsBranchIn models.now duration branch.new }
+    ensures stays { StaysIn models.now branch.old branch.new }
     ensures name { branch.new.name ≡ branch.old.name }
 {
     let old = &models[usize::from(mapping.from)];

@@ -1,12 +1,12 @@
 //! The workspace of one thread.
 
-ghost use Rattle.std.specs.Prelude.{◌≡◌, ◌<◌, ℕ, remove, None, Some, IfOk, IfSome, OnErr, option_and_then, slice_get, length};
-ghost use Rattle.std.specs.List.{AllByRecursion, find};
-ghost use Rattle.hangar_core.specs.Edits.{change_of, IsMadeAt, IsRevisionOf};
-ghost use Rattle.hangar_core.specs.Opening.{dropped_branch, dropped_where, empty_plan as empty_plan_by, forked, forked_from, IsForkOf, new_branch, refusal_to_open as refusal_by, opened_with};
-ghost use Rattle.hangar_core.specs.Standing.{AreModels, AreRevisionsWithin, IsActionOn, IsBranchIn, IsChangeOn, IsWorkspace, MayChange, branch_names};
+ghost use Rattle.std.specs.Prelude.{◌≡◌, ◌<◌, remove, None, Some, IfOk, IfSome, OnErr, slice_get, length};
+ghost use Rattle.std.specs.List.{find};
+ghost use Rattle.hangar_core.specs.Edits.{changed_by, IsMadeAt, IsRevisionOf};
+ghost use Rattle.hangar_core.specs.Opening.{dropped_at, dropped_branch, empty_plan as empty_plan_by, forked, forked_at, IsForkOf, new_branch, refusal_to_open as refusal_by, opened_with};
+ghost use Rattle.hangar_core.specs.Standing.{AllStayWith, AreModels, AreRevisionsWithin, IsActionOn, IsBranchIn, IsChangeOn, IsWorkspace, MayChange, branch_names};
 ghost use Rattle.hangar_core.specs.Steps.{step as step_of};
-ghost use Rattle.hangar_core.specs.Workspaces.{branch_named, has_name, on_branch as on_branch_by};
+ghost use Rattle.hangar_core.specs.Workspaces.{branch_named, has_name, item_there};
 
 use crate::actions::Action;
 use crate::branches::Branch;
@@ -105,7 +105,7 @@ impl Workspace {
         requires workspace { IsWorkspace self.old }
         requires few { AreRevisionsWithin 9_223_372_036_854_775_807 self.old }
         requires within { at < length self.old.branches }
-        ensures made { IfOk result (λ reply. (reply, self.new) ≡ forked_from self.old name (slice_get self.old.branches at)) }
+        ensures made { IfOk result (λ reply. (reply, self.new) ≡ forked_at self.old name at) }
         ensures unchanged { OnErr result (self.new ≡ self.old) }
         ensures stands { IsWorkspace self.new }
     {
@@ -135,7 +135,7 @@ impl Workspace {
         requires workspace { IsWorkspace self.old }
         requires found { slice_get self.old.branches at ≡ branch_named self.old name }
         requires within { at < length self.old.branches }
-        ensures made { IfOk result (λ reply. (reply, self.new) ≡ dropped_where self.old name (slice_get self.old.branches at)) }
+        ensures made { IfOk result (λ reply. (reply, self.new) ≡ dropped_at self.old name at) }
         ensures unchanged { OnErr result (self.new ≡ self.old) }
         ensures stands { IsWorkspace self.new }
     {
@@ -155,7 +155,7 @@ impl Workspace {
         requires workspace { IsWorkspace self.old }
         requires few { AreRevisionsWithin 9_223_372_036_854_775_807 self.old }
         requires change { IsChangeOn self.old.models self.old.duration change }
-        ensures made { IfOk result (λ reply. (reply, self.new) ≡ on_branch_by self.old name.now (change_of self.old.models self.old.mappings change)) }
+        ensures made { IfOk result (λ reply. (reply, self.new) ≡ changed_by self.old name.now change) }
         ensures unchanged { OnErr result (self.new ≡ self.old) }
         ensures stands { IsWorkspace self.new }
     {
@@ -239,7 +239,7 @@ impl Workspace {
 
 /// The place of the branch with a name. It scans them all.
 fn position_of(branches: &[Branch], name: &Name) -> Option<usize>
-    ensures found { option_and_then (slice_get branches.now) result ≡ find (has_name name.now) branches.now }
+    ensures found { item_there branches.now result ≡ find (has_name name.now) branches.now }
     ensures within { IfSome result (λ at. at < length branches.now) }
 {
     for at in 0..branches.len() {
@@ -278,9 +278,9 @@ fn changed_at(
     requires models { AreModels models.now mappings.now }
     requires within { at < length branches.old }
     requires plan { MayChange models.now (slice_get branches.old at) }
-    ensures made { IfOk result (λ reply. IsMadeAt models.now mappings.now change at branches.old branches.new reply) }
+    ensures made { IfOk result (IsMadeAt models.now mappings.now change at branches.old branches.new) }
     ensures unchanged { OnErr result (branches.new ≡ branches.old) }
-    ensures stays { (duration : ℕ) → IsChangeOn models.now duration change → AllByRecursion (IsBranchIn models.now duration) branches.old → AllByRecursion (IsBranchIn models.now duration) branches.new }
+    ensures stays { AllStayWith models.now change branches.old branches.new }
     ensures names { branch_names branches.new ≡ branch_names branches.old }
 {
     let branch = &mut branches.items[at];

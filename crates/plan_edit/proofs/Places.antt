@@ -1,5 +1,5 @@
 -- Places of directives by the ids that stand in a text, and an index of them.
-use Rattle.std.proofs.Common.{◌≡◌, ℕ, zero, suc, ◌+◌, ◌<◌, Bool, true, false, List, [], ◌∷◌, ◌++◌, Option, Some, None, unwrap_or, length, take, get_or, nat_eq, cond, refl, sym, ap, subst, ◌∙◌, eqb-true, arith, if◌then◌else◌}
+use Rattle.std.proofs.Common.{◌≡◌, ℕ, suc, ◌+◌, ◌<◌, Bool, true, false, List, [], ◌∷◌, ◌++◌, Option, Some, None, unwrap_or, length, take, get_or, nat_eq, cond, refl, sym, ap, subst, ◌∙◌, eqb-true, arith, if◌then◌else◌}
 use Rattle.std.specs.Ordering.{is_eq, nat_cmp}
 use Rattle.std.specs.Cmp.{unsigned_tied}
 use Rattle.std.proofs.lemmas.List.{take_more, length-take}

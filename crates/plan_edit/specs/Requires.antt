@@ -1,5 +1,6 @@
 -- What the arguments of a directive must meet: the `require`s of its type.
 use Rattle.std.specs.Prelude.{ℕ, ◌+◌, Bool, true, false, List, [], ◌∷◌, Option, Some, None, is_some, Ok, Err, if◌then◌else◌}
+use Rattle.aerie_base.specs.declared.models.Activity.{Activity}
 use Rattle.aerie_base.specs.declared.values.Kind.{Kind}
 use Rattle.aerie_base.specs.declared.values.Kind.TheVariants as kind
 use Rattle.aerie_base.specs.expressions.Typing.{kind_of, slot_kinds}
@@ -51,3 +52,8 @@ is_typed_for values expr = is_some (kind_of expr (slot_kinds values) no_kinds)
 abbrev pub first_unmet : ℕ → List Value → List Expr → Option ℕ
 first_unmet number values [] = None
 first_unmet number values (expr ∷ rest) = if is_met values expr then first_unmet (number + 1) values rest else Some number
+
+-- the same of the `require`s of an activity type, where there is one
+abbrev pub unmet_of_type : Option Activity → List Value → Option ℕ
+unmet_of_type None values = None
+unmet_of_type (Some activity) values = first_unmet 0 values activity.requires_

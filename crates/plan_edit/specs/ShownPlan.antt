@@ -1,6 +1,6 @@
 -- The value of JSON as which a plan is shown: `show` prints it, and `load` reads it.
 use Rattle.std.specs.Prelude.{ℕ, ℤ, pos, negsuc, List, [], ◌∷◌, codes, map, slice_get, Option, Some, None, option_map, option_and_then, unwrap_or}
-use Rattle.serde_json.specs.Data.{Data, boolean, number, string, array, object, unsigned, negative}
+use Rattle.serde_json.specs.Data.{Data, boolean, number, string, array, unsigned, negative}
 use Rattle.serde_json.specs.View.{items_of}
 use Rattle.aerie_base.specs.declared.values.Value.{Value}
 use Rattle.aerie_base.specs.declared.values.Value.TheVariants.{Int, Truth, Variant}

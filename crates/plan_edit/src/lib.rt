@@ -28,3 +28,4 @@ pub use migrating::migrate;
 pub use moving::move_to;
 pub use removing::remove;
 pub use setting::set_argument;
+pub use unmet::unmet_require;

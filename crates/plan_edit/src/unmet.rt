@@ -1,11 +1,13 @@
 //! The `require`s of a type, on values of its parameters.
 
-ghost use Rattle.std.specs.Prelude.{◌≡◌, ◌≤◌, IsTrue, length};
+ghost use Rattle.std.specs.Prelude.{◌≡◌, ◌≤◌, IsTrue, length, slice_get};
 ghost use Rattle.std.specs.List.{list_all};
 ghost use Rattle.aerie_base.specs.models.Limits.{require_limit};
-ghost use Rattle.plan_edit.specs.Requires.{first_unmet as first_unmet_by, is_met as is_met_by, is_typed_for};
+ghost use Rattle.aerie_base.specs.plans.OfModel.{takes};
+ghost use Rattle.plan_edit.specs.Requires.{first_unmet as first_unmet_by, unmet_of_type, is_met as is_met_by, is_typed_for};
 
-use aerie_base::{CellRead, Expr, Fault, Look, Value, eval, truth_in};
+use crate::items::item_at;
+use aerie_base::{CellRead, Expr, Fault, Look, Model, Value, eval, truth_in};
 
 /// A place to read from: nothing at all, or registers that are all false. A `require` reads none, so it is judged where
 /// there is nothing.
@@ -59,4 +61,15 @@ pub fn first_unmet(exprs: &[Expr], values: &[Value]) -> Option<u32>
         }
     }
     None
+}
+
+/// The number of the first `require` of an activity type that is not true of values of its parameters, from 0.
+pub fn unmet_require(model: &Model, kind: u16, values: &[Value]) -> Option<u32>
+    requires { IsTrue (takes model.now.enums (slice_get model.now.activities kind) values.now) }
+    ensures { result ≡ unmet_of_type (slice_get model.now.activities kind) values.now }
+{
+    match item_at(model.activities(), usize::from(kind)) {
+        Some(activity) => first_unmet(activity.requires_.as_slice(), values),
+        None => None,
+    }
 }

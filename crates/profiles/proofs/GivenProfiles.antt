@@ -1,6 +1,5 @@
 -- What the profile of a resource gives.
-use Rattle.std.proofs.Common.{◌≡◌, ℕ, ◌<◌, ◌≤◌, ℤ, pos, true, IsTrue, zero, suc, Some, option_map, refl, sym, ap, subst, ◌∙◌, arith}
-use Rattle.aerie_base.specs.declared.linear.Linear.{Linear}
+use Rattle.std.proofs.Common.{◌≡◌, ℕ, ◌<◌, ◌≤◌, ℤ, true, zero, suc, refl, sym, ap, subst, arith, unsigned_abs}
 use Rattle.aerie_base.specs.declared.models.Resource.{Resource}
 use Rattle.aerie_base.specs.declared.models.Resource.TheVariants as resource
 use Rattle.aerie_base.specs.declared.models.model.Parts.{Parts}
@@ -8,18 +7,17 @@ use Rattle.aerie_base.specs.declared.values.Value.{Value}
 use Rattle.aerie_base.specs.models.Resources.{is_resource}
 use Rattle.run_data.specs.declared.runs.Run.{Run}
 use Rattle.run_data.specs.Values.{resource_value, rate_at}
-use Rattle.profiles.specs.declared.sampling.Profile.{Profile}
 use Rattle.profiles.specs.declared.sampling.Profile.TheVariants.{Discrete}
 use Rattle.profiles.specs.declared.sampling.Profile.TheVariants as profile
 use Rattle.profiles.specs.declared.sampling.Sample.{Sample}
 use Rattle.profiles.specs.declared.sampling.Sample.TheVariants as sample
 use Rattle.profiles.specs.Followed.{InRangeBelow}
-use Rattle.profiles.specs.GivenValues.{HasValues, HasSlopes, IsShortest, segment_count}
+use Rattle.profiles.specs.GivenValues.{summed_most, HasValues, HasSlopes, IsShortest, StaysWithin, segment_count}
 use Rattle.profiles.specs.Neighbours.{DivideTime, MayBeCompared, NoneContinues, starts_of}
 use Rattle.profiles.specs.Profiles.{profile_of, resource_sum}
 use Rattle.profiles.proofs.SegmentLines.{sum_given, slope_given, lines_sampled, lines_divide, lines_turn, lines_follow, fewest_lines}
 use Rattle.profiles.proofs.SegmentValues.{values_begun, value_given, values_divide, values_change, fewest_values}
-use Rattle.profiles.proofs.SumsInRange.{sums_in_range}
+use Rattle.profiles.proofs.SumsInRange.{sums_in_range, sums_stay}
 use Rattle.profiles.proofs.Terms.{form_of}
 
 value_same : (a b : Value) → (◌≡◌ {A = Sample} (sample.Value a) (sample.Value b)) → a ≡ b
@@ -77,3 +75,9 @@ module _ (model : Parts) (run : Run) where
   may_be_compared (resource.Discrete read) is good = tt
   may_be_compared (resource.Linear form) is good =
       lines_follow (resource_sum model run form) (rate_at model run form) run.reach (sums_in_range model run form (form_of model.cells form is) good)
+
+  pub stays_within : (of : Resource) → is_resource model.cells of ≡ true → InRangeBelow model run → StaysWithin summed_most run.reach (profile_of model run of)
+  stays_within (resource.Discrete read) is good = tt
+  stays_within (resource.Linear form) is good = λ t below.
+      subst (λ (z : ℤ). unsigned_abs z ≤ summed_most) (sym (sum_given (resource_sum model run form) (rate_at model run form) run.reach t below))
+      (sums_stay model run form (form_of model.cells form is) good t below)

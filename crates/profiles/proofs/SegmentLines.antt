@@ -1,5 +1,5 @@
 -- What straight pieces give: the sum at each time and its rate, in as few pieces as can be.
-use Rattle.std.proofs.Common.{◌≡◌, ℕ, zero, suc, ◌-◌, ◌<◌, ◌≤◌, ℤ, pos, ◌+ℤ◌, ◌*ℤ◌, Bool, true, false, not, cond, ◌&&◌, List, [], ◌∷◌, ◌++◌, length, map, nat_le, Option, Some, None, IfSome, option_map, unwrap_or, refl, sym, ap, subst, ◌∙◌, arith}
+use Rattle.std.proofs.Common.{◌≡◌, ℕ, zero, suc, ◌-◌, ◌<◌, ◌≤◌, ℤ, pos, ◌+ℤ◌, Bool, true, false, not, cond, ◌&&◌, List, [], ◌∷◌, length, map, nat_le, Option, Some, IfSome, option_map, unwrap_or, refl, sym, ap, subst, ◌∙◌, arith}
 use Rattle.std.specs.Ordering.{int_eq}
 use Rattle.std.proofs.lemmas.Bool.{false≢true, leb-true, le-leb, lt-leb}
 use Rattle.std.proofs.lemmas.Int.{ints}
@@ -12,9 +12,9 @@ use Rattle.profiles.specs.Samples.{last_started, HaveBegun, IsLineAt}
 use Rattle.profiles.specs.Segments.{times_where, begins_line, line_segments}
 use Rattle.profiles.proofs.FewestStarts.{is_start, no_fewer, still_last, starts_at_zero}
 use Rattle.profiles.proofs.Segmenting.{one_later, same_number}
-use Rattle.profiles.proofs.SegmentValues.{starts_are, last_mapped, count_is, each_next_mapped, numbers_are, not_true, not_false}
-use Rattle.profiles.proofs.Started.{line_is, taken}
-use Rattle.profiles.proofs.StartTimes.{itself, last_where, last_within, last_are, begun_below, each_next, divide_time}
+use Rattle.profiles.proofs.SegmentValues.{starts_are, last_mapped, count_is, each_next_mapped, numbers_are, not_true}
+use Rattle.profiles.proofs.Started.{line_is}
+use Rattle.profiles.proofs.StartTimes.{last_where, last_within, last_are, begun_below, each_next, divide_time}
 
 -- the piece that has begun
 has_begun : (segments : List Segment) (t : ℕ) (line : Segment) → HaveBegun t (map (λ segment. segment.from) segments) → last_started (λ segment. segment.from) segments t ≡ Some line → line.from ≤ t

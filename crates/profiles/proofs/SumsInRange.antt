@@ -1,5 +1,5 @@
 -- How great the sums of a linear resource are.
-use Rattle.std.proofs.Common.{◌≡◌, ℕ, suc, ◌+◌, ◌*◌, ◌<◌, ◌≤◌, ◌^◌, ℤ, pos, ◌+ℤ◌, ◌*ℤ◌, true, List, [], ◌∷◌, length, All, ap, subst, sym, ◌∙◌, arith, unsigned_abs}
+use Rattle.std.proofs.Common.{◌≡◌, ℕ, suc, ◌*◌, ◌<◌, ◌≤◌, ℤ, ◌+ℤ◌, ◌*ℤ◌, true, List, [], ◌∷◌, length, All, subst, sym, arith, unsigned_abs}
 use Rattle.std.proofs.lemmas.Bool.{leb-true}
 use Rattle.std.proofs.lemmas.Int.{ints}
 use Rattle.std.proofs.lemmas.List.Elements.{All-head, All-tail}
@@ -15,6 +15,7 @@ use Rattle.run_data.specs.Values.{cells_at}
 use Rattle.windows.specs.Linear.{IsSum}
 use Rattle.profiles.specs.declared.watching.Watched.{Watched}
 use Rattle.profiles.specs.Followed.{InRangeBelow}
+use Rattle.profiles.specs.GivenValues.{summed_most}
 use Rattle.profiles.specs.Profiles.{resource_sum}
 use Rattle.profiles.specs.Watching.{IsSummed, IsWatchable, read_number, values_sum, watched_on}
 use Rattle.profiles.proofs.LineWalks.{sum_on}
@@ -45,10 +46,15 @@ values_small (one ∷ rest) all =
     let part : unsigned_abs (one.coefficient *ℤ read_number one.read one.state) ≤ 1_000_000_000_000_000_000_000_000 = omega (arith, number, product) in
     sum_within (one.coefficient *ℤ read_number one.read one.state) (values_sum rest) (length rest) part (values_small rest (All-tail IsWatchable one rest all))
 
--- at each time below the reach the sum is far below 2^120
-pub sums_in_range : (model : Parts) (run : Run) (form : Linear) → IsFormOf model.cells form → InRangeBelow model run → (t : ℕ) → t < run.reach → IsSum (resource_sum model run form t)
-sums_in_range model run form known good t below =
+-- at each time below the reach the sum is at most 16 * 10^24 from 0
+pub sums_stay : (model : Parts) (run : Run) (form : Linear) → IsFormOf model.cells form → InRangeBelow model run → (t : ℕ) → t < run.reach →
+    unsigned_abs (resource_sum model run form t) ≤ summed_most
+sums_stay model run form known good t below =
     let cells = cells_at model run t in
     let few = watched_few cells form.terms in
     let small = values_small (watched_on cells form.terms) (all_watchable (length model.cells) cells form.terms known.terms (good t below)) in
-    subst IsSum (sym (sum_on model run form known cells)) (omega (arith, few, known.few, small))
+    subst (λ (z : ℤ). unsigned_abs z ≤ summed_most) (sym (sum_on model run form known cells)) (omega (arith, few, known.few, small))
+
+-- so it is far below 2^120
+pub sums_in_range : (model : Parts) (run : Run) (form : Linear) → IsFormOf model.cells form → InRangeBelow model run → (t : ℕ) → t < run.reach → IsSum (resource_sum model run form t)
+sums_in_range model run form known good t below = let small = sums_stay model run form known good t below in omega (arith, small)

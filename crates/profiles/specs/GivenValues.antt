@@ -1,5 +1,5 @@
 -- What it means that a profile gives the values of a resource over a run, and in how few segments.
-use Rattle.std.specs.Prelude.{◌≡◌, ℕ, ◌<◌, ◌≤◌, ℤ, pos, List, length, option_map, unwrap_or, IfSome, slice_get}
+use Rattle.std.specs.Prelude.{◌≡◌, ℕ, ◌<◌, ◌≤◌, ℤ, pos, unsigned_abs, length, option_map, unwrap_or, IfSome, slice_get}
 use Rattle.aerie_base.specs.declared.models.Resource.{Resource}
 use Rattle.aerie_base.specs.declared.models.Resource.TheVariants as resource
 use Rattle.aerie_base.specs.declared.models.model.Parts.{Parts}
@@ -7,6 +7,7 @@ use Rattle.aerie_base.specs.declared.values.Value.{Value}
 use Rattle.aerie_base.specs.expressions.Arithmetic.{number_in}
 use Rattle.run_data.specs.declared.runs.Run.{Run}
 use Rattle.run_data.specs.Values.{resource_value, rate_at}
+use Rattle.windows.specs.Linear.{segments_value}
 use Rattle.profiles.specs.declared.sampling.Profile.{Profile}
 use Rattle.profiles.specs.declared.sampling.Profile.TheVariants.{Discrete, Linear}
 use Rattle.profiles.specs.declared.sampling.Sample.{Sample}
@@ -28,6 +29,15 @@ sample_of (resource.Linear form) value = sample.Sum (number_in value)
 abbrev pub HasValues : Parts → Run → Resource → Profile → Type 0
 HasValues model run of profile =
     (t : ℕ) → t < run.reach → CanBeSampled profile t × (sample_at profile t ≡ sample_of of (resource_value model run of t))
+
+-- a sum of at most 16 terms, each at most 10^6 times a number of at most 10^18
+abbrev pub summed_most : ℕ
+summed_most = 16_000_000_000_000_000_000_000_000
+
+-- at each time below the reach a linear profile is no further from 0 than a number
+abbrev pub StaysWithin : ℕ → ℕ → Profile → Type 0
+StaysWithin most reach (Discrete segments) = Unit {0}
+StaysWithin most reach (Linear segments) = (t : ℕ) → t < reach → unsigned_abs (segments_value segments t) ≤ most
 
 -- ---- rates
 

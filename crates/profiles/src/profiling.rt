@@ -2,7 +2,7 @@ ghost use Rattle.std.specs.Prelude.{◌≡◌, ◌<◌, length, IsTrue, true, So
 ghost use Rattle.aerie_base.specs.models.Resources.{is_resource};
 ghost use Rattle.aerie_base.specs.models.ValidModel.{valid_model};
 ghost use Rattle.run_data.specs.Fresh.{IsFresh};
-ghost use Rattle.profiles.specs.GivenValues.{HasSlopes, HasValues, IsShortest, OfResource};
+ghost use Rattle.profiles.specs.GivenValues.{summed_most, HasSlopes, HasValues, IsShortest, OfResource, StaysWithin};
 ghost use Rattle.profiles.specs.Neighbours.{DivideTime, MayBeCompared, NoneContinues, starts_of};
 ghost use Rattle.profiles.specs.Profiles.{profile_at, profile_of};
 
@@ -20,7 +20,8 @@ use std::alloc::Global;
 ///
 /// At each time below the run's reach the profile has the resource's value; its segments divide that time, are the fewest that
 /// give the values and the rates, and none continues the one before it. Where the reach is 0 there is none. The segments of a
-/// linear resource stay below 2^120, so that they may be compared with a number as windows.
+/// linear resource stay below 2^120, so that they may be compared with a number as windows; below the reach its value is at most
+/// 16 * 10^24 from 0.
 pub fn profile(
     alloc: Global,
     model: &Model,
@@ -36,6 +37,7 @@ pub fn profile(
     ensures none_continues { IfOk result NoneContinues }
     ensures divide { IfOk result (λ profile. DivideTime run.now.reach (starts_of profile)) }
     ensures compared { IfOk result (MayBeCompared run.now.reach) }
+    ensures within { IfOk result (StaysWithin summed_most run.now.reach) }
 {
     let resources = model.resources();
     can_be_followed(model, run);

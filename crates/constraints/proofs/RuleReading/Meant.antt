@@ -34,7 +34,8 @@ use Rattle.constraints.specs.reading.Meaning.{number_or_first, number_of_type, v
 use Rattle.constraints.specs.reading.Refusals.{wrong_unless}
 use Rattle.constraints.specs.reading.RuleNames.{Datasets, place_of_type, place_of_enum, variant_place, named_entry, kind_of_entry, name_kind, known_reading, reading_named}
 use Rattle.constraints.specs.reading.WindowRefusals.{refusals_of_reading, refusals_of_name, refusals_of_type, refusals_of_variant, refusals_of_tested, is_coefficient_within, refusals_of_factor, refusals_of_term, refusals_of_terms, refusals_of_sum}
-use Rattle.constraints.proofs.RuleReading.Finding.{both_pass, both_empty, short_is, found_holds, each_holds, placed, not_placed, place_within}
+use Rattle.constraints.specs.reading.RefusalLaws.{both_empty}
+use Rattle.constraints.proofs.RuleReading.Finding.{both_pass, short_is, found_holds, each_holds, placed, not_placed, place_within}
 
 -- ---- what is not refused
 
@@ -48,11 +49,11 @@ few_resources : (model : Parts) → valid_model model ≡ true → length model.
 unfolding has_good_resources
 few_resources model valid = leb-true (length model.resources) resource_limit (both_pass (nat_le (length model.resources) resource_limit) _ (are_good model valid).resources).0
 
-few_types : (model : Parts) → valid_model model ≡ true → length model.activities ≤ type_limit
+pub few_types : (model : Parts) → valid_model model ≡ true → length model.activities ≤ type_limit
 unfolding has_good_activities
 few_types model valid = leb-true (length model.activities) type_limit (both_pass (nat_le (length model.activities) type_limit) _ (are_good model valid).activities).0
 
-few_enums : (model : Parts) → valid_model model ≡ true → length model.enums ≤ enum_limit
+pub few_enums : (model : Parts) → valid_model model ≡ true → length model.enums ≤ enum_limit
 unfolding has_good_enums
 few_enums model valid = leb-true (length model.enums) enum_limit (both_pass (nat_le (length model.enums) enum_limit) _ (are_good model valid).enums).0
 
@@ -64,7 +65,7 @@ few_variants model valid kind enum here =
     let front = both_pass (nat_le 1 (length enum.variants) && nat_le (length enum.variants) variant_limit) _ one in
     leb-true (length enum.variants) variant_limit (both_pass (nat_le 1 (length enum.variants)) (nat_le (length enum.variants) variant_limit) front.0).1
 
-small : (number count limit : ℕ) → number < count → count ≤ limit → limit ≤ 256 → number < 65_535
+pub small : (number count limit : ℕ) → number < count → count ≤ limit → limit ≤ 256 → number < 65_535
 small number count limit less few most = omega (arith, less, few, most)
 
 module _ (model : Parts) (datasets : Datasets) (valid : valid_model model ≡ true) (series : list_all (λ dataset. is_series dataset.1) datasets ≡ true) where
@@ -113,7 +114,7 @@ module _ (model : Parts) (datasets : Datasets) (valid : valid_model model ≡ tr
   -- ---- values
 
   -- the variant of a name in an enumeration
-  variant_is : (kind : ℕ) (variant : List ℕ) (enum : Option EnumType) → slice_get model.enums kind ≡ enum → is_some (option_and_then (λ (e : EnumType). position (λ other. same_name other variant) e.variants) enum) ≡ true
+  pub variant_is : (kind : ℕ) (variant : List ℕ) (enum : Option EnumType) → slice_get model.enums kind ≡ enum → is_some (option_and_then (λ (e : EnumType). position (λ other. same_name other variant) e.variants) enum) ≡ true
       → nat_lt (number_or_first (option_and_then (λ (e : EnumType). position (λ other. same_name other variant) e.variants) enum)) (variants_of enum) ≡ true
   variant_is kind variant None h e = cc
   variant_is kind variant (Some enum) h e = go (position (λ other. same_name other variant) enum.variants) refl e

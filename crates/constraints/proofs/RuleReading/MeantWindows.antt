@@ -14,15 +14,14 @@ use Rattle.rule_grammar.specs.declared.raw.windows.RawWindow.{RawWindow, Literal
 use Rattle.constraints.specs.GivenSeries.{is_series}
 use Rattle.constraints.specs.OfModel.{window_step, is_window, bound_step, speaks_of_bound, is_shift, is_rule, is_constraint}
 use Rattle.constraints.specs.RecursionLaws.{gives-Not, gives-And, gives-Or, gives-Shift, gives-Longer}
-use Rattle.constraints.specs.declared.reading.refusals.RuleRefusal.{RuleRefusal}
 use Rattle.constraints.specs.declared.types.Window.{Window}
 use Rattle.constraints.specs.declared.types.Window as window
 use Rattle.constraints.specs.reading.ConstraintRefusals.{refusals_of_rule, is_name_of_one, refusals_of_constraint, refusals_of_more, refusals_of_constraints}
 use Rattle.constraints.specs.reading.Meaning.{number_of_type, during_of, signed_time, time_within, window_of, meant_rule, constraints_of}
-use Rattle.constraints.specs.reading.Refusals.{is_refused_before, found_with, first_of_refusals, wrong_unless}
+use Rattle.constraints.specs.reading.Refusals.{first_of_refusals, wrong_unless}
 use Rattle.constraints.specs.reading.RuleNames.{Datasets, place_of_type}
 use Rattle.constraints.specs.reading.WindowRefusals.{is_bound, refusals_of_span, refusals_of_window, refusals_of_sum, refusals_of_type}
-use Rattle.constraints.proofs.RuleReading.Finding.{both_empty}
+use Rattle.constraints.specs.reading.RefusalLaws.{both_empty, none_found}
 use Rattle.constraints.proofs.RuleReading.Meant.{not_wrong, name_is, known_type, type_is, tested_is, sum_is}
 
 -- a shift is at most the longest time
@@ -47,7 +46,7 @@ module _ (model : Parts) (datasets : Datasets) (valid : valid_model model ≡ tr
         go false h e = known_type model datasets valid series name e
 
     -- a window that is not refused is of the model
-    window_is : (raw : RawWindow) → refusals_of_window model datasets bound raw ≡ [] → is_window model (meant raw) ≡ true
+    pub window_is : (raw : RawWindow) → refusals_of_window model datasets bound raw ≡ [] → is_window model (meant raw) ≡ true
     unfolding refusals_of_window window_of is_window
     window_is (Literal truth) e = refl
     window_is (During name) e = span_is name e
@@ -68,7 +67,7 @@ module _ (model : Parts) (datasets : Datasets) (valid : valid_model model ≡ tr
     window_is (Longer' s (more_of-RawWindow part end_of-RawWindow) least) e = gives-Longer Bool false (window_step model) (meant part) (time_within least) ∙ window_is part e
 
   -- where no name is bound a window speaks of no bound span
-  speaks_not : (raw : RawWindow) → speaks_of_bound (window_of model datasets None raw) ≡ false
+  pub speaks_not : (raw : RawWindow) → speaks_of_bound (window_of model datasets None raw) ≡ false
   unfolding window_of speaks_of_bound
   speaks_not (Literal truth) = refl
   speaks_not (During name) = refl
@@ -99,14 +98,6 @@ module _ (model : Parts) (datasets : Datasets) (valid : valid_model model ≡ tr
       let two = both_empty (refusals_of_constraint model datasets others constraint) (refusals_of_more model datasets room (others ++ constraint ∷ []) rest) e in
       let rule = both_empty (wrong_unless (not (is_name_of_one others constraint.name.name)) _ constraint.name.at) (refusals_of_rule model datasets constraint.rule) two.0 in
       rw (rule_is constraint.rule rule.1, constraints_are room (others ++ constraint ∷ []) rest two.1) refl
-
-  found_stays : (found : RuleRefusal) (refusals : List RuleRefusal) → found_with (Some found) refusals ≡ None → ⊥
-  found_stays found [] e = cc
-  found_stays found (new ∷ rest) e = found_stays (if is_refused_before new found then new else found) rest e
-
-  none_found : (refusals : List RuleRefusal) → first_of_refusals refusals ≡ None → refusals ≡ []
-  none_found [] e = refl
-  none_found (new ∷ rest) e = absurd (found_stays new rest e)
 
   -- constraints of which nothing is refused are of the model
   pub all_of_model : (constraints : List RawConstraint) → first_of_refusals (refusals_of_constraints model datasets constraints) ≡ None → list_all (is_constraint model) (constraints_of model datasets constraints) ≡ true

@@ -17,6 +17,7 @@ use Rattle.constraints.specs.declared.rule_error.RuleError.{RuleError}
 use Rattle.constraints.specs.declared.rule_error.RuleError.TheVariants as error
 use Rattle.constraints.specs.declared.types.Constraint.{Constraint}
 use Rattle.constraints.specs.reading.ConstraintRefusals.{refusals_of_constraints}
+use Rattle.rule_grammar.specs.declared.raw.constraints.RawConstraint.{RawConstraint}
 use Rattle.constraints.specs.reading.Meaning.{constraints_of}
 use Rattle.constraints.specs.reading.Refusals.{first_of_refusals}
 use Rattle.constraints.specs.reading.RuleNames.{Datasets}
@@ -45,6 +46,10 @@ error_of_form form.OutOfMemory = error.OutOfMemory
 abbrev pub judged_rules : {A B : Type 0} → (A → List RuleRefusal) → (A → B) → Result A RuleFormError → Result B RuleError
 judged_rules refusals meaning (Ok raw) = rules_or_refusal (first_of_refusals (refusals raw)) (meaning raw)
 judged_rules refusals meaning (Err cause) = Err (error_of_form cause)
+
+-- constraints as they are written, judged
+abbrev pub judged_constraints : Parts → Datasets → List RawConstraint → Result (List Constraint) RuleError
+judged_constraints model datasets raw = rules_or_refusal (first_of_refusals (refusals_of_constraints model datasets raw)) (constraints_of model datasets raw)
 
 -- the error is this one, unless memory ran out
 abbrev pub IsThisError : RuleError → RuleError → Type 0

@@ -1,5 +1,5 @@
 -- What is refused of constraints.
-use Rattle.std.specs.Prelude.{ℕ, zero, suc, Bool, not, List, [], ◌∷◌, ◌++◌, Some, None}
+use Rattle.std.specs.Prelude.{ℕ, ◌-◌, Bool, not, List, [], ◌++◌, take, drop, Some, None}
 use Rattle.aerie_base.specs.declared.models.model.Parts.{Parts}
 use Rattle.std.specs.List.{list_any}
 use Rattle.aerie_base.specs.models.Names.{same_name}
@@ -9,7 +9,7 @@ use Rattle.rule_grammar.specs.declared.raw.constraints.RawRule.{RawRule}
 use Rattle.rule_grammar.specs.declared.raw.constraints.RawRule.TheVariants as raw_rule
 use Rattle.constraints.specs.declared.reading.refusals.RuleRefusal.{RuleRefusal}
 use Rattle.constraints.specs.declared.reading.refusals.WrongRule.TheVariants.{Duplicate, TooMany}
-use Rattle.constraints.specs.reading.Refusals.{wrong_at, wrong_unless}
+use Rattle.constraints.specs.reading.Refusals.{wrong_at, wrong_unless, refusals_in_turn}
 use Rattle.constraints.specs.reading.RuleNames.{Datasets}
 use Rattle.constraints.specs.reading.WindowRefusals.{refusals_of_type, refusals_of_window}
 
@@ -31,12 +31,18 @@ abbrev pub refusals_of_constraint : Parts → Datasets → List RawConstraint �
 refusals_of_constraint model datasets others constraint =
     wrong_unless (not (is_name_of_one others constraint.name.name)) Duplicate constraint.name.at ++ refusals_of_rule model datasets constraint.rule
 
+-- one constraint more than there may be
+abbrev pub too_many_constraints : RawConstraint → List RuleRefusal
+too_many_constraints constraint = wrong_at (TooMany Constraints) constraint.name.at
+
 -- constraints behind others, of which there may be so many more
 abbrev pub refusals_of_more : Parts → Datasets → ℕ → List RawConstraint → List RawConstraint → List RuleRefusal
-refusals_of_more model datasets room others [] = []
-refusals_of_more model datasets zero others (constraint ∷ rest) = wrong_at (TooMany Constraints) constraint.name.at
-refusals_of_more model datasets (suc room) others (constraint ∷ rest) =
-    refusals_of_constraint model datasets others constraint ++ refusals_of_more model datasets room (others ++ constraint ∷ []) rest
+refusals_of_more model datasets room others constraints =
+    refusals_in_turn (refusals_of_constraint model datasets) too_many_constraints room others constraints
+
+-- those from one on
+abbrev pub refusals_from : Parts → Datasets → ℕ → List RawConstraint → List RuleRefusal
+refusals_from model datasets at constraints = refusals_of_more model datasets (most_constraints - at) (take at constraints) (drop at constraints)
 
 -- what is refused of the constraints of a model
 abbrev pub refusals_of_constraints : Parts → Datasets → List RawConstraint → List RuleRefusal

@@ -1,5 +1,5 @@
 -- The constraints that are meant by those that are written. Of what is refused this is never used.
-use Rattle.std.specs.Prelude.{ℕ, zero, suc, ℤ, pos, ◌+ℤ◌, false, List, [], ◌∷◌, ◌++◌, Option, Some, None, map, nat_le, if◌then◌else◌}
+use Rattle.std.specs.Prelude.{ℕ, zero, suc, ℤ, pos, ◌+ℤ◌, Bool, false, List, [], ◌∷◌, ◌++◌, Option, Some, None, map, nat_le, if◌then◌else◌}
 use Rattle.std.specs.Int.RustNames.{unsigned_abs}
 use Rattle.aerie_base.specs.Ranges.{is_number, time_limit}
 use Rattle.aerie_base.specs.declared.models.model.Parts.{Parts}
@@ -11,6 +11,7 @@ use Rattle.rule_grammar.specs.declared.raw.constraints.RawConstraint.{RawConstra
 use Rattle.rule_grammar.specs.declared.raw.constraints.RawRule.{RawRule}
 use Rattle.rule_grammar.specs.declared.raw.constraints.RawRule.TheVariants as raw_rule
 use Rattle.rule_grammar.specs.declared.raw.sums.RawTerm.{RawTerm}
+use Rattle.aerie_base.specs.declared.expressions.Comparison.{Comparison}
 use Rattle.rule_grammar.specs.declared.raw.windows.RawTested.{RawTested}
 use Rattle.rule_grammar.specs.declared.raw.windows.RawTested.TheVariants as tested
 use Rattle.rule_grammar.specs.declared.raw.windows.RawWindow.{RawWindow}
@@ -77,7 +78,14 @@ sum_with model datasets (suc room) sum (term ∷ rest) = sum_with model datasets
 abbrev pub meant_sum : Parts → Datasets → List RawTerm → RuleSum
 meant_sum model datasets terms = sum_with model datasets term_limit no_terms terms
 
+abbrev pub compared_sums : Parts → Datasets → List RawTerm → Comparison → List RawTerm → Window
+compared_sums model datasets left how right = window.Compare (meant_sum model datasets left) how (meant_sum model datasets right)
+
 -- ---- windows
+
+-- a test for a value
+abbrev pub same_as : Parts → Datasets → List ℕ → RawTested → Bool → Window
+same_as model datasets name value equal = window.Same (reading_named model datasets name) (tested_value model value) equal
 
 -- the span in a `during`: the one that is bound, or any of a type
 abbrev pub during_of : Parts → Option (List ℕ) → RawName → Window
@@ -92,8 +100,8 @@ window_level model datasets bound (RawWindow-F.During name) = during_of model bo
 window_level model datasets bound (RawWindow-F.Shift part start end) = window.Shift part (signed_time start) (signed_time end)
 window_level model datasets bound (RawWindow-F.Longer part least) = window.Longer part (time_within least)
 window_level model datasets bound (RawWindow-F.Truth name) = window.Truth (reading_named model datasets name.name)
-window_level model datasets bound (RawWindow-F.Same name with_value equal) = window.Same (reading_named model datasets name.name) (tested_value model with_value) equal
-window_level model datasets bound (RawWindow-F.Compare left how right) = window.Compare (meant_sum model datasets left) how (meant_sum model datasets right)
+window_level model datasets bound (RawWindow-F.Same name with_value equal) = same_as model datasets name.name with_value equal
+window_level model datasets bound (RawWindow-F.Compare left how right) = compared_sums model datasets left how right
 
 -- the window that is meant by one in which this name is bound
 unfoldable pub window_of : Parts → Datasets → Option (List ℕ) → RawWindow → Window

@@ -1,5 +1,5 @@
 -- What is refused of rules, and what of it comes first: by place, and at one place by number.
-use Rattle.std.specs.Prelude.{ℕ, ◌==◌, Bool, ◌&&◌, ◌||◌, not, List, [], ◌∷◌, Option, Some, None, nat_lt, if◌then◌else◌}
+use Rattle.std.specs.Prelude.{ℕ, zero, suc, ◌==◌, Bool, ◌&&◌, ◌||◌, not, List, [], ◌∷◌, ◌++◌, Option, Some, None, nat_lt, if◌then◌else◌}
 use Rattle.aerie_base.specs.declared.places.Place.{Place}
 use Rattle.constraints.specs.declared.reading.refusals.RuleRefusal.{RuleRefusal}
 use Rattle.constraints.specs.declared.reading.refusals.WrongRule.{WrongRule}
@@ -49,3 +49,22 @@ wrong_at wrong place = record { place = place; wrong = wrong } ∷ []
 -- the same, where something does not hold
 abbrev pub wrong_unless : Bool → WrongRule → Place → List RuleRefusal
 wrong_unless holds wrong place = if holds then [] else wrong_at wrong place
+
+-- ---- of several parts
+
+-- parts of which there may be so many more; nothing is refused of what stands behind the first beyond them
+abbrev pub refusals_up_to : {A : Type 0} → (A → List RuleRefusal) → (A → List RuleRefusal) → ℕ → List A → List RuleRefusal
+refusals_up_to one beyond room [] = []
+refusals_up_to one beyond zero (part ∷ rest) = beyond part
+refusals_up_to one beyond (suc room) (part ∷ rest) = one part ++ refusals_up_to one beyond room rest
+
+-- the same of parts that are judged by those in front of them, behind others
+abbrev pub refusals_in_turn : {A : Type 0} → (List A → A → List RuleRefusal) → (A → List RuleRefusal) → ℕ → List A → List A → List RuleRefusal
+refusals_in_turn one beyond room others [] = []
+refusals_in_turn one beyond zero others (part ∷ rest) = beyond part
+refusals_in_turn one beyond (suc room) others (part ∷ rest) = one others part ++ refusals_in_turn one beyond room (others ++ part ∷ []) rest
+
+-- what is refused of the one, or else of what may be judged only where nothing is refused of it
+abbrev pub refusals_or : List RuleRefusal → List RuleRefusal → List RuleRefusal
+refusals_or [] others = others
+refusals_or (first ∷ rest) others = first ∷ rest

@@ -28,8 +28,11 @@ place_of_type activities name = position (λ activity. same_name activity.name n
 abbrev pub place_of_enum : List EnumType → List ℕ → Option ℕ
 place_of_enum enums name = position (λ enum. same_name enum.name name) enums
 
+abbrev pub variant_of : Option EnumType → List ℕ → Option ℕ
+variant_of enumeration name = option_and_then (λ enum. position (λ variant. same_name variant name) enum.variants) enumeration
+
 abbrev pub variant_place : List EnumType → ℕ → List ℕ → Option ℕ
-variant_place enums kind name = option_and_then (λ enum. position (λ variant. same_name variant name) enum.variants) (slice_get enums kind)
+variant_place enums kind name = variant_of (slice_get enums kind) name
 
 -- ---- resources and datasets
 

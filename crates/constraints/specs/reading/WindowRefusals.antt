@@ -1,7 +1,7 @@
 -- What is refused of windows: names of nothing that may stand there, resources and datasets of another type, coefficients out
 -- of their range and terms past the limit. What has a name of nothing is not refused for anything besides, nor is what stands
 -- behind a limit that is passed: it stands later in the text.
-use Rattle.std.specs.Prelude.{ℕ, zero, suc, ℤ, Bool, false, ◌||◌, List, [], ◌∷◌, ◌++◌, Option, Some, None, is_some, nat_eq, nat_le}
+use Rattle.std.specs.Prelude.{ℕ, ℤ, Bool, false, ◌||◌, List, [], ◌++◌, Option, Some, None, is_some, nat_eq, nat_le}
 use Rattle.std.specs.Int.RustNames.{unsigned_abs}
 use Rattle.aerie_base.specs.declared.models.model.Parts.{Parts}
 use Rattle.aerie_base.specs.declared.places.Place.{Place}
@@ -20,7 +20,7 @@ use Rattle.constraints.specs.OfModel.{is_of_kind}
 use Rattle.constraints.specs.declared.reading.refusals.RuleRefusal.{RuleRefusal}
 use Rattle.constraints.specs.declared.reading.refusals.WrongRule.TheVariants.{Unknown, WrongType, OutOfRange, TooMany}
 use Rattle.constraints.specs.reading.RawWindows.{raw_window_gives}
-use Rattle.constraints.specs.reading.Refusals.{wrong_at, wrong_unless}
+use Rattle.constraints.specs.reading.Refusals.{wrong_at, wrong_unless, refusals_up_to}
 use Rattle.constraints.specs.reading.RuleNames.{Datasets, place_of_type, place_of_enum, variant_place, name_kind}
 
 -- ---- names
@@ -54,9 +54,13 @@ refusals_of_variant model None wanted at kind variant = wrong_at Unknown kind.at
 refusals_of_variant model (Some number) wanted at kind variant =
     wrong_unless (nat_eq number wanted) WrongType at ++ wrong_unless (is_some (variant_place model.enums number variant.name)) Unknown variant.at
 
+-- the enumeration by its name
+abbrev pub refusals_of_named_variant : Parts → ℕ → Place → RawName → RawName → List RuleRefusal
+refusals_of_named_variant model wanted at kind variant = refusals_of_variant model (place_of_enum model.enums kind.name) wanted at kind variant
+
 -- a variant, beside something of a type
 abbrev pub refusals_beside : Parts → Option Kind → Place → RawName → RawName → List RuleRefusal
-refusals_beside model (Some (Enum wanted)) at kind variant = refusals_of_variant model (place_of_enum model.enums kind.name) wanted at kind variant
+refusals_beside model (Some (Enum wanted)) at kind variant = refusals_of_named_variant model wanted at kind variant
 refusals_beside model _ at kind variant = wrong_at WrongType at
 
 -- `==` or `!=` with a value
@@ -78,14 +82,20 @@ refusals_of_factor model datasets term (Some name) = wrong_unless (is_coefficien
 abbrev pub refusals_of_term : Parts → Datasets → RawTerm → List RuleRefusal
 refusals_of_term model datasets term = refusals_of_factor model datasets term term.resource
 
+-- one term more than there may be
+abbrev pub too_many_terms : RawTerm → List RuleRefusal
+too_many_terms term = wrong_at (TooMany Terms) term.at
+
 -- the terms of a sum, of which there may be so many more
 abbrev pub refusals_of_terms : Parts → Datasets → ℕ → List RawTerm → List RuleRefusal
-refusals_of_terms model datasets room [] = []
-refusals_of_terms model datasets zero (term ∷ rest) = wrong_at (TooMany Terms) term.at
-refusals_of_terms model datasets (suc room) (term ∷ rest) = refusals_of_term model datasets term ++ refusals_of_terms model datasets room rest
+refusals_of_terms model datasets room terms = refusals_up_to (refusals_of_term model datasets) too_many_terms room terms
 
 abbrev pub refusals_of_sum : Parts → Datasets → List RawTerm → List RuleRefusal
 refusals_of_sum model datasets terms = refusals_of_terms model datasets term_limit terms
+
+-- both sides of a comparison
+abbrev pub refusals_of_sums : Parts → Datasets → List RawTerm → List RawTerm → List RuleRefusal
+refusals_of_sums model datasets left right = refusals_of_sum model datasets left ++ refusals_of_sum model datasets right
 
 -- ---- windows
 
@@ -99,7 +109,7 @@ refusals_of_level model datasets bound (RawWindow-F.Shift part start end) = part
 refusals_of_level model datasets bound (RawWindow-F.Longer part least) = part
 refusals_of_level model datasets bound (RawWindow-F.Truth name) = refusals_of_name model datasets Truth name
 refusals_of_level model datasets bound (RawWindow-F.Same name value equal) = refusals_of_tested model (name_kind model datasets name.name) name.at value
-refusals_of_level model datasets bound (RawWindow-F.Compare left how right) = refusals_of_sum model datasets left ++ refusals_of_sum model datasets right
+refusals_of_level model datasets bound (RawWindow-F.Compare left how right) = refusals_of_sums model datasets left right
 
 -- what is refused of a window in which this name is bound
 unfoldable pub refusals_of_window : Parts → Datasets → Option (List ℕ) → RawWindow → List RuleRefusal

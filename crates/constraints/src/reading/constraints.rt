@@ -1,15 +1,14 @@
 //! Constraints are read.
 
-ghost use Rattle.std.specs.Prelude.{◌≡◌, ◌≤◌, ◌<◌, ◌-◌, IfOk, IsTrue, length, take, drop};
+ghost use Rattle.std.specs.Prelude.{◌≡◌, ◌≤◌, ◌<◌, IfOk, IsTrue, length};
 ghost use Rattle.std.specs.List.{list_all};
 ghost use Rattle.aerie_text.specs.Marks.{AreTokensWithin};
-ghost use Rattle.constraints.specs.reading.ConstraintAnswers.{rule_error_at, rules_or_refusal, error_of_form, IsThisError, RuledUnlessOutOfMemory, IsConstraintsAnswer};
+ghost use Rattle.constraints.specs.reading.ConstraintAnswers.{rule_error_at, judged_constraints, error_of_form, IsThisError, RuledUnlessOutOfMemory, IsConstraintsAnswer};
 ghost use Rattle.constraints.specs.GivenSeries.{is_series};
 ghost use Rattle.constraints.specs.OfModel.{is_constraint};
 ghost use Rattle.constraints.specs.declared.rule_error.RuleError.TheVariants.{TooMany};
-ghost use Rattle.constraints.specs.reading.ConstraintRefusals.{refusals_of_rule, is_name_of_one, refusals_of_constraint, refusals_of_more, refusals_of_constraints};
-ghost use Rattle.constraints.specs.reading.Meaning.{constraints_of};
-ghost use Rattle.constraints.specs.reading.Refusals.{found_with, first_of_refusals};
+ghost use Rattle.constraints.specs.reading.ConstraintRefusals.{refusals_of_rule, is_name_of_one, refusals_of_constraint, refusals_from};
+ghost use Rattle.constraints.specs.reading.Refusals.{found_with};
 ghost use Rattle.readers.specs.Words.{word_of};
 
 use crate::reading::meaning::constraints_of;
@@ -96,7 +95,7 @@ fn judged(
 ) -> Result<List<Constraint>, RuleError>
     requires series { IsTrue (list_all (λ dataset. is_series dataset.1) datasets.now) }
     ensures of_model { IfOk result (λ constraints. IsTrue (list_all (is_constraint model.now) constraints)) }
-    ensures exact { RuledUnlessOutOfMemory (rules_or_refusal (first_of_refusals (refusals_of_constraints model.now datasets.now raw.now)) (constraints_of model.now datasets.now raw.now)) result }
+    ensures exact { RuledUnlessOutOfMemory (judged_constraints model.now datasets.now raw.now) result }
 {
     let _ = model.name();
     let mut found = None;
@@ -114,7 +113,7 @@ fn is_name_of_one(constraints: &[RawConstraint], name: &Name) -> bool
     constraints.iter().any(|other| other.name.name == *name)
 }
 
-#[tactic(auto, using(crate::proofs::RuleReading::FoundInTurn::found_with_both))]
+#[tactic(auto, using(crate::specs::reading::RefusalLaws::found_with_both))]
 fn judge_rule(
     model: &Model,
     datasets: &[(Name, Shared<Series>)],
@@ -141,7 +140,7 @@ fn judge_rule(
 }
 
 /// Judges a constraint behind others.
-#[tactic(auto, using(crate::proofs::RuleReading::FoundInTurn::found_with_both))]
+#[tactic(auto, using(crate::specs::reading::RefusalLaws::found_with_both))]
 fn judge_constraint(
     model: &Model,
     datasets: &[(Name, Shared<Series>)],
@@ -167,7 +166,7 @@ fn judge_from(
 )
     requires few { at ≤ 256 }
     requires there { at ≤ length constraints.now }
-    ensures { found.new ≡ found_with found.old (refusals_of_more model.now datasets.now (256 - at) (take at constraints.now) (drop at constraints.now)) }
+    ensures { found.new ≡ found_with found.old (refusals_from model.now datasets.now at constraints.now) }
 {
     let (others, rest) = constraints.split_at(at);
     match rest.split_first() {

@@ -1,12 +1,12 @@
 //! What the names in rules stand for. A name is looked for among the names of a model of one sort, of which there are at most
 //! 256, and among the datasets, of which there are at most 64.
 
-ghost use Rattle.std.specs.Prelude.{◌≡◌, IfOk, option_copied, position, slice_get, option_and_then, Some, None};
+ghost use Rattle.std.specs.Prelude.{◌≡◌, IfOk, option_copied, position, slice_get, Some, None};
 ghost use Rattle.aerie_base.specs.expressions.Typing.{same_kind};
 ghost use Rattle.aerie_base.specs.models.Cells.{cell_start_at, counter_kind, register_kind, flag_kind, flow_kind, read_kind};
 ghost use Rattle.aerie_base.specs.models.Names.{same_name};
 ghost use Rattle.constraints.specs.OfModel.{resource_kind, series_kind, is_of_kind};
-ghost use Rattle.constraints.specs.reading.RuleNames.{short_number, place_of_type, place_of_enum, variant_place, named_entry, name_kind, known_reading, reading_named};
+ghost use Rattle.constraints.specs.reading.RuleNames.{short_number, place_of_type, place_of_enum, variant_of, variant_place, named_entry, name_kind, known_reading, reading_named};
 
 use crate::types::Reading;
 use aerie_base::{CellRead, CellStart, EnumType, Kind, Model, Name, OutOfMemory, Resource, Shared};
@@ -57,7 +57,7 @@ pub fn variant_place(model: &Model, kind: usize, name: &Name) -> Option<usize>
 
 /// The place of the variant of a name in an enumeration, where there is one.
 fn variant_in(enumeration: Option<&EnumType>, name: &Name) -> Option<usize>
-    ensures { result ≡ option_and_then (λ enum. position (λ variant. same_name variant name.now) enum.variants) (option_copied enumeration.entry) }
+    ensures { result ≡ variant_of (option_copied enumeration.entry) name.now }
 {
     match enumeration {
         Some(enumeration) => place_in(enumeration.variants.as_slice(), name),

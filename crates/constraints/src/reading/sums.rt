@@ -38,8 +38,8 @@ fn with_factor(
     resource: &Option<RawName>,
 ) -> Result<RuleSum, OutOfMemory>
     requires small { unsigned_abs sum.constant ≤ 15 * number_limit }
-    ensures sum { IfOk result (λ longer. longer ≡ with_factor model.now datasets.now sum number resource.now) }
-    ensures small { IfOk result (λ longer. unsigned_abs longer.constant ≤ unsigned_abs sum.constant + number_limit) }
+    ensures sum { IfOk result (λ made. made ≡ with_factor model.now datasets.now sum number resource.now) }
+    ensures small { IfOk result (λ made. unsigned_abs made.constant ≤ unsigned_abs sum.constant + number_limit) }
 {
     let mut terms = sum.terms;
     match resource {

@@ -1,9 +1,9 @@
 //! The windows that are meant. The time is linear in a window, but for looking up its names.
 
 ghost use Rattle.std.specs.Prelude.{◌≡◌, IfOk, option_copied};
-ghost use Rattle.constraints.specs.declared.types.Window.TheVariants.{Truth, Same, Compare};
+ghost use Rattle.constraints.specs.declared.types.Window.TheVariants.{Truth};
 ghost use Rattle.constraints.specs.reading.RuleNames.{reading_named};
-ghost use Rattle.constraints.specs.reading.Meaning.{number_or_first, number_of_type, variant_in, tested_value, signed_time, time_within, meant_sum, during_of, window_of};
+ghost use Rattle.constraints.specs.reading.Meaning.{number_or_first, number_of_type, variant_in, tested_value, signed_time, time_within, compared_sums, during_of, same_as, window_of};
 
 use crate::reading::names::{
     place_of_enum, place_of_type, reading_named, short_number, variant_place,
@@ -18,7 +18,7 @@ use rule_grammar::{RawTerm, RawTested, RawWindow};
 use std::alloc::Global;
 
 /// The number of a part of a model, where there is one.
-fn number_or_first(place: Option<usize>) -> u16
+pub fn number_or_first(place: Option<usize>) -> u16
     ensures { result ≡ number_or_first place }
 {
     match place {
@@ -37,7 +37,7 @@ pub fn number_of_type(model: &Model, name: &RawName) -> u16
 // ---- values and times
 
 /// The variant of the enumeration of this place.
-fn variant_in(model: &Model, kind: Option<usize>, variant: &RawName) -> Value
+pub fn variant_in(model: &Model, kind: Option<usize>, variant: &RawName) -> Value
     ensures { result ≡ variant_in model.now kind variant.now }
 {
     match kind {
@@ -61,7 +61,7 @@ fn tested_value(model: &Model, value: &RawTested) -> Value
 }
 
 /// A length of time with its sign.
-fn signed_time(count: Number) -> i64
+pub fn signed_time(count: Number) -> i64
     ensures { result ≡ signed_time count }
 {
     let count = count.get();
@@ -73,7 +73,7 @@ fn signed_time(count: Number) -> i64
 }
 
 /// A length of time without a sign.
-fn time_within(count: Number) -> Time
+pub fn time_within(count: Number) -> Time
     ensures { result ≡ time_within count }
 {
     let size = count.get().unsigned_abs();
@@ -104,7 +104,7 @@ fn compared_sums(
     how: Comparison,
     right: &List<RawTerm>,
 ) -> Result<Window, OutOfMemory>
-    ensures { IfOk result (λ window. window ≡ Compare (meant_sum model.now datasets.now left.now) how (meant_sum model.now datasets.now right.now)) }
+    ensures { IfOk result (λ window. window ≡ compared_sums model.now datasets.now left.now how right.now) }
 {
     let left = meant_sum(alloc, model, datasets, left)?;
     let right = meant_sum(alloc, model, datasets, right)?;
@@ -119,7 +119,7 @@ fn same_as(
     value: &RawTested,
     equal: bool,
 ) -> Result<Window, OutOfMemory>
-    ensures { IfOk result (λ window. window ≡ Same (reading_named model.now datasets.now name.now) (tested_value model.now value.now) equal) }
+    ensures { IfOk result (λ window. window ≡ same_as model.now datasets.now name.now value.now equal) }
 {
     let resource = reading_named(model, datasets, name)?;
     Ok(Window::Same {

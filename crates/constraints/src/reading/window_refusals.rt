@@ -1,9 +1,8 @@
 //! What is refused of windows is found. The time is linear in a window, but for looking up its names.
 
-ghost use Rattle.std.specs.Prelude.{◌≡◌, ◌++◌, option_copied, length};
+ghost use Rattle.std.specs.Prelude.{◌≡◌, option_copied, length};
 ghost use Rattle.constraints.specs.reading.Refusals.{found_with};
-ghost use Rattle.constraints.specs.reading.RuleNames.{place_of_enum};
-ghost use Rattle.constraints.specs.reading.WindowRefusals.{refusals_of_name, refusals_of_type, is_bound, refusals_of_span, refusals_of_variant, refusals_beside, refusals_of_tested, is_coefficient_within, refusals_of_factor, refusals_of_term, refusals_of_terms, refusals_of_sum, refusals_of_window};
+ghost use Rattle.constraints.specs.reading.WindowRefusals.{refusals_of_name, refusals_of_type, is_bound, refusals_of_span, refusals_of_named_variant, refusals_beside, refusals_of_tested, is_coefficient_within, refusals_of_factor, refusals_of_term, refusals_of_terms, refusals_of_sums, refusals_of_window};
 
 use crate::reading::names::{is_of_kind, name_kind, place_of_enum, place_of_type, variant_place};
 use crate::reading::refusals::{RuleRefusal, WrongRule, refuse, refuse_unless};
@@ -68,7 +67,7 @@ fn judge_span(model: &Model, bound: Option<&Name>, name: &RawName, found: &mut O
 // ---- values
 
 /// Refuses a variant that is none of the enumeration of this number.
-#[tactic(auto, using(crate::proofs::RuleReading::FoundInTurn::found_with_both))]
+#[tactic(auto, using(crate::specs::reading::RefusalLaws::found_with_both))]
 fn judge_variant(
     model: &Model,
     wanted: u16,
@@ -77,7 +76,7 @@ fn judge_variant(
     variant: &RawName,
     found: &mut Option<RuleRefusal>,
 )
-    ensures { found.new ≡ found_with found.old (refusals_of_variant model.now (place_of_enum model.now.enums kind.now.name) wanted at kind.now variant.now) }
+    ensures { found.new ≡ found_with found.old (refusals_of_named_variant model.now wanted at kind.now variant.now) }
 {
     match place_of_enum(model, &kind.name) {
         None => refuse(found, WrongRule::Unknown, kind.at),
@@ -150,7 +149,7 @@ fn is_coefficient_within(coefficient: Number) -> bool
 }
 
 /// Refuses a term with a coefficient out of its range, or of no number.
-#[tactic(auto, using(crate::proofs::RuleReading::FoundInTurn::found_with_both))]
+#[tactic(auto, using(crate::specs::reading::RefusalLaws::found_with_both))]
 fn judge_term(
     model: &Model,
     datasets: &[(Name, Shared<Series>)],
@@ -174,7 +173,7 @@ fn judge_term(
 }
 
 /// Judges the terms of a sum, of which there may be so many more.
-#[tactic(auto, using(crate::proofs::RuleReading::FoundInTurn::found_with_both))]
+#[tactic(auto, using(crate::specs::reading::RefusalLaws::found_with_both))]
 fn judge_terms(
     model: &Model,
     datasets: &[(Name, Shared<Series>)],
@@ -198,7 +197,7 @@ fn judge_terms(
 }
 
 /// Judges both sides of a comparison.
-#[tactic(auto, using(crate::proofs::RuleReading::FoundInTurn::found_with_both))]
+#[tactic(auto, using(crate::specs::reading::RefusalLaws::found_with_both))]
 fn judge_sums(
     model: &Model,
     datasets: &[(Name, Shared<Series>)],
@@ -206,7 +205,7 @@ fn judge_sums(
     right: &List<RawTerm>,
     found: &mut Option<RuleRefusal>,
 )
-    ensures { found.new ≡ found_with found.old (refusals_of_sum model.now datasets.now left.now ++ refusals_of_sum model.now datasets.now right.now) }
+    ensures { found.new ≡ found_with found.old (refusals_of_sums model.now datasets.now left.now right.now) }
 {
     judge_terms(model, datasets, left.as_slice(), MOST_TERMS, found);
     judge_terms(model, datasets, right.as_slice(), MOST_TERMS, found);
@@ -215,7 +214,7 @@ fn judge_sums(
 // ---- windows
 
 /// Judges a window in which this name is bound.
-#[tactic(auto, using(crate::proofs::RuleReading::FoundInTurn::found_with_both, crate::proofs::RuleReading::WindowForms::refused_literal, crate::proofs::RuleReading::WindowForms::refused_not, crate::proofs::RuleReading::WindowForms::refused_and, crate::proofs::RuleReading::WindowForms::refused_or, crate::proofs::RuleReading::WindowForms::refused_during, crate::proofs::RuleReading::WindowForms::refused_shift, crate::proofs::RuleReading::WindowForms::refused_longer, crate::proofs::RuleReading::WindowForms::refused_truth, crate::proofs::RuleReading::WindowForms::refused_same, crate::proofs::RuleReading::WindowForms::refused_compare))]
+#[tactic(auto, using(crate::specs::reading::RefusalLaws::found_with_both, crate::proofs::RuleReading::WindowForms::refused_literal, crate::proofs::RuleReading::WindowForms::refused_not, crate::proofs::RuleReading::WindowForms::refused_and, crate::proofs::RuleReading::WindowForms::refused_or, crate::proofs::RuleReading::WindowForms::refused_during, crate::proofs::RuleReading::WindowForms::refused_shift, crate::proofs::RuleReading::WindowForms::refused_longer, crate::proofs::RuleReading::WindowForms::refused_truth, crate::proofs::RuleReading::WindowForms::refused_same, crate::proofs::RuleReading::WindowForms::refused_compare))]
 pub fn judge_window(
     model: &Model,
     datasets: &[(Name, Shared<Series>)],

@@ -3,7 +3,7 @@ use Rattle.std.proofs.lemmas.Result.{err_from_is_err_and}
 use Rattle.plan_edit.specs.Answers.{IsRefusal}
 use Rattle.plan_edit.specs.Loading.{load_one, load_all}
 use Rattle.plan_edit.proofs.Given.{refused_too}
-use Rattle.plan_edit.proofs.Loads.{one_loaded_on, load_stops}
+use Rattle.plan_edit.proofs.Loads.{load_stops}
 use Rattle.plan_edit.proofs.loading.load_all.Goals as goal
 
 pub returns-in_err-directive : goal.returns-in_err-directive

@@ -1,10 +1,10 @@
 use Rattle.std.proofs.Common.{◌≡◌, ℕ, ◌<◌, List, length, Option, Some, IfSome, option_map, slice_get, sym, ap, subst, ◌∙◌, arith}
 use Rattle.aerie_base.specs.declared.models.Resource.{Resource}
 use Rattle.profiles.specs.declared.sampling.Profile.{Profile}
-use Rattle.profiles.specs.GivenValues.{HasValues, HasSlopes, IsShortest}
+use Rattle.profiles.specs.GivenValues.{summed_most, HasValues, HasSlopes, IsShortest, StaysWithin}
 use Rattle.profiles.specs.Neighbours.{DivideTime, MayBeCompared, NoneContinues, starts_of}
 use Rattle.profiles.specs.Profiles.{profile_of}
-use Rattle.profiles.proofs.GivenProfiles.{has_values, has_slopes, is_shortest, none_continues, divides_time, may_be_compared}
+use Rattle.profiles.proofs.GivenProfiles.{has_values, has_slopes, is_shortest, none_continues, divides_time, may_be_compared, stays_within}
 use Rattle.profiles.proofs.Resources.{resource_is, found_at}
 use Rattle.profiles.proofs.profiling.profile.Goals as goal
 
@@ -40,4 +40,5 @@ returns c =
       none_continues = subst NoneContinues made (none_continues model run named.1);
       divide = subst (λ (p : Profile). DivideTime run.reach (starts_of p)) made (divides_time model run named.1);
       compared = subst (MayBeCompared run.reach) made (may_be_compared model run named.1 is good);
+      within = subst (StaysWithin summed_most run.reach) made (stays_within model run named.1 is good);
     }
