@@ -2,7 +2,6 @@
 use Rattle.std.specs.Prelude.{ℕ, List, [], ◌∷◌, Option, Some, None, Result, Ok, Err, nat_lt, if◌then◌else◌}
 use Rattle.report_text.specs.declared.refusals.Refusal.{Refusal}
 use Rattle.session_reader.specs.Sections.{TokenRange}
-use Rattle.session_reader.specs.declared.session.ModelPart.{ModelPart}
 
 -- rules, or why they are refused
 abbrev pub RulesAnswer : Type 0 → Type 0
@@ -35,21 +34,23 @@ module _ {A : Type 0} where
   in_front_of (Ok rules) later = rules ∷ later
   in_front_of (Err refusal) later = later
 
-  -- of the models' sections that are refused, the refusal of the one that begins first
-  abbrev pub first_refused : (ModelPart → Option TokenRange) → (ModelPart → RulesAnswer A) → List ModelPart → Option SectionRefusal
-  first_refused section answer [] = None
-  first_refused section answer (part ∷ parts) =
-      first_of_both (refusal_in (begin_of (section part)) (answer part)) (first_refused section answer parts)
-
-  -- the rules of the models whose sections are not refused, in the order of the models
-  abbrev pub accepted_rules : (ModelPart → RulesAnswer A) → List ModelPart → List A
-  accepted_rules answer [] = []
-  accepted_rules answer (part ∷ parts) = in_front_of (answer part) (accepted_rules answer parts)
-
   abbrev pub unless_refused : Option SectionRefusal → List A → RulesAnswer (List A)
   unless_refused None rules = Ok rules
   unless_refused (Some refused) rules = Err refused.1
 
-  -- the rules of all models, or the refusal that stands first in the text
-  abbrev pub all_rules : (ModelPart → Option TokenRange) → (ModelPart → RulesAnswer A) → List ModelPart → RulesAnswer (List A)
+-- The parts are models, with what else their rules are read by; each has a section or none.
+module _ {P A : Type 0} where
+  -- of the parts' sections that are refused, the refusal of the one that begins first
+  abbrev pub first_refused : (P → Option TokenRange) → (P → RulesAnswer A) → List P → Option SectionRefusal
+  first_refused section answer [] = None
+  first_refused section answer (part ∷ parts) =
+      first_of_both (refusal_in (begin_of (section part)) (answer part)) (first_refused section answer parts)
+
+  -- the rules of the parts whose sections are not refused, in the order of the parts
+  abbrev pub accepted_rules : (P → RulesAnswer A) → List P → List A
+  accepted_rules answer [] = []
+  accepted_rules answer (part ∷ parts) = in_front_of (answer part) (accepted_rules answer parts)
+
+  -- the rules of all parts, or the refusal that stands first in the text
+  abbrev pub all_rules : (P → Option TokenRange) → (P → RulesAnswer A) → List P → RulesAnswer (List A)
   all_rules section answer parts = unless_refused (first_refused section answer parts) (accepted_rules answer parts)

@@ -5,6 +5,7 @@ ghost use Rattle.std.specs.List.{AllByRecursion, list_all};
 ghost use Rattle.aerie_text.specs.Marks.{AreTokensWithin};
 ghost use Rattle.constraints.specs.GivenSeries.{is_series};
 ghost use Rattle.session_reader.specs.WellFormed.{HasSectionsWithin, IsRangeWithin};
+ghost use Rattle.session_judge.specs.OfModels.{AreOfModels, are_constraints};
 ghost use Rattle.session_judge.specs.Rules.{constraints_of_part as constraints_of_part_by, constraints_of_section as constraints_of_section_by, session_constraints as session_constraints_by};
 
 use crate::gathered::Gathered;
@@ -34,7 +35,8 @@ fn constraints_in(
     requires tokens { AreTokensWithin text.now tokens.now }
     requires section { IsRangeWithin (length tokens.now) (Some range) }
     requires series { IsTrue (list_all (λ dataset. is_series dataset.1) datasets.now) }
-    ensures { IfOk result (λ answer. answer ≡ constraints_of_section_by text.now tokens.now datasets.now model.now (Some range)) }
+    ensures exact { IfOk result (λ answer. answer ≡ constraints_of_section_by text.now tokens.now datasets.now model.now (Some range)) }
+    ensures of_model { IfOk result (λ answer. IfOk answer (λ rules. IsTrue (are_constraints model.now rules))) }
 {
     match read_constraints(alloc, text, tokens_in(tokens, range), model, datasets) {
         Ok(constraints) => Ok(Ok(Shared::new(alloc, constraints)?)),
@@ -54,7 +56,8 @@ fn constraints_of_part(
     requires tokens { AreTokensWithin text.now tokens.now }
     requires section { IsRangeWithin (length tokens.now) part.now.constraints }
     requires series { IsTrue (list_all (λ dataset. is_series dataset.1) datasets.now) }
-    ensures { IfOk result (λ answer. answer ≡ constraints_of_part_by text.now tokens.now datasets.now part.now) }
+    ensures exact { IfOk result (λ answer. answer ≡ constraints_of_part_by text.now tokens.now datasets.now part.now) }
+    ensures of_model { IfOk result (λ answer. IfOk answer (λ rules. IsTrue (are_constraints part.now.model rules))) }
 {
     match part.constraints {
         None => Ok(Ok(Shared::new(alloc, List::new(alloc))?)),
@@ -73,7 +76,8 @@ pub(crate) fn session_constraints(
     requires tokens { AreTokensWithin text.now tokens.now }
     requires sections { AllByRecursion (HasSectionsWithin (length tokens.now)) session.now.models }
     requires series { IsTrue (list_all (λ dataset. is_series dataset.1) session.now.datasets) }
-    ensures { IfOk result (λ answer. answer ≡ session_constraints_by text.now tokens.now session.now) }
+    ensures exact { IfOk result (λ answer. answer ≡ session_constraints_by text.now tokens.now session.now) }
+    ensures of_models { IfOk result (λ answer. IfOk answer (AreOfModels are_constraints session.now.models)) }
 {
     let datasets = session.datasets.as_slice();
     let mut gathered = Gathered::new(alloc);

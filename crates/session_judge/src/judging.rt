@@ -1,12 +1,13 @@
 //! Sessions are judged with all their rules.
 
-ghost use Rattle.std.specs.Prelude.{◌≡◌, ◌≤◌, Ok, IfOk, length};
+ghost use Rattle.std.specs.Prelude.{◌≡◌, ◌≤◌, [], Ok, IfOk, length};
 ghost use Rattle.std.specs.List.{AllByRecursion};
 ghost use Rattle.aerie_text.specs.Marks.{AreTokensWithin};
 ghost use Rattle.aerie_text.specs.Tokens.{tokens_of};
 ghost use Rattle.session_reader.specs.Answers.{IsMade};
 ghost use Rattle.session_reader.specs.SessionTexts.{byte_limit, text_answer};
 ghost use Rattle.session_reader.specs.WellFormed.{HasSectionsWithin, IsSession};
+ghost use Rattle.session_judge.specs.OfModels.{HasConstraintsOfModels};
 ghost use Rattle.session_judge.specs.Judging.{IsJudged, judged_answer, judged_session, judged_text, with_rules as with_rules_by};
 
 use crate::constraint_sections::session_constraints;
@@ -44,6 +45,7 @@ fn with_rules(
     requires sections { AllByRecursion (HasSectionsWithin (length tokens.now)) session.models }
     ensures exact { IsJudged (with_rules_by text.now tokens.now session) result }
     ensures session { IfOk result (λ judged. IsSession judged.session) }
+    ensures constraints { IfOk result HasConstraintsOfModels }
 {
     match session_constraints(alloc, text, tokens, &session)? {
         Ok(constraints) => Ok(JudgedSession {
@@ -68,6 +70,7 @@ fn judge_read(
     requires sections { IfOk read (λ session. AllByRecursion (HasSectionsWithin (length tokens.now)) session.models) }
     ensures exact { IsJudged (judged_answer text.now tokens.now (text_answer text.now)) result }
     ensures session { IfOk result (λ judged. IsSession judged.session) }
+    ensures constraints { IfOk result HasConstraintsOfModels }
 {
     match read {
         Ok(session) => with_rules(alloc, text, tokens, session),
@@ -80,6 +83,7 @@ fn judge_uncut(alloc: Global, text: &str) -> Result<JudgedSession, JudgeError>
     requires short { length text.now ≤ byte_limit }
     ensures exact { IsJudged (judged_answer text.now [] (text_answer text.now)) result }
     ensures session { IfOk result (λ judged. IsSession judged.session) }
+    ensures constraints { IfOk result HasConstraintsOfModels }
 {
     match read_session(alloc, text.as_bytes()) {
         Ok(session) => with_rules(alloc, text, &[], session),
@@ -92,6 +96,7 @@ fn judge_text(alloc: Global, text: &str) -> Result<JudgedSession, JudgeError>
     requires short { length text.now ≤ byte_limit }
     ensures exact { IsJudged (judged_text text.now) result }
     ensures session { IfOk result (λ judged. IsSession judged.session) }
+    ensures constraints { IfOk result HasConstraintsOfModels }
 {
     match tokens(alloc, text) {
         Ok(tokens) => {
@@ -109,6 +114,7 @@ fn judge_text(alloc: Global, text: &str) -> Result<JudgedSession, JudgeError>
 pub fn judge(alloc: Global, bytes: &[u8]) -> Result<JudgedSession, JudgeError>
     ensures exact { IsJudged (judged_session bytes.now) result }
     ensures session { IfOk result (λ judged. IsSession judged.session) }
+    ensures constraints { IfOk result HasConstraintsOfModels }
 {
     if MOST_BYTES < bytes.len() {
         return Err(JudgeError::Refused(named_refusal(alloc, "TooLarge")?));

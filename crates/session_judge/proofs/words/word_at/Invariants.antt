@@ -6,7 +6,7 @@ use Rattle.session_judge.proofs.words.word_at.Given as goal
 
 -- the place is known, and no token so far stands at the one that is looked for
 abbrev pub invariant-loop-token : goal.invariant-loop-token
-invariant-loop-token g l = record {
+invariant-loop-token l = record {
   edge : IsCharBoundary l.text l.from;
   at : l.at ≡ place_of l.text l.from;
   rest : word_at l.text l.place (drop l.token-index l.token-items) ≡ word_at l.text l.place l.token-items;

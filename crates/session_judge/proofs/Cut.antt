@@ -1,0 +1,22 @@
+-- Tokens of a section.
+use Rattle.std.proofs.Common.{◌≡◌, ℕ, List, ◌++◌, take, drop, Ok, sym, ap, ◌∙◌, append_assoc}
+use Rattle.std.proofs.lemmas.List.{take-append-drop}
+use Rattle.aerie_text.specs.Marks.{AreTokensWithin}
+use Rattle.aerie_text.specs.declared.token.Token.{Token}
+
+-- some of a row of tokens stand in a row
+pub part_within : (text : List ℕ) (tokens : List Token) (from count : ℕ) → AreTokensWithin text tokens → AreTokensWithin text (take count (drop from tokens))
+part_within text tokens from count within =
+    let rest = drop from tokens in
+    let split : tokens ≡ take from tokens ++ (take count rest ++ drop count rest) =
+        sym (take-append-drop from tokens) ∙ ap (λ (row : List Token). take from tokens ++ row) (sym (take-append-drop count rest)) in
+    record {
+      before = within.before ++ take from tokens;
+      behind = drop count rest ++ within.behind;
+      are =
+          within.are
+          ∙ ap (λ (row : List Token). Ok (within.before ++ (row ++ within.behind))) split
+          ∙ ap (λ (row : List Token). Ok (within.before ++ row)) (append_assoc (take from tokens) (take count rest ++ drop count rest) within.behind)
+          ∙ ap (λ (row : List Token). Ok (within.before ++ (take from tokens ++ row))) (append_assoc (take count rest) (drop count rest) within.behind)
+          ∙ ap (λ (row : List Token). Ok row) (sym (append_assoc within.before (take from tokens) (take count rest ++ (drop count rest ++ within.behind))));
+    }

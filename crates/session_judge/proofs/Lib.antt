@@ -1,0 +1,5 @@
+pub mod Cut
+pub mod FirstOfBoth
+pub mod Gathering
+pub mod GoodSeries
+pub mod Told
