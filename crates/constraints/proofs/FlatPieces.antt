@@ -1,10 +1,8 @@
 -- Whole numbers that stay, as straight pieces.
-use Rattle.std.proofs.Common.{◌≡◌, ℕ, zero, suc, ◌+◌, ◌-◌, ◌<◌, ◌≤◌, ◌^◌, ℤ, pos, ◌+ℤ◌, ◌*ℤ◌, Bool, true, false, cond, List, [], ◌∷◌, ◌++◌, length, take, map, get_or, refl, sym, ap, subst, ◌∙◌, arith, unsigned_abs, nat_le}
-use Rattle.std.specs.Prelude.{option_map, unwrap_or, Some, None}
+use Rattle.std.proofs.Common.{◌≡◌, ℕ, ◌-◌, ◌<◌, ℤ, pos, Bool, true, false, cond, List, [], ◌∷◌, ◌++◌, map, refl, sym, subst, ◌∙◌, arith, nat_le}
+use Rattle.std.specs.Prelude.{option_map, unwrap_or, Some}
 use Rattle.std.proofs.lemmas.Int.{ints}
 use Rattle.std.proofs.Math.IntN.{zero-*ℤ}
-use Rattle.std.proofs.lemmas.List.{take_more}
-use Rattle.aerie_base.specs.declared.values.Value.{Value}
 use Rattle.aerie_base.specs.declared.values.Value.TheVariants as value
 use Rattle.aerie_base.specs.Ranges.{IsNumber}
 use Rattle.aerie_base.specs.expressions.Arithmetic.{number_in}

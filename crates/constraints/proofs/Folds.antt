@@ -1,5 +1,5 @@
 -- What is defined by a recursion that computes is what the fold gives.
-use Rattle.std.proofs.Common.{◌≡◌, ℕ, ◌≤◌, ℤ, Bool, false, true, ◌&&◌, Option, Result, Ok, Err, IfOk, IsTrue, refl, sym, ap, subst, ◌∙◌, arith, unsigned_abs, true≢false, to_z, of_z}
+use Rattle.std.proofs.Common.{◌≡◌, ℕ, ℤ, Bool, false, true, ◌&&◌, Option, Result, Ok, Err, IfOk, IsTrue, refl, sym, ap, subst, ◌∙◌, arith, unsigned_abs, true≢false, to_z, of_z}
 use Rattle.std.specs.Int.{w64}
 use Rattle.std.proofs.lemmas.Bool.{leb-true}
 use Rattle.std.proofs.lemmas.Int.{to_z-of_z, fits_signed_from_abs}

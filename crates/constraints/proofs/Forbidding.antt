@@ -1,13 +1,12 @@
 -- Two types that exclude one another: what the sweep takes and gives, over the spans of a run.
-use Rattle.std.proofs.Common.{◌≡◌, ℕ, ◌<◌, Bool, true, false, not, List, [], ◌∷◌, map, Option, None, refl, sym, ap, subst, ◌∙◌}
+use Rattle.std.proofs.Common.{◌≡◌, ℕ, Bool, true, false, not, List, [], map, None, refl, sym, ap, subst, ◌∙◌}
 use Rattle.aerie_base.specs.declared.models.model.Parts.{Parts}
 use Rattle.run_data.specs.declared.runs.Run.{Run}
-use Rattle.run_data.specs.Spans.{SpanOf, Timed, timed, spans_from, spans_of, sorted_spans}
+use Rattle.run_data.specs.Spans.{SpanOf, Timed, timed, spans_from, spans_of}
 use Rattle.span_table.specs.declared.span.Span.{Span}
 use Rattle.span_table.specs.AsDefined.{defined_span}
 use Rattle.span_table.specs.SpanLaws.{HasOneEach}
-use Rattle.windows.specs.Times.{Interval, TimeSet, AreIntervals}
-use Rattle.windows.specs.Intervals.{intervals_of}
+use Rattle.windows.specs.Times.{TimeSet, AreIntervals}
 use Rattle.constraints.specs.Meeting.{ByStart, HaveOwnPaths}
 use Rattle.constraints.specs.Violating.{listed, meet, where_not}
 use Rattle.constraints.specs.declared.violation.Violation.{Violation}

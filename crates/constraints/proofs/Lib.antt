@@ -1,4 +1,3 @@
-pub mod Bounds
 pub mod Differences
 pub mod FlatPieces
 pub mod Folds

@@ -1,11 +1,10 @@
 -- The times that the sweep over spans finds are those at which spans of the two types meet.
-use Rattle.std.proofs.Common.{◌≡◌, ℕ, zero, suc, ◌+◌, ◌<◌, ◌≤◌, min, max, Bool, true, false, not, ◌&&◌, ◌||◌, List, [], ◌∷◌, ◌++◌, refl, sym, ap, subst, ◌∙◌, arith, nat_le, nat_lt, nat_eq, if◌then◌else◌}
+use Rattle.std.proofs.Common.{◌≡◌, ℕ, ◌≤◌, min, max, Bool, true, false, not, ◌&&◌, ◌||◌, List, [], ◌∷◌, refl, sym, ap, ◌∙◌, arith, nat_lt, nat_eq, if◌then◌else◌}
 use Rattle.std.specs.List.{list_any}
-use Rattle.std.specs.Cmp.Lexicographic.{pointwise}
 use Rattle.std.proofs.lemmas.Grind.{common_steps}
 use Rattle.std.proofs.lemmas.List.Folds.{list_any-append}
 use Rattle.run_data.specs.Spans.{SpanOf, same_path}
-use Rattle.windows.specs.Times.{Interval, covers, contains}
+use Rattle.windows.specs.Times.{covers, contains}
 use Rattle.constraints.specs.declared.meeting.Ends.{Ends}
 use Rattle.constraints.specs.Holding.{times_of}
 use Rattle.constraints.specs.Meeting.{StartBehind, ByStart, NoneHasPath, HaveOwnPaths, no_ends, ends_with, times_if, meetings_of, swept}

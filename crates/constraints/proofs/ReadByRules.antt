@@ -1,41 +1,33 @@
 -- What rules read, by the profiles of resources and the segments of datasets.
-use Rattle.std.proofs.Common.{◌≡◌, ℕ, zero, suc, ◌+◌, ◌-◌, ◌*◌, ◌<◌, ◌≤◌, ℤ, pos, ◌+ℤ◌, ◌*ℤ◌, Bool, true, false, cond, not, ◌&&◌, List, [], ◌∷◌, length, map, Option, Some, None, IfSome, IsTrue, slice_get, get_or, refl, sym, ap, subst, ◌∙◌, arith, unsigned_abs, nat_le, true≢false, if◌then◌else◌}
-use Rattle.std.proofs.lemmas.Grind.{common_steps}
-use Rattle.std.proofs.lemmas.Option.{slice_get_within, slice_get-get_or, same_Some}
+use Rattle.std.proofs.Common.{◌≡◌, ℕ, ◌<◌, ℤ, Bool, true, false, List, [], ◌∷◌, length, map, Option, Some, None, IfSome, IsTrue, slice_get, refl, sym, ap, subst, ◌∙◌, arith, true≢false}
+use Rattle.std.proofs.lemmas.Option.{slice_get_within}
 use Rattle.aerie_base.specs.declared.names.Name.{Name}
 use Rattle.aerie_base.specs.declared.values.Value.{Value}
-use Rattle.aerie_base.specs.declared.values.Value.TheVariants as value
 use Rattle.aerie_base.specs.declared.values.Kind.{Kind}
 use Rattle.aerie_base.specs.declared.values.Kind.TheVariants as kind
 use Rattle.aerie_base.specs.declared.models.Resource.{Resource}
 use Rattle.aerie_base.specs.declared.models.Resource.TheVariants as resource
 use Rattle.aerie_base.specs.declared.models.model.Parts.{Parts}
-use Rattle.aerie_base.specs.expressions.Arithmetic.{number_in, same_value, truth_in, value_kind}
+use Rattle.aerie_base.specs.expressions.Arithmetic.{number_in, same_value}
 use Rattle.run_data.specs.declared.runs.Run.{Run}
 use Rattle.run_data.specs.Values.{resource_value}
-use Rattle.profiles.specs.declared.sampling.Profile.{Profile}
 use Rattle.profiles.specs.declared.sampling.Profile.TheVariants.{Discrete, Linear}
 use Rattle.profiles.specs.declared.sampling.Sample.{Sample}
 use Rattle.profiles.specs.declared.sampling.Sample.TheVariants as sample
-use Rattle.profiles.specs.GivenValues.{HasValues, sample_of}
-use Rattle.profiles.specs.Samples.{RiseBehind, HaveBegun}
-use Rattle.profiles.specs.Neighbours.{RiseUpTo, DivideTime, first_start_of, starts_of}
+use Rattle.profiles.specs.GivenValues.{HasValues}
+use Rattle.profiles.specs.Samples.{RiseBehind}
+use Rattle.profiles.specs.Neighbours.{RiseUpTo, DivideTime, first_start_of}
 use Rattle.windows.specs.declared.segments.Segment.{Segment}
-use Rattle.windows.specs.Linear.{AreSegments, segments_value}
+use Rattle.windows.specs.Linear.{segments_value}
 use Rattle.constraints.specs.declared.types.Reading.TheVariants as read
 use Rattle.constraints.specs.Following.{FollowsReading, AreTimesEqual}
 use Rattle.constraints.specs.Holding.{equals_or_not, reading_value, value_of_resource}
 use Rattle.constraints.specs.OfModel.{is_of_kind, may_equal, resource_kind}
 use Rattle.aerie_base.specs.expressions.Typing.{same_kind}
-use Rattle.aerie_base.specs.models.Resources.{is_resource}
-use Rattle.aerie_base.specs.models.ValidModel.{valid_model}
-use Rattle.profiles.specs.Followed.{InRangeBelow}
-use Rattle.profiles.proofs.Resources.{resource_is}
 use Rattle.windows.specs.Times.{TimeSet, contains, AreIntervals}
-use Rattle.constraints.proofs.Bounds.{sum_small_at}
 use Rattle.constraints.proofs.SpanTimes.{same_times}
 use Rattle.constraints.specs.Sources.{IsProfile}
-use Rattle.constraints.specs.Steps.{Step, AreSteps, HaveNumbers, RiseFromZero, flat, step_value}
+use Rattle.constraints.specs.Steps.{Step, AreSteps, HaveNumbers, flat, step_value}
 use Rattle.constraints.proofs.FlatPieces.{flat_value, flat_segments_are, flat_small}
 
 -- ---- steps of a discrete profile
@@ -170,29 +162,16 @@ discrete_pieces model run number steps made typed profile made_is numbers = subs
   small = λ t below. let small = flat_small steps t (subst HaveNumbers made_is numbers) in omega (arith, small);
 })
 
-linear_small : (model : Parts) (run : Run) (of : Resource) → IsTrue (valid_model model) → is_resource model.cells of ≡ true → is_linear of ≡ true → InRangeBelow model run → (t : ℕ) → t < run.reach →
-    unsigned_abs (number_in (resource_value model run of t)) ≤ 2_000_000_000_000_000_000_000_000_000
-linear_small model run (resource.Discrete cell) valid is linear good t below = absurd (true≢false (sym linear))
-linear_small model run (resource.Linear form) valid is linear good t below = sum_small_at model run form is good t below
-
 -- by the resource that is found
-found_small : (model : Parts) (run : Run) (number : ℕ) (pieces : List Segment) → IsTrue (valid_model model) → InRangeBelow model run → (found : Option (Name × Resource)) → slice_get model.resources number ≡ found →
-    IfSome found (λ named. HasValues model run named.1 (Linear pieces)) → (found ≡ None → ⊥) → (t : ℕ) → t < run.reach →
-    (segments_value pieces t ≡ number_in (value_of_resource model run found t)) × (unsigned_abs (segments_value pieces t) ≤ 2_000_000_000_000_000_000_000_000_000)
-found_small model run number pieces valid good None is has some t below = absurd (some refl)
-found_small model run number pieces valid good (Some named) is has some t below =
-    let values = linear_values model run named.1 pieces has t below in
-    let there = slice_get_within model.resources number named is in
-    let at : named ≡ get_or model.resources number named = same_Some _ _ (sym is ∙ slice_get-get_or model.resources number named there) in (
-      values,
-      subst (λ (z : ℤ). unsigned_abs z ≤ 2_000_000_000_000_000_000_000_000_000) (sym values)
-          (linear_small model run named.1 valid (resource_is model number named valid there at) (linear_is model run named.1 pieces has t below) good t below),
-    )
+found_values : (model : Parts) (run : Run) (pieces : List Segment) (found : Option (Name × Resource)) → IfSome found (λ named. HasValues model run named.1 (Linear pieces)) →
+    (found ≡ None → ⊥) → (t : ℕ) → t < run.reach → segments_value pieces t ≡ number_in (value_of_resource model run found t)
+found_values model run pieces None has some t below = absurd (some refl)
+found_values model run pieces (Some named) has some t below = linear_values model run named.1 pieces has t below
 
-pub linear_pieces : (model : Parts) (run : Run) (number : ℕ) (pieces : List Segment) → IsTrue (valid_model model) → InRangeBelow model run →
-    IsTrue (is_of_kind kind.Int (resource_kind model.cells (slice_get model.resources number))) → IsProfile model run number (Linear pieces) → FollowsReading model run (read.Resource number) pieces
-linear_pieces model run number pieces valid good typed profile = record {
+pub linear_pieces : (model : Parts) (run : Run) (number : ℕ) (pieces : List Segment) → IsTrue (is_of_kind kind.Int (resource_kind model.cells (slice_get model.resources number))) →
+    IsProfile model run number (Linear pieces) → FollowsReading model run (read.Resource number) pieces
+linear_pieces model run number pieces typed profile = record {
   form = profile.compared;
-  values = λ t below. (found_small model run number pieces valid good (slice_get model.resources number) refl profile.values (kind_there model number kind.Int typed) t below).0;
-  small = λ t below. (found_small model run number pieces valid good (slice_get model.resources number) refl profile.values (kind_there model number kind.Int typed) t below).1;
+  values = λ t below. found_values model run pieces (slice_get model.resources number) profile.values (kind_there model number kind.Int typed) t below;
+  small = λ t below. let small = profile.within t below in omega (arith, small);
 }

@@ -1,5 +1,5 @@
 -- What rules read of datasets.
-use Rattle.std.proofs.Common.{◌≡◌, ℕ, zero, suc, ◌+◌, ◌-◌, ◌*◌, ◌<◌, ◌≤◌, ◌^◌, ℤ, pos, ◌+ℤ◌, ◌*ℤ◌, Bool, true, false, cond, List, [], ◌∷◌, length, map, All, IsTrue, refl, sym, ap, subst, ◌∙◌, arith, unsigned_abs, nat_le, true≢false, if◌then◌else◌}
+use Rattle.std.proofs.Common.{◌≡◌, ℕ, ◌-◌, ◌<◌, ◌≤◌, ℤ, pos, Bool, true, false, cond, List, [], ◌∷◌, map, All, IsTrue, refl, sym, ap, subst, ◌∙◌, arith, unsigned_abs, nat_le, true≢false, if◌then◌else◌}
 use Rattle.std.specs.Prelude.{option_map, unwrap_or, Some, None}
 use Rattle.std.proofs.lemmas.Int.{ints, unsigned_abs-mul}
 use Rattle.std.proofs.lemmas.Nat.{mul-le}
@@ -23,10 +23,10 @@ use Rattle.dataset_in.specs.Series.{StartsRise, AreStarts, IsSeries, IsOfNumbers
 use Rattle.constraints.specs.declared.types.Reading.TheVariants as read
 use Rattle.constraints.specs.Following.{FollowsReading, AreTimesEqual}
 use Rattle.constraints.specs.GivenSeries.{is_series}
-use Rattle.constraints.specs.Holding.{equals_or_not, level_value, reading_value}
+use Rattle.constraints.specs.Holding.{equals_or_not, level_value}
 use Rattle.constraints.specs.OfModel.{is_of_kind, may_equal, reading_kind, series_kind}
 use Rattle.constraints.specs.SeriesLaws.{series_is}
-use Rattle.constraints.specs.Steps.{Step, AreSteps, RiseFromZero, step_value, truth_step}
+use Rattle.constraints.specs.Steps.{Step, AreSteps, step_value, truth_step}
 use Rattle.constraints.proofs.SpanTimes.{same_times}
 
 -- ---- truths

@@ -1,10 +1,10 @@
 -- A window that speaks of a span under no `shift` and no `longer`: outside of the span's times it holds as for no span, and within
 -- them as for one that lasts as long as the run.
-use Rattle.std.proofs.Common.{◌≡◌, ℕ, ◌<◌, Bool, true, false, not, cond, ◌&&◌, ◌||◌, List, [], ◌∷◌, Option, Some, None, nat_le, nat_lt, refl, sym, ap, subst, ◌∙◌, arith}
+use Rattle.std.proofs.Common.{◌≡◌, ℕ, ◌<◌, Bool, true, false, not, cond, ◌&&◌, ◌||◌, List, Option, Some, None, refl, sym, ap, subst, ◌∙◌, arith}
 use Rattle.std.proofs.lemmas.Grind.{common_steps}
 use Rattle.aerie_base.specs.declared.models.model.Parts.{Parts}
 use Rattle.run_data.specs.declared.runs.Run.{Run}
-use Rattle.windows.specs.Times.{Interval, TimeSet, covers, contains, replaced_contains, shifted_contains, long_contains, AreIntervals}
+use Rattle.windows.specs.Times.{Interval, TimeSet, covers, replaced_contains, shifted_contains, long_contains, AreIntervals}
 use Rattle.windows.specs.Intervals.{intervals_of}
 use Rattle.windows.specs.IntervalLaws.{is_the_list, they_are}
 use Rattle.constraints.specs.Judging.{times_not_held}

@@ -1,12 +1,12 @@
 -- The times at which a value that stays from step to step passes a test.
-use Rattle.std.proofs.Common.{◌≡◌, ℕ, zero, suc, ◌+◌, ◌<◌, ◌≤◌, Bool, true, false, cond, ◌||◌, List, [], ◌∷◌, ◌++◌, length, drop, map, get_or, refl, sym, ap, subst, ◌∙◌, arith, nat_le, nat_lt, if◌then◌else◌}
+use Rattle.std.proofs.Common.{◌≡◌, ℕ, ◌+◌, ◌<◌, ◌≤◌, Bool, true, false, cond, List, [], ◌∷◌, ◌++◌, length, drop, map, get_or, refl, sym, ap, ◌∙◌, arith, nat_le, if◌then◌else◌}
 use Rattle.std.specs.Prelude.{pos, option_map, unwrap_or, Some}
 use Rattle.std.proofs.lemmas.Grind.{common_steps}
 use Rattle.aerie_base.specs.declared.values.Value.{Value}
 use Rattle.aerie_base.specs.declared.values.Value.TheVariants as value
 use Rattle.profiles.specs.Samples.{RiseBehind, last_started}
-use Rattle.windows.specs.Times.{Interval, covers, contains}
-use Rattle.constraints.specs.Steps.{Step, AreSteps, RiseFromZero, first_step, step_value, times_passing}
+use Rattle.windows.specs.Times.{Interval, contains}
+use Rattle.constraints.specs.Steps.{Step, AreSteps, first_step, step_value, times_passing}
 use Rattle.constraints.specs.Meeting.{times_if}
 use Rattle.constraints.proofs.Merging.{append_none, cut_at, none_left}
 

@@ -1,14 +1,13 @@
 -- The terms of a sum, one after another, and the comparison of two sums by their difference.
-use Rattle.std.proofs.Common.{◌≡◌, ℕ, zero, suc, ◌+◌, ◌*◌, ◌<◌, ◌≤◌, ◌^◌, ℤ, pos, negsuc, ◌+ℤ◌, ◌-ℤ◌, ◌*ℤ◌, ◌≤ℤ◌, ◌<ℤ◌, Bool, true, false, not, ◌&&◌, List, [], ◌∷◌, ◌++◌, length, take, get_or, IsTrue, refl, sym, ap, subst, ◌∙◌, arith, unsigned_abs, nat_le, true≢false, to_z, of_z}
+use Rattle.std.proofs.Common.{◌≡◌, ℕ, zero, suc, ◌+◌, ◌*◌, ◌<◌, ◌≤◌, ℤ, pos, negsuc, ◌+ℤ◌, ◌*ℤ◌, Bool, true, false, ◌&&◌, List, [], ◌∷◌, ◌++◌, length, take, get_or, IsTrue, refl, sym, ap, subst, ◌∙◌, arith, unsigned_abs, nat_le, true≢false, to_z, of_z}
 use Rattle.std.specs.List.{list_all}
 use Rattle.std.specs.Int.{w64, w128}
 use Rattle.std.proofs.lemmas.Int.{ints, to_z-of_z, fits_signed_from_abs}
 use Rattle.std.proofs.lemmas.Bool.{leb-true}
 use Rattle.std.proofs.lemmas.List.{take_more}
-use Rattle.std.proofs.lemmas.Grind.{common_steps}
 use Rattle.aerie_base.specs.declared.models.model.Parts.{Parts}
 use Rattle.aerie_base.specs.declared.values.Kind.TheVariants as kind
-use Rattle.aerie_base.specs.expressions.Arithmetic.{compared, number_in}
+use Rattle.aerie_base.specs.expressions.Arithmetic.{compared}
 use Rattle.profiles.proofs.Products.{product_within}
 use Rattle.run_data.specs.declared.runs.Run.{Run}
 use Rattle.windows.specs.declared.segments.Segment.{Segment}
@@ -16,7 +15,7 @@ use Rattle.windows.specs.Linear.{AreSegments, IsSum, segments_value}
 use Rattle.constraints.specs.declared.types.RuleTerm.{RuleTerm}
 use Rattle.constraints.specs.declared.types.RuleSum.{RuleSum}
 use Rattle.constraints.specs.Following.{FollowsReading}
-use Rattle.constraints.specs.Holding.{reading_value, sum_value, rule_term_value, rule_terms_value}
+use Rattle.constraints.specs.Holding.{sum_value, rule_term_value, rule_terms_value}
 use Rattle.constraints.specs.OfModel.{is_of_kind, reading_kind, is_sum, is_term}
 use Rattle.constraints.specs.SumPieces.{AreModest, SumTo, product_limit}
 use Rattle.aerie_base.specs.declared.expressions.Comparison.{Comparison}

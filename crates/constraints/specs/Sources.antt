@@ -5,7 +5,7 @@ use Rattle.run_data.specs.declared.runs.Run.{Run}
 use Rattle.run_data.specs.Fresh.{IsFresh}
 use Rattle.run_data.specs.Spans.{SpanOf, spans_of}
 use Rattle.profiles.specs.declared.sampling.Profile.{Profile}
-use Rattle.profiles.specs.GivenValues.{HasValues, OfResource}
+use Rattle.profiles.specs.GivenValues.{HasValues, OfResource, StaysWithin, summed_most}
 use Rattle.profiles.specs.Neighbours.{DivideTime, MayBeCompared, starts_of}
 use Rattle.windows.specs.Times.{TimeSet, AreIntervals}
 use Rattle.constraints.specs.declared.sources.Sources.{Sources}
@@ -16,6 +16,7 @@ pub record IsProfile (model : Parts) (run : Run) (number : ℕ) (profile : Profi
   pub values : OfResource model number (HasValues model run) profile
   pub divide : DivideTime run.reach (starts_of profile)
   pub compared : MayBeCompared run.reach profile
+  pub within : StaysWithin summed_most run.reach profile
 
 abbrev pub AreProfiles : Parts → Run → List (Option Profile) → Type 0
 AreProfiles model run profiles = (number : ℕ) (profile : Profile) → slice_get profiles number ≡ Some (Some profile) → IsProfile model run number profile

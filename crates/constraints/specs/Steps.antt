@@ -1,5 +1,5 @@
 -- Values that stay from step to step.
-use Rattle.std.specs.Prelude.{ℕ, ◌≡◌, ◌<◌, pos, Bool, List, [], ◌∷◌, length, map, Option, option_map, unwrap_or, if◌then◌else◌, Some, refl}
+use Rattle.std.specs.Prelude.{ℕ, ◌≡◌, ◌<◌, pos, Bool, List, [], ◌∷◌, length, map, option_map, unwrap_or, if◌then◌else◌, refl}
 use Rattle.aerie_base.specs.declared.values.Value.{Value}
 use Rattle.aerie_base.specs.declared.values.Value.TheVariants as value
 use Rattle.aerie_base.specs.Ranges.{IsNumber}

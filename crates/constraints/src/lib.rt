@@ -21,10 +21,10 @@ mod violation;
 
 pub use judging::{violations, window_times};
 pub use reading::{
-    RuleRefusal, WrongRule, form_error, is_of_kind, judge_literal, judge_name, judge_type,
-    judge_window, literal_kind, literal_value, number_of_type, number_or_first, known_parameter,
-    parameters_if_known, place_of_enum, place_of_parameter, place_of_type, read_constraints,
-    refusal_error, refuse, refuse_unless, short_number, signed_time, time_within, activity_named,
+    RuleRefusal, WrongRule, activity_named, form_error, is_of_kind, judge_literal, judge_name,
+    judge_type, judge_window, known_parameter, literal_kind, literal_value, number_of_type,
+    number_or_first, parameters_if_known, place_of_enum, place_of_parameter, place_of_type,
+    read_constraints, refusal_error, refuse, refuse_unless, short_number, signed_time, time_within,
     variant_place, window_of,
 };
 pub use rule_error::RuleError;

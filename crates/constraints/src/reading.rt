@@ -11,8 +11,8 @@ mod window_refusals;
 
 pub use constraints::{form_error, read_constraints, refusal_error};
 pub use literals::{
-    judge_literal, literal_kind, literal_value, known_parameter, parameters_if_known, place_of_parameter,
-    activity_named,
+    activity_named, judge_literal, known_parameter, literal_kind, literal_value,
+    parameters_if_known, place_of_parameter,
 };
 pub use names::{is_of_kind, place_of_enum, place_of_type, short_number, variant_place};
 pub use refusals::{RuleRefusal, WrongRule, refuse, refuse_unless};

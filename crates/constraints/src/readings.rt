@@ -13,7 +13,6 @@ use crate::types::Reading;
 use aerie_base::{List, OutOfMemory, Value};
 use dataset_in::Series;
 use profiles::Profile;
-use run_data::laws::fresh_runs;
 use std::alloc::Global;
 use windows::{Segment, Windows};
 
@@ -111,9 +110,6 @@ fn resource_segments(
     requires typed { IsTrue (reads_number sources.now.model.now (read.Resource number)) }
     ensures { IfOk result (FollowOver sources.now (read.Resource number)) }
 {
-    // the model is valid, and below the reach its cells are in range
-    sources.model.resources();
-    fresh_runs();
     let profile = sources.profile(alloc, number)?;
     match profile {
         Profile::Discrete(steps) => {

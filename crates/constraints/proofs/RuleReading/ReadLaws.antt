@@ -1,5 +1,5 @@
 -- Types, windows and literals that are read without a refusal are of the model.
-use Rattle.std.proofs.Common.{◌≡◌, ℕ, ℤ, pos, Bool, true, false, ◌&&◌, IsTrue, List, [], Option, Some, None, is_some, option_map, length, slice_get, nat_eq, nat_lt, refl, subst, ap, ◌∙◌, arith, if◌then◌else◌}
+use Rattle.std.proofs.Common.{◌≡◌, ℕ, ℤ, pos, Bool, true, false, ◌&&◌, IsTrue, [], Option, Some, None, is_some, option_map, length, slice_get, nat_eq, nat_lt, refl, subst, ap, ◌∙◌, arith, if◌then◌else◌}
 use Rattle.std.proofs.lemmas.Option.{same_Some, slice_get_within}
 use Rattle.aerie_base.specs.Ranges.{is_number}
 use Rattle.aerie_base.specs.declared.models.Activity.{Activity}
@@ -11,7 +11,6 @@ use Rattle.aerie_base.specs.models.Limits.{type_limit, enum_limit}
 use Rattle.aerie_base.specs.models.Names.{same_name}
 use Rattle.aerie_base.specs.models.ValidModel.{valid_model}
 use Rattle.aerie_base.specs.models.Values.{is_value_of, variants_of}
-use Rattle.model_reader.specs.declared.raw.literals.RawLiteralKind.{RawLiteralKind}
 use Rattle.model_reader.specs.declared.raw.literals.RawLiteralKind.TheVariants as literal
 use Rattle.model_reader.specs.declared.raw.names.RawName.{RawName}
 use Rattle.constraints.specs.reading.Meaning.{number_or_first, number_within, variant_in}

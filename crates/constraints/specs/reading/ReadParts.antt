@@ -1,5 +1,5 @@
 -- What is read of a valid model without a refusal is of the model.
-use Rattle.std.specs.Prelude.{◌≡◌, IsTrue, not, ◌&&◌, List, [], Some, None, slice_get}
+use Rattle.std.specs.Prelude.{◌≡◌, IsTrue, not, ◌&&◌, [], Some, None, slice_get}
 use Rattle.std.specs.List.{list_all}
 use Rattle.aerie_base.specs.declared.models.Activity.{Activity}
 use Rattle.aerie_base.specs.declared.models.model.Parts.{Parts}

@@ -1,7 +1,7 @@
 -- A file of lemmas: what it proves need not be read to trust a clause.
 --
 -- What is found in one list after another, and in one part after another.
-use Rattle.std.proofs.Common.{◌≡◌, ℕ, zero, suc, ◌+◌, ◌-◌, ◌≤◌, Bool, subst, List, [], ◌∷◌, ◌++◌, Option, Some, None, take, drop, refl, sym, ap, ◌∙◌, arith, if◌then◌else◌}
+use Rattle.std.proofs.Common.{◌≡◌, ℕ, zero, suc, ◌+◌, ◌-◌, ◌≤◌, subst, List, [], ◌∷◌, ◌++◌, Option, Some, None, take, drop, refl, sym, ap, ◌∙◌, arith, if◌then◌else◌}
 use Rattle.constraints.specs.declared.reading.refusals.RuleRefusal.{RuleRefusal}
 use Rattle.constraints.specs.reading.Refusals.{is_refused_before, earlier_refusal, found_with, first_of_refusals, refusals_in_turn, refusals_or}
 

@@ -1,7 +1,5 @@
-use Rattle.std.proofs.Common.{◌≡◌, ℕ, Bool, IsTrue, ap, sym, subst, ◌∙◌}
-use Rattle.windows.specs.Times.{AreIntervals}
+use Rattle.std.proofs.Common.{ap, sym, ◌∙◌}
 use Rattle.constraints.specs.declared.types.Window.{Window, Shift, Longer}
-use Rattle.constraints.specs.Evaluating.{holds_by_fold, is_window_by_fold}
 use Rattle.constraints.proofs.Folds.{shift_held, longer_held}
 use Rattle.constraints.proofs.evaluation.+holding_by_fold.Goals as goal
 

@@ -12,6 +12,5 @@ returns-in_ok-made-in-Discrete c =
 
 pub returns-in-Linear : goal.returns-in-Linear
 returns-in-Linear c =
-    linear_pieces c.args.sources.now.model.now c.args.sources.now.run.now c.args.number c.in-Linear.segments c.resources.ensures.valid
-    (c.fresh_runs.ensures.valid_cells c.args.sources.now.model.now c.args.sources.now.run.now.plan c.args.sources.now.run.now.bound c.args.sources.now.run.now c.resources.ensures.valid c.requires.sources.fresh)
+    linear_pieces c.args.sources.now.model.now c.args.sources.now.run.now c.args.number c.in-Linear.segments
     c.requires.typed (subst (IsProfile c.args.sources.now.model.now c.args.sources.now.run.now c.args.number) c.in-Linear.is c.in_ok-profile.ensures)

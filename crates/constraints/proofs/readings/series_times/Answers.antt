@@ -3,7 +3,7 @@ use Rattle.dataset_in.specs.declared.series.Series.{Series}
 use Rattle.dataset_in.specs.Series.{IsSeries}
 use Rattle.constraints.specs.declared.types.Reading.TheVariants as read
 use Rattle.constraints.specs.Following.{AreTimesEqual}
-use Rattle.constraints.specs.Steps.{Step, AreSteps, truth_step}
+use Rattle.constraints.specs.Steps.{AreSteps, truth_step}
 use Rattle.constraints.proofs.SeriesByRules.{series_equal, truth_steps_are, truth_times_are}
 use Rattle.constraints.proofs.readings.series_times.Goals as goal
 

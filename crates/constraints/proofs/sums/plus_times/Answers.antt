@@ -1,4 +1,4 @@
-use Rattle.std.proofs.Common.{◌≡◌, ℕ, ◌≤◌, ℤ, ◌+◌, ◌+ℤ◌, ◌*ℤ◌, min, drop, refl, sym, subst, ap, ◌∙◌, to_z, of_z}
+use Rattle.std.proofs.Common.{◌≤◌, ℤ, ◌+ℤ◌, ◌*ℤ◌, min, refl, sym, subst, ap, ◌∙◌, to_z, of_z}
 use Rattle.std.specs.Int.{w64}
 use Rattle.std.proofs.lemmas.Int.{to_z-of_z}
 use Rattle.windows.specs.Linear.{IsSum, segments_value}

@@ -1,4 +1,4 @@
-use Rattle.std.proofs.Common.{ℕ, ℤ, ◌+◌, ◌-◌, ◌+ℤ◌, ◌*ℤ◌, length, drop}
+use Rattle.std.proofs.Common.{◌+◌, ◌-◌, ◌+ℤ◌, ◌*ℤ◌, length, drop}
 use Rattle.windows.specs.Linear.{segments_value}
 use Rattle.constraints.proofs.Merging.{Merging}
 use Rattle.constraints.proofs.sums.plus_times.Given as goal
