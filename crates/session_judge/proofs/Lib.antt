@@ -3,3 +3,5 @@ pub mod FirstOfBoth
 pub mod Gathering
 pub mod GoodSeries
 pub mod Told
+pub mod Uncut
+pub mod Whole

@@ -15,9 +15,13 @@ command_count (client ∷ clients) = length client.commands + command_count clie
 abbrev pub count_limit : ℕ
 count_limit = 18_446_744_073_709_551_615
 
--- how many clients there are, and how many commands all of them have
-abbrev pub accepted_data : Session → Data
-accepted_data session =
+-- how many clients there are, how many commands all of them have, and what is said of the session
+abbrev pub counts_data : Session → List ℕ → Data
+counts_data session state =
     object_of ((codes "clients", natural_data (length session.clients))
     ∷ (codes "commands", natural_data (min (command_count session.clients) count_limit))
-    ∷ (codes "session", string (codes "ok")) ∷ [])
+    ∷ (codes "session", string state) ∷ [])
+
+-- a session that is good
+abbrev pub accepted_data : Session → Data
+accepted_data session = counts_data session (codes "ok")

@@ -1,9 +1,10 @@
 //! The line of a session that is accepted.
 
-ghost use Rattle.std.specs.Prelude.{◌≡◌, IfOk, length, min, string_bytes};
+ghost use Rattle.std.specs.Prelude.{◌≡◌, ◌++◌, IfOk, OnOk, length, min, string_bytes};
 ghost use Rattle.aerie_text.specs.Json.{line_of as line_of_by};
+ghost use Rattle.json_line.specs.Parts.{data_tokens};
 ghost use Rattle.report_text.specs.Fields.{natural_data};
-ghost use Rattle.session_judge.specs.Accepted.{accepted_data, command_count as command_count_by, count_limit};
+ghost use Rattle.session_judge.specs.Accepted.{accepted_data, counts_data, command_count as command_count_by, count_limit};
 
 use aerie_base::OutOfMemory;
 use json_line::{JsonData, JsonLine, line_of};
@@ -21,6 +22,18 @@ fn command_count(clients: &[Client]) -> u64
     count
 }
 
+/// How many clients and commands a session has, and that it is so.
+#[tactic(auto, using(json_line::proofs::Steps::part_by_part))]
+fn write_counts(line: &mut JsonLine, session: &Session, state: &str) -> Result<(), OutOfMemory>
+    ensures { OnOk result (line.new ≡ line.old ++ data_tokens (counts_data session.now state.now)) }
+{
+    line.begin_object()?;
+    line.member("clients", &session.clients.len())?;
+    line.member("commands", &command_count(session.clients.as_slice()))?;
+    line.text_member("session", state)?;
+    line.end_object()
+}
+
 /// A session that is accepted.
 #[derive(Drop)]
 struct Accepted<'a> {
@@ -30,13 +43,8 @@ struct Accepted<'a> {
 impl<'a> JsonData for Accepted<'a> {
     ghost as_data = { λ accepted. accepted_data accepted.session.now };
 
-    #[tactic(auto, using(json_line::proofs::Steps::part_by_part))]
     fn write(&self, line: &mut JsonLine) -> Result<(), OutOfMemory> {
-        line.begin_object()?;
-        line.member("clients", &self.session.clients.len())?;
-        line.member("commands", &command_count(self.session.clients.as_slice()))?;
-        line.text_member("session", "ok")?;
-        line.end_object()
+        write_counts(line, self.session, "ok")
     }
 }
 

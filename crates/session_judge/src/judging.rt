@@ -1,6 +1,6 @@
 //! Sessions are judged with all their rules.
 
-ghost use Rattle.std.specs.Prelude.{◌≡◌, ◌≤◌, [], Ok, IfOk, length};
+ghost use Rattle.std.specs.Prelude.{◌≡◌, ◌≤◌, [], Ok, Err, IfOk, length};
 ghost use Rattle.std.specs.List.{AllByRecursion};
 ghost use Rattle.aerie_text.specs.Marks.{AreTokensWithin};
 ghost use Rattle.aerie_text.specs.Tokens.{tokens_of};
@@ -79,14 +79,15 @@ fn judge_read(
 }
 
 /// A text that cannot be cut into tokens is refused.
-fn judge_uncut(alloc: Global, text: &str) -> Result<JudgedSession, JudgeError>
+fn judge_uncut(alloc: Global, text: &str, at: usize) -> Result<JudgedSession, JudgeError>
     requires short { length text.now ≤ byte_limit }
+    requires uncut { tokens_of text.now ≡ Err at }
     ensures exact { IsJudged (judged_answer text.now [] (text_answer text.now)) result }
     ensures session { IfOk result (λ judged. IsSession judged.session) }
     ensures constraints { IfOk result HasConstraintsOfModels }
 {
     match read_session(alloc, text.as_bytes()) {
-        Ok(session) => with_rules(alloc, text, &[], session),
+        Ok(_) => unreachable!(),
         Err(error) => Err(JudgeError::Refused(told_session(alloc, text, &[], error)?)),
     }
 }
@@ -103,7 +104,7 @@ fn judge_text(alloc: Global, text: &str) -> Result<JudgedSession, JudgeError>
             let tokens = tokens.as_slice();
             judge_read(alloc, text, tokens, session_of(alloc, text, tokens))
         }
-        Err(TextError::BadToken { .. }) => judge_uncut(alloc, text),
+        Err(TextError::BadToken { at }) => judge_uncut(alloc, text, at),
         Err(TextError::OutOfMemory) => Err(JudgeError::OutOfMemory),
     }
 }

@@ -1,7 +1,7 @@
 //! How refusals are told.
 
-ghost use Rattle.std.specs.Prelude.{◌≡◌, ◌<◌, IfOk, length};
-ghost use Rattle.aerie_text.specs.Marks.{AreTokensWithin};
+ghost use Rattle.std.specs.Prelude.{◌≡◌, ◌<◌, All, IfOk, length};
+ghost use Rattle.aerie_text.specs.Cut.{IsTokenOf};
 ghost use Rattle.constraints.specs.declared.rule_error.RuleError.TheVariants.{OutOfMemory as NoMemoryForRules};
 ghost use Rattle.session_reader.specs.declared.session_error.SessionError.TheVariants.{OutOfMemory as NoMemoryForSession};
 ghost use Rattle.session_judge.specs.Telling.{told_check as told_check_by, told_dataset as told_dataset_by, told_directive as told_directive_by, told_limit as told_limit_by, told_name as told_name_by, told_offset as told_offset_by, told_place as told_place_by, told_rule as told_rule_by, told_session as told_session_by, told_word, word_at as word_at_by};
@@ -52,7 +52,7 @@ fn told_at(
     place: Place,
 ) -> Result<Refusal, OutOfMemory>
     requires short { length text.now < 4_294_967_295 }
-    requires tokens { AreTokensWithin text.now tokens.now }
+    requires tokens { All (IsTokenOf text.now) tokens.now }
     ensures { IfOk result (λ refusal. refusal ≡ told_word name.now place (word_at_by text.now place tokens.now)) }
 {
     let mut refusal = told_place(alloc, name, place)?;
@@ -106,7 +106,7 @@ fn told_check(
     error: CheckError,
 ) -> Result<Refusal, OutOfMemory>
     requires short { length text.now < 4_294_967_295 }
-    requires tokens { AreTokensWithin text.now tokens.now }
+    requires tokens { All (IsTokenOf text.now) tokens.now }
     ensures { IfOk result (λ refusal. refusal ≡ told_check_by text.now tokens.now error) }
 {
     match error {
@@ -128,7 +128,7 @@ pub(crate) fn told_session(
     error: SessionError,
 ) -> Result<Refusal, OutOfMemory>
     requires short { length text.now < 4_294_967_295 }
-    requires tokens { AreTokensWithin text.now tokens.now }
+    requires tokens { All (IsTokenOf text.now) tokens.now }
     ensures told { IfOk result (λ refusal. refusal ≡ told_session_by text.now tokens.now error) }
     ensures memory { IfOk result (λ refusal. ¬ (error ≡ NoMemoryForSession)) }
 {
@@ -154,7 +154,7 @@ pub(crate) fn told_rule(
     error: RuleError,
 ) -> Result<Refusal, OutOfMemory>
     requires short { length text.now < 4_294_967_295 }
-    requires tokens { AreTokensWithin text.now tokens.now }
+    requires tokens { All (IsTokenOf text.now) tokens.now }
     ensures told { IfOk result (λ refusal. refusal ≡ told_rule_by text.now tokens.now error) }
     ensures memory { IfOk result (λ refusal. ¬ (error ≡ NoMemoryForRules)) }
 {

@@ -1,9 +1,9 @@
 //! The token that stands at a place.
 
-ghost use Rattle.std.specs.Prelude.{◌≡◌, ◌<◌, IfOk, length};
+ghost use Rattle.std.specs.Prelude.{◌≡◌, ◌<◌, All, IfOk, length};
 ghost use Rattle.std.specs.Str.{IsCharBoundary};
 ghost use Rattle.aerie_text.specs.Cut.{IsTokenOf};
-ghost use Rattle.aerie_text.specs.Marks.{AreTokensWithin, slice_of};
+ghost use Rattle.aerie_text.specs.Marks.{slice_of};
 ghost use Rattle.aerie_text.specs.Places.{place_of as place_of_by};
 ghost use Rattle.session_judge.specs.Telling.{are_equal_places, word_at as word_at_by};
 
@@ -18,24 +18,25 @@ fn are_equal_places(one: Place, other: Place) -> bool
     one.line == other.line && one.column == other.column
 }
 
-/// The place of a byte, from that of another one: only what stands between them is read, where that one comes first.
-fn place_from(text: &str, from: usize, to: usize, place: Place) -> Place
+/// The place of a token, from that of another byte: only what stands between them is read, where that one comes first.
+fn place_from(text: &str, from: usize, token: Token, place: Place) -> Place
     requires short { length text.now < 4_294_967_295 }
     requires begins { IsCharBoundary text.now from }
-    requires ends { IsCharBoundary text.now to }
+    requires token { IsTokenOf text.now token }
     requires place { place ≡ place_of_by text.now from }
-    ensures { result ≡ place_of_by text.now to }
+    ensures place { result ≡ place_of_by text.now token.from }
+    ensures edge { IsCharBoundary text.now token.from }
 {
-    if from <= to {
-        place_on(text, from, to, place)
+    if from <= token.from {
+        place_on(text, from, token.from, place)
     } else {
-        place_of(text, to)
+        place_of(text, token.from)
     }
 }
 
 /// The text of a token.
 fn text_of(alloc: Global, text: &str, token: Token) -> Result<Text, OutOfMemory>
-    requires token { IsTokenOf text.now token }
+    requires { IsTokenOf text.now token }
     ensures { IfOk result (λ word. word ≡ slice_of text.now token.from token.to) }
 {
     Text::new(alloc, &text[token.from..token.to])
@@ -49,13 +50,13 @@ pub(crate) fn word_at(
     tokens: &[Token],
 ) -> Result<Text, OutOfMemory>
     requires short { length text.now < 4_294_967_295 }
-    requires tokens { AreTokensWithin text.now tokens.now }
+    requires tokens { All (IsTokenOf text.now) tokens.now }
     ensures { IfOk result (λ word. word ≡ word_at_by text.now place tokens.now) }
 {
     let mut from = 0;
     let mut at = Place { line: 1, column: 1 };
     for token in tokens {
-        at = place_from(text, from, token.from, at);
+        at = place_from(text, from, *token, at);
         from = token.from;
         if are_equal_places(at, place) {
             return text_of(alloc, text, *token);
