@@ -4,6 +4,8 @@ use Rattle.std.specs.List.{list_all}
 use Rattle.aerie_base.specs.declared.models.model.Parts.{Parts}
 use Rattle.constraints.specs.OfModel.{is_constraint}
 use Rattle.constraints.specs.declared.types.Constraint.{Constraint}
+use Rattle.seq_expand.specs.OfModel.{have_shifts}
+use Rattle.seq_expand.specs.declared.rules.Sequencing.{Sequencing}
 use Rattle.session_reader.specs.declared.session.ModelPart.{ModelPart}
 use Rattle.session_judge.specs.declared.judged.JudgedSession.{JudgedSession}
 
@@ -18,6 +20,14 @@ AreOfModels test (part ∷ parts) (rules ∷ more) = IsTrue (test part.model rul
 abbrev pub are_constraints : Parts → List Constraint → Bool
 are_constraints model constraints = list_all (is_constraint model) constraints
 
+-- rules whose commands lie near their spans, whatever the model
+abbrev pub are_sendable : Parts → Sequencing → Bool
+are_sendable model sequencing = list_all have_shifts sequencing.rules
+
 -- the constraints of a judged session
 abbrev pub HasConstraintsOfModels : JudgedSession → Type 0
 HasConstraintsOfModels judged = AreOfModels are_constraints judged.session.models judged.constraints
+
+-- its rules of sequences
+abbrev pub HasSequencesOfModels : JudgedSession → Type 0
+HasSequencesOfModels judged = AreOfModels are_sendable judged.session.models judged.sequences

@@ -5,6 +5,8 @@ use Rattle.aerie_text.specs.declared.token.Token.{Token}
 use Rattle.constraints.specs.declared.rule_error.RuleError.{RuleError}
 use Rattle.constraints.specs.declared.types.Constraint.{Constraint}
 use Rattle.constraints.specs.reading.ConstraintAnswers.{constraints_answer}
+use Rattle.seq_expand.specs.declared.rules.Sequencing.{Sequencing}
+use Rattle.seq_expand.specs.reading.SequenceAnswers.{sequence_answer}
 use Rattle.session_reader.specs.DatasetAnswers.{NamedSeries}
 use Rattle.session_reader.specs.Sections.{TokenRange}
 use Rattle.session_reader.specs.declared.session.ModelPart.{ModelPart}
@@ -36,3 +38,17 @@ constraints_of_part text tokens datasets part = constraints_of_section text toke
 abbrev pub session_constraints : List ℕ → List Token → Session → RulesAnswer (List (List Constraint))
 session_constraints text tokens session =
     all_rules (λ part. part.constraints) (constraints_of_part text tokens session.datasets) session.models
+
+-- ---- sequences
+
+-- the rules by which a model gives commands: those of its section, and none where it has no section
+abbrev pub sequence_of_section : List ℕ → List Token → Parts → Option TokenRange → RulesAnswer Sequencing
+sequence_of_section text tokens model None = Ok (record { rules = []; spacings = [] })
+sequence_of_section text tokens model (Some range) = told_rules text tokens (sequence_answer text (tokens_in tokens range) model)
+
+abbrev pub sequence_of_part : List ℕ → List Token → ModelPart → RulesAnswer Sequencing
+sequence_of_part text tokens part = sequence_of_section text tokens part.model part.sequence
+
+-- those of all models
+abbrev pub session_sequences : List ℕ → List Token → Session → RulesAnswer (List Sequencing)
+session_sequences text tokens session = all_rules (λ part. part.sequence) (sequence_of_part text tokens) session.models

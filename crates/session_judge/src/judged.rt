@@ -2,6 +2,7 @@
 
 use aerie_base::{List, Shared};
 use constraints::Constraint;
+use seq_expand::Sequencing;
 use session_reader::Session;
 
 /// A session with its rules. Of each sort of rules there is one entry for each model, in the order of the models; a model
@@ -12,4 +13,6 @@ pub struct JudgedSession {
     pub session: Session,
     /// The constraints of each model.
     pub constraints: List<Shared<List<Constraint>>>,
+    /// The rules by which each model gives commands.
+    pub sequences: List<Sequencing>,
 }

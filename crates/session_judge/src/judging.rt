@@ -7,14 +7,18 @@ ghost use Rattle.aerie_text.specs.Tokens.{tokens_of};
 ghost use Rattle.session_reader.specs.Answers.{IsMade};
 ghost use Rattle.session_reader.specs.SessionTexts.{byte_limit, text_answer};
 ghost use Rattle.session_reader.specs.WellFormed.{HasSectionsWithin, IsSession};
-ghost use Rattle.session_judge.specs.OfModels.{HasConstraintsOfModels};
-ghost use Rattle.session_judge.specs.Judging.{IsJudged, judged_answer, judged_session, judged_text, with_rules as with_rules_by};
+ghost use Rattle.session_judge.specs.OfModels.{AreOfModels, HasConstraintsOfModels, HasSequencesOfModels, are_constraints};
+ghost use Rattle.session_judge.specs.Judging.{IsJudged, judged_answer, judged_session, judged_text, with_rules as with_rules_by, with_sequences as with_sequences_by};
+ghost use Rattle.session_judge.specs.Rules.{session_sequences as session_sequences_by};
 
 use crate::constraint_sections::session_constraints;
 use crate::judge_error::JudgeError;
 use crate::judged::JudgedSession;
+use crate::sequence_sections::session_sequences;
 use crate::telling::{named_refusal, told_offset, told_session};
+use aerie_base::{List, Shared};
 use aerie_text::{TextError, Token, tokens};
+use constraints::Constraint;
 use session_reader::{Session, SessionError, read_session};
 use std::alloc::Global;
 
@@ -32,6 +36,34 @@ fn session_of(alloc: Global, text: &str, tokens: &[Token]) -> Result<Session, Se
     read_session(alloc, text.as_bytes())
 }
 
+/// The session with its constraints and its sequences.
+fn with_sequences(
+    alloc: Global,
+    text: &str,
+    tokens: &[Token],
+    session: Session,
+    constraints: List<Shared<List<Constraint>>>,
+) -> Result<JudgedSession, JudgeError>
+    requires short { length text.now ≤ byte_limit }
+    requires tokens { AreTokensWithin text.now tokens.now }
+    requires session { IsSession session }
+    requires sections { AllByRecursion (HasSectionsWithin (length tokens.now)) session.models }
+    requires constraints { AreOfModels are_constraints session.models constraints }
+    ensures exact { IsJudged (with_sequences_by session constraints (session_sequences_by text.now tokens.now session)) result }
+    ensures session { IfOk result (λ judged. IsSession judged.session) }
+    ensures constraints { IfOk result HasConstraintsOfModels }
+    ensures sequences { IfOk result HasSequencesOfModels }
+{
+    match session_sequences(alloc, text, tokens, &session)? {
+        Ok(sequences) => Ok(JudgedSession {
+            session,
+            constraints,
+            sequences,
+        }),
+        Err(refusal) => Err(JudgeError::Refused(refusal)),
+    }
+}
+
 /// The session with its rules.
 fn with_rules(
     alloc: Global,
@@ -46,12 +78,10 @@ fn with_rules(
     ensures exact { IsJudged (with_rules_by text.now tokens.now session) result }
     ensures session { IfOk result (λ judged. IsSession judged.session) }
     ensures constraints { IfOk result HasConstraintsOfModels }
+    ensures sequences { IfOk result HasSequencesOfModels }
 {
     match session_constraints(alloc, text, tokens, &session)? {
-        Ok(constraints) => Ok(JudgedSession {
-            session,
-            constraints,
-        }),
+        Ok(constraints) => with_sequences(alloc, text, tokens, session, constraints),
         Err(refusal) => Err(JudgeError::Refused(refusal)),
     }
 }
@@ -71,6 +101,7 @@ fn judge_read(
     ensures exact { IsJudged (judged_answer text.now tokens.now (text_answer text.now)) result }
     ensures session { IfOk result (λ judged. IsSession judged.session) }
     ensures constraints { IfOk result HasConstraintsOfModels }
+    ensures sequences { IfOk result HasSequencesOfModels }
 {
     match read {
         Ok(session) => with_rules(alloc, text, tokens, session),
@@ -85,6 +116,7 @@ fn judge_uncut(alloc: Global, text: &str, at: usize) -> Result<JudgedSession, Ju
     ensures exact { IsJudged (judged_answer text.now [] (text_answer text.now)) result }
     ensures session { IfOk result (λ judged. IsSession judged.session) }
     ensures constraints { IfOk result HasConstraintsOfModels }
+    ensures sequences { IfOk result HasSequencesOfModels }
 {
     match read_session(alloc, text.as_bytes()) {
         Ok(_) => unreachable!(),
@@ -98,6 +130,7 @@ fn judge_text(alloc: Global, text: &str) -> Result<JudgedSession, JudgeError>
     ensures exact { IsJudged (judged_text text.now) result }
     ensures session { IfOk result (λ judged. IsSession judged.session) }
     ensures constraints { IfOk result HasConstraintsOfModels }
+    ensures sequences { IfOk result HasSequencesOfModels }
 {
     match tokens(alloc, text) {
         Ok(tokens) => {
@@ -110,12 +143,13 @@ fn judge_text(alloc: Global, text: &str) -> Result<JudgedSession, JudgeError>
 }
 
 /// The session that bytes are, with all its rules, or the first refusal: too many bytes, bytes that are no text, what is
-/// refused of the session, and then of the constraints the refusal that stands first in the text. The time is linear in the
+/// refused of the session, and then of the constraints, and of the sequences, the refusal that stands first in the text. The time is linear in the
 /// bytes, but for what looking up names takes.
 pub fn judge(alloc: Global, bytes: &[u8]) -> Result<JudgedSession, JudgeError>
     ensures exact { IsJudged (judged_session bytes.now) result }
     ensures session { IfOk result (λ judged. IsSession judged.session) }
     ensures constraints { IfOk result HasConstraintsOfModels }
+    ensures sequences { IfOk result HasSequencesOfModels }
 {
     if MOST_BYTES < bytes.len() {
         return Err(JudgeError::Refused(named_refusal(alloc, "TooLarge")?));

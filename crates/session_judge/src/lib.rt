@@ -9,6 +9,7 @@ mod judge_error;
 mod judged;
 mod judging;
 mod sections;
+mod sequence_sections;
 mod telling;
 mod words;
 
