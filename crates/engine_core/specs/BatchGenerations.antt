@@ -111,3 +111,9 @@ pub record Ran (was is : Parts → Type 0) (had has : List Record) (anchor stays
   pub same_anchor : stays ≡ anchor
   pub rose : RoseAlike opened steps opened_after steps_after
   pub looked : looks ≤ looks_after
+
+-- ---- one frame
+
+-- the frame of a job with those so far, and the jobs that are due then
+abbrev pub AddsFrame : Parts → ℕ × Job → Frame → List Frame → List Frame → List (ℕ × Job) → List (ℕ × Job) → Type 0
+AddsFrame model job frame made after dues later = beside_generation (so_far made dues) (added_by model job frame) ≡ so_far after later

@@ -1,5 +1,5 @@
 -- Cells by number that are flagged, and their states.
-use Rattle.std.specs.Prelude.{ℕ, ◌+◌, Bool, true, List, [], ◌∷◌, slice_set, if◌then◌else◌}
+use Rattle.std.specs.Prelude.{◌≡◌, ℕ, ◌+◌, Bool, true, List, [], ◌∷◌, ◌++◌, Some, slice_get, slice_set, if◌then◌else◌}
 use Rattle.effect_cells.specs.declared.effects.CellState.{CellState}
 
 -- flags, those of some numbers set besides
@@ -17,3 +17,8 @@ flagged_states from [] states = []
 flagged_states from (flag ∷ flags) [] = []
 flagged_states from (flag ∷ flags) (state ∷ states) =
     if flag then (from, state) ∷ flagged_states (from + 1) flags states else flagged_states (from + 1) flags states
+
+-- states with that of a cell behind them, where its flag is set
+abbrev pub KeepsState : Bool → ℕ → List CellState → List (ℕ × CellState) → List (ℕ × CellState) → Type 0
+KeepsState flag number cells before after =
+    (state : CellState) → slice_get cells number ≡ Some state → after ≡ before ++ flagged_state flag number state

@@ -1,6 +1,6 @@
 -- How the engine lets tasks go on, one after another.
 use Rattle.std.specs.Prelude.{◌≡◌, ◌⊎◌, ℕ, ◌<◌, ◌≤◌, true, List, Option, Some, None, length, slice_get, if◌then◌else◌}
-use Rattle.aerie_base.specs.Paths.{is_prefix, root}
+use Rattle.aerie_base.specs.Paths.{child_path, is_prefix, root}
 use Rattle.run_data.specs.declared.frames.Frame.{Frame}
 use Rattle.aerie_base.specs.declared.plans.Edge.{Edge}
 use Rattle.aerie_base.specs.declared.plans.Edge.TheVariants.{Start, End}
@@ -9,6 +9,8 @@ use Rattle.run_data.specs.Tasks.{TaskPhase, Task, Table, task_at, on_each}
 use Rattle.run_data.specs.laws.GoingOn.{EndsAs, HasFrame, MayGoOnBy}
 use Rattle.engine_core.specs.Phases.{anchor_in, returned_to, due_from}
 use Rattle.engine_core.specs.declared.tasks.Changed.{Changed}
+use Rattle.aerie_base.specs.declared.plans.Anchor.{Anchor}
+use Rattle.run_data.specs.laws.NumberedTasks.{sorted_tasks}
 
 -- a change of what is found at a number; nothing where it stays as it is
 abbrev pub GoesOnAs : (List ℕ → Task → Task) → Option (List ℕ × Task) → Option Changed → Type 0
@@ -73,3 +75,17 @@ IsBegunBy path other phase = IsAt path other phase ⊎ ((to : ℕ) × (path ≡ 
 -- the directive that it comes from
 abbrev pub IsOverBy : List ℕ → List ℕ → TaskPhase → Type 0
 IsOverBy path other phase = IsAbove path other phase ⊎ ((to : ℕ) × (is_prefix (root to) path ≡ true) × IsAnchoredTo to End other phase)
+
+-- ---- one task
+
+-- a caller as it goes on, by the number of its callee
+abbrev pub IsReturning : Table → List ℕ → Task → ℕ → Option Changed → Type 0
+IsReturning tasks path task child changed = changed ≡ returning (sorted_tasks tasks) path task (child_path path child)
+
+-- an anchored directive as it goes on
+abbrev pub IsFallingDue : Table → ℕ → List ℕ → Task → Anchor → Option Changed → Type 0
+IsFallingDue tasks now path task anchor changed = changed ≡ falling_due (sorted_tasks tasks) now path task anchor.to anchor.edge
+
+-- what is found at a number as it goes on
+abbrev pub GoesOnIn : Table → ℕ → Option (List ℕ × Task) → Option Changed → Type 0
+GoesOnIn tasks now entry changed = GoesOnAs (gone_on (sorted_tasks tasks) now) entry changed

@@ -8,6 +8,7 @@ pub mod BatchTrees
 pub mod BatchViews
 pub mod Flags
 pub mod GoingOn
+pub mod Indexes
 pub mod Passing
 pub mod Phases
 pub mod PlannedTasks

@@ -9,6 +9,9 @@ use Rattle.run_data.specs.Fresh.{SimulationState, moved, to_time, to_end, below,
 use Rattle.run_data.specs.Transitions.{Next, more, finished}
 use Rattle.engine_core.specs.declared.history.History.{History}
 use Rattle.engine_core.specs.declared.simulation.Request.{Request}
+use Rattle.engine_core.specs.Turns.{state_of, StandsAt}
+use Rattle.engine_core.specs.declared.present.Present.{Present}
+use Rattle.engine_core.specs.declared.simulation.Stage.{Stage}
 
 -- the run of what is simulated, which reached a time and ended so
 abbrev pub run_with : Request → History → ℕ → Outcome → Run
@@ -41,3 +44,19 @@ place_at_end model plan bound at = to_end model plan bound at (first_out (passed
 abbrev pub GoesOnFrom : ℕ → Next SimulationState Run → Type 0
 GoesOnFrom time (more later) = time ≤ later.time
 GoesOnFrom time (finished run) = Unit {0}
+
+-- ---- of what is simulated
+
+-- where time passes to the next time of a simulation, to a time, and to the end
+abbrev pub place_of_next : Parts → Request → History → Present → Next SimulationState Run
+place_of_next model request history present = place_moved model request.plan request.bound (state_of history present)
+
+abbrev pub place_then : Parts → Request → History → Present → ℕ → Next SimulationState Run
+place_then model request history present time = place_at_time model request.plan request.bound (state_of history present) time
+
+abbrev pub place_last : Parts → Request → History → Present → Next SimulationState Run
+place_last model request history present = place_at_end model request.plan request.bound (state_of history present)
+
+-- a turn of what is simulated stands there
+abbrev pub IsStageAt : Request → Next SimulationState Run → Stage → Type 0
+IsStageAt request place stage = StandsAt request.plan request.bound place stage

@@ -142,3 +142,11 @@ KeepsWakes before after = (now horizon : ℕ) (cells : List CellState) → AreKe
 abbrev pub KeepsWakesBut : List ℕ → Tracked → Tracked → Type 0
 KeepsWakesBut touched before after =
     (now horizon : ℕ) (cells others : List CellState) → AreKept now horizon cells before → AgreeBut touched cells others → AreKept now horizon others after
+
+-- the kept wake times are right whatever the horizon and the states of so many cells
+abbrev pub AreKeptFor : ℕ → ℕ → Tracked → Type 0
+AreKeptFor now count tracked = (horizon : ℕ) (cells : List CellState) → length cells ≡ count → AreKept now horizon cells tracked
+
+-- by path the tasks are these
+abbrev pub HasTable : Table → Tracked → Type 0
+HasTable table tracked = sorted_tasks tracked.tasks ≡ table

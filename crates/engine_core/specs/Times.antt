@@ -1,5 +1,5 @@
 -- Times by number, of which some may be none, the least of them, and the set by which it is found.
-use Rattle.std.specs.Prelude.{◌≡◌, ℕ, zero, suc, ◌+◌, ◌≤◌, Bool, false, List, [], ◌∷◌, Option, Some, None, nat_eq, slice_get, if◌then◌else◌}
+use Rattle.std.specs.Prelude.{◌≡◌, ℕ, zero, suc, ◌+◌, ◌≤◌, ◌&&◌, ◌||◌, Bool, false, not, List, [], ◌∷◌, Option, Some, None, nat_eq, slice_get, if◌then◌else◌}
 use Rattle.std.specs.Ordering.{nat_cmp, ordering_then}
 use Rattle.std.specs.declared.cmp.Ordering.{Ordering}
 use Rattle.std.specs.BTreeSet as set
@@ -47,3 +47,17 @@ stands_at time (Some other) = is_this_time time other
 pub record AreListed (times : List (Option ℕ)) (listed : BTreeSet (ℕ × ℕ)) : Type 0 where
   pub sorted : set.IsOrdered timed_cmp listed
   pub exact : (time number : ℕ) → has_time listed time number ≡ stands_at time (slice_get times number)
+
+-- the set without the time of a number
+abbrev pub LeavesOut : ℕ → Option ℕ → BTreeSet (ℕ × ℕ) → BTreeSet (ℕ × ℕ) → Type 0
+LeavesOut number time before after =
+    (t n : ℕ) → has_time after t n ≡ (has_time before t n && not (nat_eq number n && is_this_time t time))
+
+-- the set with the time of a number
+abbrev pub ListsToo : ℕ → Option ℕ → BTreeSet (ℕ × ℕ) → BTreeSet (ℕ × ℕ) → Type 0
+ListsToo number time before after =
+    (t n : ℕ) → has_time after t n ≡ (has_time before t n || (nat_eq number n && is_this_time t time))
+
+-- no number has this time
+abbrev pub HasNone : ℕ → List (Option ℕ) → Type 0
+HasNone time times = (number : ℕ) → slice_get times number ≡ Some (Some time) → ⊥

@@ -8,10 +8,10 @@ use Rattle.effect_cells.specs.declared.effects.CellState.{CellState}
 use Rattle.run_data.specs.declared.jobs.Job.{Job}
 use Rattle.run_data.specs.declared.runs.Run.{Run}
 use Rattle.run_data.specs.Fresh.{SimulationState, IsReached}
-use Rattle.run_data.specs.Tasks.{ready_jobs, after_frames}
+use Rattle.run_data.specs.Tasks.{ready_jobs, after_frames, Table}
 use Rattle.run_data.specs.Transitions.{Next, more, finished}
 use Rattle.run_data.specs.laws.NumberedTasks.{sorted_tasks}
-use Rattle.engine_core.specs.Standing.{Standing, turned}
+use Rattle.engine_core.specs.Standing.{Standing, turned, PaysForBatch, LooksForBatch}
 use Rattle.engine_core.specs.TasksByNumber.{AgreeBut, AreKept, MadeIsSmall}
 use Rattle.engine_core.specs.declared.batch_ends.BatchEnd.{BatchEnd}
 use Rattle.engine_core.specs.declared.batch_ends.BatchEnd.TheVariants.{Limit, Failed, Committed}
@@ -19,6 +19,7 @@ use Rattle.engine_core.specs.declared.history.History.{History}
 use Rattle.engine_core.specs.declared.present.Present.{Present}
 use Rattle.engine_core.specs.declared.simulation.Stage.{Stage}
 use Rattle.engine_core.specs.declared.simulation.Stage.TheVariants.{On, Over}
+use Rattle.run_data.specs.declared.frames.Record.{Record}
 
 abbrev pub state_of : History → Present → SimulationState
 state_of history present = record {
@@ -97,3 +98,21 @@ abbrev pub MakesFew : BatchEnd → Present → Type 0
 MakesFew Limit present = Unit {0}
 MakesFew (Failed who fault) present = Unit {0}
 MakesFew (Committed frames touched spent) present = MadeIsSmall (after_frames present.time frames (sorted_tasks present.tasks.tasks))
+
+-- ---- shorter words
+
+-- the tasks by path
+abbrev pub table_in : Present → Table
+table_in present = sorted_tasks present.tasks.tasks
+
+-- the jobs that are ready
+abbrev pub jobs_at : Present → List (ℕ × Job)
+jobs_at present = ready_jobs present.cells (table_in present)
+
+-- where a batch from a stage is committed, a count rose by at most what its frames cost that no record fits
+abbrev pub PaysFrom : Parts → Stage → List Record → ℕ → ℕ → Type 0
+PaysFrom model stage records before after = PaysForBatch (standing_of model stage) records before after
+
+-- and another by at most two for each of its frames
+abbrev pub LooksFrom : Parts → Stage → ℕ → ℕ → Type 0
+LooksFrom model stage before after = LooksForBatch (standing_of model stage) before after

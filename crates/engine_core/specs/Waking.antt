@@ -1,5 +1,5 @@
 -- What the engine asks of waiting tasks.
-use Rattle.std.specs.Prelude.{◌≡◌, ℕ, ◌+◌, ◌≤◌, Bool, false, IsTrue, List, Option, Some, None, slice_get}
+use Rattle.std.specs.Prelude.{◌≡◌, ℕ, ◌+◌, ◌≤◌, ◌||◌, Bool, false, IsTrue, List, Option, Some, None, slice_get}
 use Rattle.aerie_base.specs.declared.conditions.Cond.{Cond}
 use Rattle.aerie_base.specs.declared.operands.CellRead.{CellRead}
 use Rattle.aerie_base.specs.declared.values.Kind.{Kind}
@@ -12,6 +12,7 @@ use Rattle.run_data.specs.laws.NextTimes.{wake_in, least_wake}
 use Rattle.engine_core.specs.Phases.{condition_in}
 use Rattle.engine_core.specs.TasksByNumber.{Tracked, AreKept, AreFound}
 use Rattle.engine_core.specs.Times.{IsUpToTime}
+use Rattle.effect_cells.specs.TouchedCells.{is_cell_among}
 
 -- the wake time of each waiting task can be computed
 abbrev pub AreSolvable : (CellRead → Option Kind) → Table → Type 0
@@ -38,3 +39,16 @@ abbrev pub WakesPass : Type 0
 WakesPass =
     (now dt horizon : ℕ) (cells : List CellState) (tracked : Tracked) → AreFound now horizon cells tracked →
     IsUpToTime (now + dt) (least_wake now horizon cells tracked.tasks) → now + dt ≤ horizon → AreKept (now + dt) horizon (passed cells dt) tracked
+
+-- cells, and with them those that pass a test
+abbrev pub AlsoReads : (ℕ → Bool) → List ℕ → List ℕ → Type 0
+AlsoReads others before after = (cell : ℕ) → is_cell_among cell after ≡ (is_cell_among cell before || others cell)
+
+-- the cells that pass a test
+abbrev pub AreReads : (ℕ → Bool) → List ℕ → Type 0
+AreReads reads cells = (cell : ℕ) → is_cell_among cell cells ≡ reads cell
+
+-- the least time at which a waiting task wakes, where the wake times are found
+abbrev pub IsLeastWake : Tracked → Option ℕ → Type 0
+IsLeastWake tracked wake =
+    (now horizon : ℕ) (cells : List CellState) → AreFound now horizon cells tracked → wake ≡ least_wake now horizon cells tracked.tasks

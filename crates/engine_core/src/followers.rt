@@ -2,6 +2,7 @@ ghost use Rattle.std.specs.Prelude.{◌≡◌, ◌≤◌, ℕ, [], None, Some, l
 ghost use Rattle.aerie_base.specs.declared.plans.Edge.TheVariants as edge_;
 ghost use Rattle.engine_core.specs.Phases.{id_of_anchor};
 ghost use Rattle.engine_core.specs.Times.{put_at};
+ghost use Rattle.engine_core.specs.Indexes.{id_at_start, id_at_end};
 
 use crate::times::Times;
 use aerie_base::{Anchor, Edge, OutOfMemory};
@@ -43,8 +44,8 @@ impl Followers {
     pub(crate) fn put(self, number: usize, anchor: Option<Anchor>) -> Result<Followers, OutOfMemory>
         requires starts { number ≤ length self.starts }
         requires ends { number ≤ length self.ends }
-        ensures starts { IfOk result (λ done. done.starts ≡ put_at self.starts number (id_of_anchor edge_.Start anchor)) }
-        ensures ends { IfOk result (λ done. done.ends ≡ put_at self.ends number (id_of_anchor edge_.End anchor)) }
+        ensures starts { IfOk result (λ done. done.starts ≡ put_at self.starts number (id_at_start anchor)) }
+        ensures ends { IfOk result (λ done. done.ends ≡ put_at self.ends number (id_at_end anchor)) }
     {
         let Followers { starts, ends } = self;
         let starts = starts.put(number, id_of(Edge::Start, anchor))?;

@@ -7,9 +7,9 @@ ghost use Rattle.run_data.specs.Tasks.{Task, task_at, after_frames};
 ghost use Rattle.run_data.specs.laws.EndedTasks.{is_open_status};
 ghost use Rattle.run_data.specs.laws.GoingOn.{AllQuiet};
 ghost use Rattle.run_data.specs.laws.NumberedTasks.{sorted_tasks};
-ghost use Rattle.engine_core.specs.TasksByNumber.{MadeIsSmall, KeepsWakes, KeepsWakesBut};
+ghost use Rattle.engine_core.specs.TasksByNumber.{MadeIsSmall, KeepsWakes, KeepsWakesBut, HasTable};
 ghost use Rattle.engine_core.specs.Phases.{anchor_in, callee_in};
-ghost use Rattle.engine_core.specs.GoingOn.{GoesOnAs, GoOnOf, IsAbove, IsAnchoredTo, IsAt, IsBegunBy, IsOverBy, MayGoOnAfter, returning, falling_due};
+ghost use Rattle.engine_core.specs.GoingOn.{GoesOnAs, GoOnOf, IsAbove, IsAnchoredTo, IsAt, IsBegunBy, IsOverBy, MayGoOnAfter, returning, falling_due, GoesOnIn, IsFallingDue, IsReturning};
 
 use crate::phases::TrackedTask;
 use crate::tasks::{Changed, IndexedTasks};
@@ -102,7 +102,7 @@ impl IndexedTasks {
         child: u32,
     ) -> Result<Option<Changed>, OutOfMemory>
         requires { is_some (callee_in task.now.phase) ≡ true }
-        ensures { IfOk result (λ changed. changed ≡ returning (sorted_tasks self.now.tasks) path.now task.now (child_path path.now child)) }
+        ensures { IfOk result (IsReturning self.now.tasks path.now task.now child) }
     {
         match path.child(alloc, child)? {
             Some(callee) => self.returned(alloc, path, task, &callee),
@@ -119,7 +119,7 @@ impl IndexedTasks {
     ) -> Result<Option<Changed>, OutOfMemory>
         requires calls { is_some (callee_in task.now.phase) ≡ true }
         requires full { may_have_children path.now ≡ false }
-        ensures { IfOk result (λ changed. (child : ℕ) → changed ≡ returning (sorted_tasks self.now.tasks) path.now task.now (child_path path.now child)) }
+        ensures { IfOk result (λ changed. (child : ℕ) → IsReturning self.now.tasks path.now task.now child changed) }
     {
         endings_go_by_open_bodies();
         self.note_distinct();
@@ -140,7 +140,7 @@ impl IndexedTasks {
         anchor: Anchor,
     ) -> Result<Option<Changed>, OutOfMemory>
         requires { is_some (anchor_in task.now.phase) ≡ true }
-        ensures { IfOk result (λ changed. changed ≡ falling_due (sorted_tasks self.now.tasks) now path.now task.now anchor.to anchor.edge) }
+        ensures { IfOk result (IsFallingDue self.now.tasks now path.now task.now anchor) }
     {
         if !self.has_come(alloc, anchor.to, anchor.edge)? {
             return Ok(None);
@@ -159,7 +159,7 @@ impl IndexedTasks {
         path: &Path,
         task: &TrackedTask,
     ) -> Result<Option<Changed>, OutOfMemory>
-        ensures { IfOk result (λ changed. GoesOnAs (gone_on (sorted_tasks self.now.tasks) now) (Some (path.now, task.now)) changed) }
+        ensures { IfOk result (GoesOnIn self.now.tasks now (Some (path.now, task.now))) }
     {
         match task.callee() {
             Some(child) => self.caller_gone_on(alloc, path, task, child),
@@ -177,7 +177,7 @@ impl IndexedTasks {
         now: Time,
         number: usize,
     ) -> Result<Option<Changed>, OutOfMemory>
-        ensures { IfOk result (λ changed. GoesOnAs (gone_on (sorted_tasks self.now.tasks) now) (slice_get self.now.tasks number) changed) }
+        ensures { IfOk result (GoesOnIn self.now.tasks now (slice_get self.now.tasks number)) }
     {
         match self.entry(number) {
             Some((path, task)) => self.task_gone_on(alloc, now, path, task),
@@ -354,7 +354,7 @@ impl IndexedTasks {
     ) -> Result<IndexedTasks, OutOfMemory>
         requires made { MadeIsSmall (after_frames now frames.now (sorted_tasks self.tasks)) }
         requires quiet { AllQuiet (sorted_tasks self.tasks) (sorted_tasks self.tasks) }
-        ensures table { IfOk result (λ all. sorted_tasks all.tasks ≡ after_batch now frames.now (sorted_tasks self.tasks)) }
+        ensures table { IfOk result (HasTable (after_batch now frames.now (sorted_tasks self.tasks))) }
         ensures kept { IfOk result (KeepsWakesBut touched.now self) }
     {
         tasks_go_on_in_turn();

@@ -3,7 +3,7 @@
 ghost use Rattle.std.specs.Prelude.{◌≡◌, ◌≤◌, ◌<◌, ◌++◌, ◌∷◌, [], true, false, length, replicate, slice_get, slice_set, Some, IfOk, OnOk};
 ghost use Rattle.effect_cells.specs.declared.effects.CellState.{CellState as State};
 ghost use Rattle.run_data.specs.Fresh.{states_from};
-ghost use Rattle.engine_core.specs.Flags.{flagged_by_numbers, flagged_state, flagged_states};
+ghost use Rattle.engine_core.specs.Flags.{flagged_by_numbers, flagged_state, flagged_states, KeepsState};
 
 use aerie_base::{List, OutOfMemory, Time};
 use effect_cells::{CellState, Cells};
@@ -64,7 +64,7 @@ fn keep_state(
     flag: bool,
 ) -> Result<(), OutOfMemory>
     requires { number < length cells.now }
-    ensures { OnOk result ((state : State) → slice_get cells.now number ≡ Some state → states.new ≡ states.old ++ flagged_state flag number state) }
+    ensures { OnOk result (KeepsState flag number cells.now states.old states.new) }
 {
     if flag {
         states.push((number, cells.state(number)))?;

@@ -10,6 +10,7 @@ ghost use Rattle.run_data.specs.laws.ReadyTasks.{is_ready_phase, number_of_path}
 ghost use Rattle.engine_core.specs.Phases.{anchor_in, id_of_anchor};
 ghost use Rattle.engine_core.specs.TasksByNumber.{has_path};
 ghost use Rattle.engine_core.specs.Times.{put_at};
+ghost use Rattle.engine_core.specs.Indexes.{id_at_start, id_at_end, standing_in, MarksPath, NumbersPath};
 
 use crate::followers::Followers;
 use crate::phases::TrackedTask;
@@ -43,7 +44,7 @@ fn marked(
     path: &Path,
     stands: bool,
 ) -> Result<BTreeSet<Path>, OutOfMemory>
-    ensures changed { IfOk result (λ s. (p : List ℕ) → has_path s p ≡ cond (is_at (path_cmp path.now) p) stands (has_path paths p)) }
+    ensures changed { IfOk result (MarksPath path.now stands paths) }
     ensures sorted { IfOk result (λ s. set.IsOrdered path_cmp s) }
 {
     if stands {
@@ -63,7 +64,7 @@ fn marked_anew(
     stands: bool,
 ) -> Result<BTreeSet<Path>, OutOfMemory>
     requires { has_path paths path.now ≡ stood }
-    ensures changed { IfOk result (λ s. (p : List ℕ) → has_path s p ≡ cond (is_at (path_cmp path.now) p) stands (has_path paths p)) }
+    ensures changed { IfOk result (MarksPath path.now stands paths) }
     ensures sorted { IfOk result (λ s. set.IsOrdered path_cmp s) }
 {
     let _length = paths.len();
@@ -80,7 +81,7 @@ fn numbered(
     number: usize,
     stands: bool,
 ) -> Result<BTreeMap<Path, usize>, OutOfMemory>
-    ensures changed { IfOk result (λ m. (p : List ℕ) → number_of_path m p ≡ cond (is_at (path_cmp path) p) (if stands then Some number else None) (number_of_path numbers p)) }
+    ensures changed { IfOk result (NumbersPath path (if stands then Some number else None) numbers) }
     ensures sorted { IfOk result (λ m. map_.IsOrdered path_cmp m) }
 {
     if stands {
@@ -94,7 +95,7 @@ fn numbered(
 impl Standing {
     /// What they say of this one.
     pub(crate) fn of(task: &TrackedTask) -> Standing
-        ensures { result ≡ record { delay = delay_in task.now.phase; is_open = is_open task.now.phase; is_ready = is_ready_phase task.now.phase; anchor = anchor_in task.now.phase } }
+        ensures { result ≡ standing_in task.now.phase }
     {
         Standing {
             delay: task.delay(),
@@ -137,12 +138,12 @@ impl Indexes {
         requires stood { has_path self.opens path ≡ stood }
         requires starts { number ≤ length self.followers.starts }
         requires ends { number ≤ length self.followers.ends }
-        ensures starts { IfOk result (λ done. done.followers.starts ≡ put_at self.followers.starts number (id_of_anchor edge_.Start standing.anchor)) }
-        ensures ends { IfOk result (λ done. done.followers.ends ≡ put_at self.followers.ends number (id_of_anchor edge_.End standing.anchor)) }
+        ensures starts { IfOk result (λ done. done.followers.starts ≡ put_at self.followers.starts number (id_at_start standing.anchor)) }
+        ensures ends { IfOk result (λ done. done.followers.ends ≡ put_at self.followers.ends number (id_at_end standing.anchor)) }
         ensures delays { IfOk result (λ done. done.delays ≡ put_at self.delays number standing.delay) }
-        ensures opens { IfOk result (λ done. (p : List ℕ) → has_path done.opens p ≡ cond (is_at (path_cmp path) p) standing.is_open (has_path self.opens p)) }
+        ensures opens { IfOk result (λ done. MarksPath path standing.is_open self.opens done.opens) }
         ensures opens_sorted { IfOk result (λ done. set.IsOrdered path_cmp done.opens) }
-        ensures readies { IfOk result (λ done. (p : List ℕ) → number_of_path done.readies p ≡ cond (is_at (path_cmp path) p) (if standing.is_ready then Some number else None) (number_of_path self.readies p)) }
+        ensures readies { IfOk result (λ done. NumbersPath path (if standing.is_ready then Some number else None) self.readies done.readies) }
         ensures readies_sorted { IfOk result (λ done. map_.IsOrdered path_cmp done.readies) }
     {
         let Indexes {

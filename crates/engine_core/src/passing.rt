@@ -5,7 +5,7 @@ ghost use Rattle.aerie_base.specs.declared.faults.Fault.TheVariants as fault;
 ghost use Rattle.effect_cells.specs.Cells.{AreInRange};
 ghost use Rattle.run_data.specs.declared.runs.Outcome.TheVariants as outcome;
 ghost use Rattle.run_data.specs.declared.runs.Who.TheVariants as who;
-ghost use Rattle.engine_core.specs.Passing.{run_with, next_due, place_moved, place_at_time, place_at_end, GoesOnFrom};
+ghost use Rattle.engine_core.specs.Passing.{run_with, next_due, place_moved, place_at_time, place_at_end, GoesOnFrom, place_of_next, place_then, place_last, IsStageAt};
 ghost use Rattle.engine_core.specs.TasksByNumber.{AreFound};
 ghost use Rattle.engine_core.specs.Turns.{state_of, StandsAt};
 ghost use Rattle.engine_core.specs.declared.simulation.Stage.TheVariants as turn_;
@@ -64,8 +64,8 @@ fn moved_to(
     requires range { AreInRange present.cells }
     requires found { AreFound present.time request.plan.duration present.cells present.tasks }
     requires next { Some time ≡ next_due request.plan (state_of history present) }
-    requires onward { GoesOnFrom present.time (place_at_time model.now request.plan request.bound (state_of history present) time) }
-    ensures { IfOk result (StandsAt request.plan request.bound (place_at_time model.now request.plan request.bound (state_of history present) time)) }
+    requires onward { GoesOnFrom present.time (place_then model.now request history present time) }
+    ensures { IfOk result (IsStageAt request (place_then model.now request history present time)) }
 {
     due_splits();
     tasks_stand_by_number();
@@ -98,7 +98,7 @@ fn ended(
 ) -> Result<Stage, OutOfMemory>
     requires count { length model.now.cells ≡ length present.cells }
     requires range { AreInRange present.cells }
-    ensures { IfOk result (StandsAt request.plan request.bound (place_at_end model.now request.plan request.bound (state_of history present))) }
+    ensures { IfOk result (IsStageAt request (place_last model.now request history present)) }
 {
     let count = model.cells().len();
     let history = history.settled(alloc, present.time, &present.cells, count)?;
@@ -122,8 +122,8 @@ pub(crate) fn moved(
     requires count { length model.now.cells ≡ length present.cells }
     requires range { AreInRange present.cells }
     requires found { AreFound present.time request.plan.duration present.cells present.tasks }
-    requires onward { GoesOnFrom present.time (place_moved model.now request.plan request.bound (state_of history present)) }
-    ensures { IfOk result (StandsAt request.plan request.bound (place_moved model.now request.plan request.bound (state_of history present))) }
+    requires onward { GoesOnFrom present.time (place_of_next model.now request history present) }
+    ensures { IfOk result (IsStageAt request (place_of_next model.now request history present)) }
 {
     let end = request.end();
     match present.next_time(end) {

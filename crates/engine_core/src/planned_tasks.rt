@@ -5,8 +5,8 @@ ghost use Rattle.aerie_base.specs.Paths.{root, daemon_root};
 ghost use Rattle.effect_cells.specs.declared.effects.CellState.{CellState};
 ghost use Rattle.run_data.specs.Tasks.{planned, with_task, on_each, rested, with_directives, with_daemons};
 ghost use Rattle.run_data.specs.laws.NumberedTasks.{sorted_tasks};
-ghost use Rattle.engine_core.specs.PlannedTasks.{directive_task, daemon_task};
-ghost use Rattle.engine_core.specs.TasksByNumber.{AreKept, KeepsWakes};
+ghost use Rattle.engine_core.specs.PlannedTasks.{directive_task, daemon_task, daemon_put, directive_put, planned_table};
+ghost use Rattle.engine_core.specs.TasksByNumber.{AreKept, KeepsWakes, AreKeptFor, HasTable};
 
 use crate::beginnings::{activity_state, daemon_state};
 use crate::phases::{Phase, TrackedTask, micros};
@@ -42,7 +42,7 @@ fn with_directive(
     model: &Model,
     directive: &Directive,
 ) -> Result<IndexedTasks, OutOfMemory>
-    ensures table { IfOk result (λ all. sorted_tasks all.tasks ≡ with_task (sorted_tasks tasks.tasks) (root directive.now.id) (directive_task model.now directive.now)) }
+    ensures table { IfOk result (HasTable (directive_put model.now directive.now (sorted_tasks tasks.tasks))) }
     ensures kept { IfOk result (KeepsWakes tasks) }
 {
     let state = activity_state(alloc, model, directive.kind, directive.arguments.as_slice())?;
@@ -58,7 +58,7 @@ fn with_directives(
     model: &Model,
     directives: &[Directive],
 ) -> Result<IndexedTasks, OutOfMemory>
-    ensures table { IfOk result (λ all. sorted_tasks all.tasks ≡ with_directives model.now directives.now (sorted_tasks tasks.tasks)) }
+    ensures table { IfOk result (HasTable (with_directives model.now directives.now (sorted_tasks tasks.tasks))) }
     ensures kept { IfOk result (KeepsWakes tasks) }
 {
     let mut all = tasks;
@@ -75,7 +75,7 @@ fn with_daemon(
     number: u16,
     daemon: &Daemon,
 ) -> Result<IndexedTasks, OutOfMemory>
-    ensures table { IfOk result (λ all. sorted_tasks all.tasks ≡ with_task (sorted_tasks tasks.tasks) (daemon_root number) (daemon_task number daemon.now)) }
+    ensures table { IfOk result (HasTable (daemon_put number daemon.now (sorted_tasks tasks.tasks))) }
     ensures kept { IfOk result (KeepsWakes tasks) }
 {
     let state = daemon_state(alloc, number, daemon)?;
@@ -92,7 +92,7 @@ fn with_daemons(
     daemons: &[Daemon],
 ) -> Result<IndexedTasks, OutOfMemory>
     requires { length daemons.now < 65536 }
-    ensures table { IfOk result (λ all. sorted_tasks all.tasks ≡ with_daemons 0 daemons.now (sorted_tasks tasks.tasks)) }
+    ensures table { IfOk result (HasTable (with_daemons 0 daemons.now (sorted_tasks tasks.tasks))) }
     ensures kept { IfOk result (KeepsWakes tasks) }
 {
     let mut all = tasks;
@@ -112,8 +112,8 @@ pub(crate) fn planned_tasks(
     start: Time,
 ) -> Result<IndexedTasks, OutOfMemory>
     requires { start ≡ 0 }
-    ensures table { IfOk result (λ all. sorted_tasks all.tasks ≡ on_each (rested 0) (with_directives model.now plan.now.directives (with_daemons 0 model.now.daemons []))) }
-    ensures kept { IfOk result (λ all. (horizon : ℕ) (cells : List CellState) → length cells ≡ length model.now.cells → AreKept 0 horizon cells all) }
+    ensures table { IfOk result (HasTable (planned_table model.now plan.now.directives)) }
+    ensures kept { IfOk result (AreKeptFor 0 (length model.now.cells)) }
 {
     tasks_stand_by_number();
     let none = IndexedTasks::new(alloc, model.cells().len())?;

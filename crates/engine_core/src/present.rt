@@ -14,6 +14,7 @@ ghost use Rattle.run_data.specs.laws.NumberedTasks.{sorted_tasks};
 ghost use Rattle.engine_core.specs.TasksByNumber.{AgreeBut, AreKept, AreFound, MadeIsSmall, KeepsWakes};
 ghost use Rattle.engine_core.specs.Times.{IsUpToTime};
 ghost use Rattle.engine_core.specs.Waking.{AreSolvable};
+ghost use Rattle.engine_core.specs.Turns.{table_in};
 
 use crate::phases::micros;
 use crate::tasks::IndexedTasks;
@@ -65,12 +66,12 @@ impl Present {
         touched: &[u16],
         spent: u64,
     ) -> Result<Present, OutOfMemory>
-        requires made { MadeIsSmall (after_frames self.time frames.now (sorted_tasks self.tasks.tasks)) }
-        requires quiet { AllQuiet (sorted_tasks self.tasks.tasks) (sorted_tasks self.tasks.tasks) }
+        requires made { MadeIsSmall (after_frames self.time frames.now (table_in self)) }
+        requires quiet { AllQuiet (table_in self) (table_in self) }
         ensures time { IfOk result (λ present. present.time ≡ self.time) }
         ensures spent { IfOk result (λ present. present.spent ≡ spent) }
         ensures cells { IfOk result (λ present. present.cells ≡ self.cells) }
-        ensures table { IfOk result (λ present. sorted_tasks present.tasks.tasks ≡ after_batch self.time frames.now (sorted_tasks self.tasks.tasks)) }
+        ensures table { IfOk result (λ present. table_in present ≡ after_batch self.time frames.now (table_in self)) }
         ensures kept { IfOk result (λ present. (end : ℕ) (before : List CellState) →
             AreKept self.time end before self.tasks → AgreeBut touched.now before self.cells → AreKept self.time end self.cells present.tasks) }
     {
@@ -119,7 +120,7 @@ impl Present {
     /// The next time at which a task goes on by itself, if it is before the end.
     pub(crate) fn next_time(&self, end: Time) -> Option<Time>
         requires { AreFound self.now.time end self.now.cells self.now.tasks }
-        ensures { result ≡ below end (least_due self.now.time end self.now.cells (sorted_tasks self.now.tasks.tasks)) }
+        ensures { result ≡ below end (least_due self.now.time end self.now.cells (table_in self.now)) }
     {
         due_splits();
         self.tasks.note_distinct();

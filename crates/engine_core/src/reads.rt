@@ -3,12 +3,13 @@
 ghost use Rattle.std.specs.Prelude.{◌≡◌, ◌||◌, ◌++◌, [], ◌∷◌, ℕ, IfOk};
 ghost use Rattle.effect_cells.specs.ReadCells.{reads_operand, reads_side, reads_terms, reads_cell};
 ghost use Rattle.effect_cells.specs.TouchedCells.{is_cell_among};
+ghost use Rattle.engine_core.specs.Waking.{AlsoReads};
 
 use aerie_base::{Cond, Linear, Operand, OutOfMemory, Simple};
 
 /// Some cells, and behind them that of a read.
 fn with_operand(operand: Operand, cells: Vec<u16>) -> Result<Vec<u16>, OutOfMemory>
-    ensures { IfOk result (λ all. (cell : ℕ) → is_cell_among cell all.items ≡ (is_cell_among cell cells.items || reads_operand operand cell)) }
+    ensures { IfOk result (λ all. AlsoReads (reads_operand operand) cells.items all.items) }
 {
     match operand {
         Operand::Read(read) => {
@@ -22,7 +23,7 @@ fn with_operand(operand: Operand, cells: Vec<u16>) -> Result<Vec<u16>, OutOfMemo
 
 /// Some cells, and behind them that of a side of an equality.
 fn with_side(side: &Simple, cells: Vec<u16>) -> Result<Vec<u16>, OutOfMemory>
-    ensures { IfOk result (λ all. (cell : ℕ) → is_cell_among cell all.items ≡ (is_cell_among cell cells.items || reads_side side.now cell)) }
+    ensures { IfOk result (λ all. AlsoReads (reads_side side.now) cells.items all.items) }
 {
     match side {
         Simple::Literal(_) => Ok(cells),
@@ -32,7 +33,7 @@ fn with_side(side: &Simple, cells: Vec<u16>) -> Result<Vec<u16>, OutOfMemory>
 
 /// Some cells, and behind them those of a linear form.
 fn with_terms(form: &Linear, cells: Vec<u16>) -> Result<Vec<u16>, OutOfMemory>
-    ensures { IfOk result (λ all. (cell : ℕ) → is_cell_among cell all.items ≡ (is_cell_among cell cells.items || reads_terms form.now.terms cell)) }
+    ensures { IfOk result (λ all. AlsoReads (reads_terms form.now.terms) cells.items all.items) }
 {
     let mut all = cells;
     for term in form.terms.as_slice() {
@@ -43,7 +44,7 @@ fn with_terms(form: &Linear, cells: Vec<u16>) -> Result<Vec<u16>, OutOfMemory>
 
 /// Some cells, and behind them those that a condition reads. It takes a time in the order of the condition's size.
 pub(crate) fn with_reads(condition: &Cond, cells: Vec<u16>) -> Result<Vec<u16>, OutOfMemory>
-    ensures { IfOk result (λ all. (cell : ℕ) → is_cell_among cell all.items ≡ (is_cell_among cell cells.items || reads_cell condition.now cell)) }
+    ensures { IfOk result (λ all. AlsoReads (reads_cell condition.now) cells.items all.items) }
 {
     match condition {
         Cond::Literal(_) => Ok(cells),

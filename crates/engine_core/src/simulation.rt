@@ -11,7 +11,7 @@ ghost use Rattle.run_data.specs.laws.NumberedTasks.{sorted_tasks};
 ghost use Rattle.engine_core.specs.BatchEnds.{batch_as, batch_frames, SpendsWith};
 ghost use Rattle.engine_core.specs.Standing.{PaysForBatch, LooksForBatch, OfSameModels};
 ghost use Rattle.engine_core.specs.TasksByNumber.{AreKept};
-ghost use Rattle.engine_core.specs.Turns.{state_of, place_in, plan_in, bound_in, are_none, standing_of, AreKeptBefore, AreKeptIn, IsOnCourse, IsTurnFrom, TouchesAll, MakesFew};
+ghost use Rattle.engine_core.specs.Turns.{state_of, place_in, plan_in, bound_in, are_none, standing_of, AreKeptBefore, AreKeptIn, IsOnCourse, IsTurnFrom, TouchesAll, MakesFew, jobs_at, PaysFrom, LooksFrom};
 ghost use Rattle.engine_core.specs.declared.simulation.Stage.TheVariants as turn_;
 
 use crate::batch_ends::BatchEnd;
@@ -146,14 +146,14 @@ impl Simulation {
 
     /// Whether no task is ready.
     pub(crate) fn is_idle(&self) -> bool
-        ensures { result ≡ are_none (ready_jobs self.now.present.cells (sorted_tasks self.now.present.tasks.tasks)) }
+        ensures { result ≡ are_none (jobs_at self.now.present) }
     {
         !self.present.tasks.is_ready()
     }
 
     /// The jobs of the ready tasks, all with one view of the cells.
     pub(crate) fn ready(&self, alloc: Global) -> Result<ReadyJobs, OutOfMemory>
-        ensures { IfOk result (λ jobs. jobs ≡ ready_jobs self.now.present.cells (sorted_tasks self.now.present.tasks.tasks)) }
+        ensures { IfOk result (λ jobs. jobs ≡ jobs_at self.now.present) }
     {
         let view = Shared::new(alloc, self.present.cells.copy(alloc)?)?;
         self.present.tasks.ready(alloc, &view)
@@ -170,14 +170,14 @@ impl Simulation {
         looks: &mut Steps<K>,
     ) -> Result<Stage, OutOfMemory>
         requires course { IsOnCourse model.now (turn_.On self) }
-        requires ready { ready.now ≡ ready_jobs self.present.cells (sorted_tasks self.present.tasks.tasks) }
+        requires ready { ready.now ≡ jobs_at self.present }
         requires job { ready.now ≡ [] → ⊥ }
         requires shares { S.shares }
         requires stepper { S.is_of stepper.old model.now }
         ensures turn { IfOk result (IsTurnFrom model.now (turn_.On self)) }
-        ensures frugal { IfOk result (λ turn. PaysForBatch (standing_of model.now (turn_.On self)) (S.records stepper.old) steps.old steps.new) }
+        ensures frugal { IfOk result (λ turn. PaysFrom model.now (turn_.On self) (S.records stepper.old) steps.old steps.new) }
         ensures looks { looks.old ≤ looks.new }
-        ensures few_looks { IfOk result (λ turn. LooksForBatch (standing_of model.now (turn_.On self)) looks.old looks.new) }
+        ensures few_looks { IfOk result (λ turn. LooksFrom model.now (turn_.On self) looks.old looks.new) }
         ensures opened { RoseAlike (S.opened stepper.old) steps.old (S.opened stepper.new) steps.new }
         ensures same_models { OfSameModels (S.is_of stepper.old) (S.is_of stepper.new) }
         ensures same_records { S.records stepper.new ≡ S.records stepper.old }
@@ -216,7 +216,7 @@ impl Simulation {
         frames: &[Frame],
     ) -> Result<Stage, OutOfMemory>
         requires course { IsOnCourse model.now (turn_.On self) }
-        requires ready { ready.now ≡ ready_jobs self.present.cells (sorted_tasks self.present.tasks.tasks) }
+        requires ready { ready.now ≡ jobs_at self.present }
         requires job { ready.now ≡ [] → ⊥ }
         requires frames { batch_frames model.now self.request.bound ready.now ≡ Some frames.now }
         ensures { IfOk result (IsTurnFrom model.now (turn_.On self)) }
@@ -246,7 +246,7 @@ impl Simulation {
     /// Where no task is ready: the waiting ones are judged, and where none goes on the instant is settled and time passes.
     pub(crate) fn on(self, alloc: Global, model: &Model) -> Result<Stage, OutOfMemory>
         requires course { IsOnCourse model.now (turn_.On self) }
-        requires idle { ready_jobs self.present.cells (sorted_tasks self.present.tasks.tasks) ≡ [] }
+        requires idle { jobs_at self.present ≡ [] }
         ensures { IfOk result (IsTurnFrom model.now (turn_.On self)) }
     {
         reached_states_are_of_the_model();

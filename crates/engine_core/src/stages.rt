@@ -5,7 +5,7 @@ ghost use Rattle.run_data.specs.Transitions.{finished};
 ghost use Rattle.run_data.specs.Waves.{RoseAlike};
 ghost use Rattle.engine_core.specs.BatchEnds.{batch_frames};
 ghost use Rattle.engine_core.specs.Standing.{jobs_in, time_in, batches_in, HasJob, PaysForBatch, LooksForBatch, OfSameModels};
-ghost use Rattle.engine_core.specs.Turns.{place_in, bound_in, is_idle_at, standing_of, IsOnCourse, IsTurnFrom};
+ghost use Rattle.engine_core.specs.Turns.{place_in, bound_in, is_idle_at, standing_of, IsOnCourse, IsTurnFrom, PaysFrom, LooksFrom};
 
 use crate::ready_jobs::ReadyJobs;
 use crate::simulation::{Simulation, Stage};
@@ -83,9 +83,9 @@ impl Stage {
         requires shares { S.shares }
         requires stepper { S.is_of stepper.old model.now }
         ensures turn { IfOk result (IsTurnFrom model.now self) }
-        ensures frugal { IfOk result (λ turn. PaysForBatch (standing_of model.now self) (S.records stepper.old) steps.old steps.new) }
+        ensures frugal { IfOk result (λ turn. PaysFrom model.now self (S.records stepper.old) steps.old steps.new) }
         ensures looks { looks.old ≤ looks.new }
-        ensures few_looks { IfOk result (λ turn. LooksForBatch (standing_of model.now self) looks.old looks.new) }
+        ensures few_looks { IfOk result (λ turn. LooksFrom model.now self looks.old looks.new) }
         ensures opened { RoseAlike (S.opened stepper.old) steps.old (S.opened stepper.new) steps.new }
         ensures same_models { OfSameModels (S.is_of stepper.old) (S.is_of stepper.new) }
         ensures same_records { S.records stepper.new ≡ S.records stepper.old }

@@ -7,11 +7,11 @@ ghost use Rattle.run_data.specs.Tasks.{Task, task_at, ready_jobs, children_made,
 ghost use Rattle.run_data.specs.laws.NextTimes.{least_delay};
 ghost use Rattle.run_data.specs.laws.ReadyTasks.{job_of};
 ghost use Rattle.engine_core.specs.Phases.{may_resume, is_waiting};
-ghost use Rattle.engine_core.specs.Times.{IsUpToTime, least_time, put_at};
+ghost use Rattle.engine_core.specs.Times.{IsUpToTime, least_time, put_at, HasNone};
 ghost use Rattle.run_data.specs.laws.EndedTasks.{open_is};
 ghost use Rattle.run_data.specs.laws.NumberedTasks.{sorted_tasks, Distinct};
-ghost use Rattle.engine_core.specs.TasksByNumber.{put_task, number_for, delays_of, MadeIsSmall, IsChange, resumed_task, AreKept, has_number, anchors_of, HavePaths, KeepsWakes};
-ghost use Rattle.engine_core.specs.Watching.{Drains, Watches};
+ghost use Rattle.engine_core.specs.TasksByNumber.{put_task, number_for, delays_of, MadeIsSmall, IsChange, resumed_task, AreKept, has_number, anchors_of, HavePaths, KeepsWakes, AreKeptFor, HasTable};
+ghost use Rattle.engine_core.specs.Watching.{Drains, Watches, HasOthers, LosesOne};
 
 use crate::indexes::{Indexes, Standing};
 use crate::phases::{TrackedTask, count_children, micros};
@@ -102,7 +102,7 @@ impl IndexedTasks {
     /// No task; so many cells may be waited for.
     pub(crate) fn new(alloc: Global, cells: usize) -> Result<IndexedTasks, OutOfMemory>
         ensures tasks { IfOk result (λ all. all.tasks ≡ []) }
-        ensures kept { IfOk result (λ all. (now horizon : ℕ) (states : List CellState) → length states ≡ cells → AreKept now horizon states all) }
+        ensures kept { IfOk result (λ all. (now : ℕ) → AreKeptFor now cells all) }
     {
         Ok(IndexedTasks {
             tasks: IndexMap::new(alloc),
@@ -194,7 +194,7 @@ impl IndexedTasks {
     /// A task that is anchored to that edge of the directive with an id.
     pub(crate) fn follower(&self, to: u32, edge: Edge) -> Option<usize>
         ensures found { IfSome result (λ number. slice_get (anchors_of edge self.now.tasks) number ≡ Some (Some to)) }
-        ensures none { result ≡ None → (number : ℕ) → slice_get (anchors_of edge self.now.tasks) number ≡ Some (Some to) → ⊥ }
+        ensures none { result ≡ None → HasNone to (anchors_of edge self.now.tasks) }
     {
         let id = u64::from(to);
         match edge {
@@ -234,8 +234,8 @@ impl IndexedTasks {
         ensures tasks { IfOk result (λ all. all.tasks ≡ self.tasks) }
         ensures wakes { IfOk result (λ all. all.wakes ≡ slice_set self.wakes number wake) }
         ensures long { length self.wakes ≡ length self.tasks }
-        ensures stale { IfOk result (λ all. (n : ℕ) → nat_eq number n ≡ false → has_number all.stale n ≡ has_number self.stale n) }
-        ensures fewer { IfOk result (λ all. has_number self.stale number ≡ true → length all.stale < length self.stale) }
+        ensures stale { IfOk result (λ all. HasOthers number self.stale all.stale) }
+        ensures fewer { IfOk result (λ all. LosesOne number self.stale all.stale) }
         ensures watches { IfOk result (λ all. Watches number reads.now self.watchers all.watchers) }
     {
         let IndexedTasks {
@@ -332,7 +332,7 @@ impl IndexedTasks {
         frame: &Frame,
     ) -> Result<IndexedTasks, OutOfMemory>
         requires { children_made (task_at (sorted_tasks self.tasks) frame.now.path) + children_in frame.now.items < 2 ^ 32 }
-        ensures table { IfOk result (λ all. sorted_tasks all.tasks ≡ after_frame now frame.now (sorted_tasks self.tasks)) }
+        ensures table { IfOk result (HasTable (after_frame now frame.now (sorted_tasks self.tasks))) }
         ensures kept { IfOk result (KeepsWakes self) }
     {
         let made = self.made(&frame.path) + count_children(&frame.items);
@@ -348,7 +348,7 @@ impl IndexedTasks {
         frames: &[Frame],
     ) -> Result<IndexedTasks, OutOfMemory>
         requires { MadeIsSmall (after_frames now frames.now (sorted_tasks self.tasks)) }
-        ensures table { IfOk result (λ all. sorted_tasks all.tasks ≡ after_frames now frames.now (sorted_tasks self.tasks)) }
+        ensures table { IfOk result (HasTable (after_frames now frames.now (sorted_tasks self.tasks))) }
         ensures kept { IfOk result (KeepsWakes self) }
     {
         let mut all = self;

@@ -1,6 +1,6 @@
 ghost use Rattle.std.specs.Prelude.{◌≡◌, ◌<◌, ◌≤◌, ◌++◌, ◌&&◌, ◌||◌, [], ◌∷◌, ℕ, Some, None, not, length, nat_eq, option_map, slice_get, slice_set, IfOk, IfSome};
 ghost use Rattle.std.specs.BTreeSet as set;
-ghost use Rattle.engine_core.specs.Times.{least_time, is_this_time, put_at, timed_cmp, has_time};
+ghost use Rattle.engine_core.specs.Times.{least_time, is_this_time, put_at, timed_cmp, has_time, HasNone, LeavesOut, ListsToo};
 
 use aerie_base::OutOfMemory;
 use std::alloc::Global;
@@ -32,7 +32,7 @@ fn without_time(
     number: usize,
     time: Option<u64>,
 ) -> BTreeSet<(u64, usize)>
-    ensures changed { (t n : ℕ) → has_time result t n ≡ (has_time listed t n && not (nat_eq number n && is_this_time t time)) }
+    ensures changed { LeavesOut number time listed result }
 {
     let Some(time) = time else {
         return listed;
@@ -47,7 +47,7 @@ fn with_time(
     number: usize,
     time: Option<u64>,
 ) -> Result<BTreeSet<(u64, usize)>, OutOfMemory>
-    ensures changed { IfOk result (λ s. (t n : ℕ) → has_time s t n ≡ (has_time listed t n || (nat_eq number n && is_this_time t time))) }
+    ensures changed { IfOk result (ListsToo number time listed) }
     ensures sorted { IfOk result (λ s. set.IsOrdered timed_cmp s) }
 {
     let _length = listed.len();
@@ -124,7 +124,7 @@ impl Times {
     /// A number that has this time.
     pub(crate) fn number_at(&self, time: u64) -> Option<usize>
         ensures found { IfSome result (λ number. slice_get self.now number ≡ Some (Some time)) }
-        ensures none { result ≡ None → (number : ℕ) → slice_get self.now number ≡ Some (Some time) → ⊥ }
+        ensures none { result ≡ None → HasNone time self.now }
     {
         match self.listed.range((time, 0)..).next() {
             Some((first, number)) => { if *first == time { Some(*number) } else { None } }

@@ -1,7 +1,7 @@
 ghost use Rattle.std.specs.Prelude.{◌≡◌, ◌≤◌, ◌<◌, ◌&&◌, ◌||◌, ◌∷◌, [], ℕ, Some, None, true, false, nat_eq, length, slice_get, slice_set, IfOk};
 ghost use Rattle.engine_core.specs.TasksByNumber.{has_number};
 ghost use Rattle.engine_core.specs.Times.{put_at};
-ghost use Rattle.engine_core.specs.Watching.{Drains, Watches, numbers_by_cell};
+ghost use Rattle.engine_core.specs.Watching.{Drains, Watches, numbers_by_cell, AlsoHas, HasOthers, LosesOne, TouchesWaits, WatchesToo};
 
 use crate::times::Times;
 use aerie_base::OutOfMemory;
@@ -24,7 +24,7 @@ fn noted(
     number: usize,
     stands: bool,
 ) -> Result<BTreeSet<usize>, OutOfMemory>
-    ensures among { IfOk result (λ all. (n : ℕ) → has_number all.keys n ≡ (has_number numbers.keys n || (stands && nat_eq number n))) }
+    ensures among { IfOk result (λ all. AlsoHas (λ n. stands && nat_eq number n) numbers.keys all.keys) }
     ensures same { IfOk result (λ all. stands ≡ false → all.keys ≡ numbers.keys) }
 {
     let mut numbers = numbers;
@@ -37,7 +37,7 @@ fn noted(
 
 /// The numbers with others.
 fn joined(numbers: BTreeSet<usize>, others: BTreeSet<usize>) -> Result<BTreeSet<usize>, OutOfMemory>
-    ensures { IfOk result (λ all. (n : ℕ) → has_number all.keys n ≡ (has_number numbers.keys n || has_number others.keys n)) }
+    ensures { IfOk result (λ all. AlsoHas (has_number others.keys) numbers.keys all.keys) }
 {
     let mut all = numbers;
     let mut left = others;
@@ -90,7 +90,7 @@ fn watched_at(
     at: usize,
 ) -> Result<Vec<BTreeSet<usize>>, OutOfMemory>
     requires { at < length watchers.items }
-    ensures { IfOk result (λ all. Watches number (at ∷ []) (numbers_by_cell watchers.items) (numbers_by_cell all.items)) }
+    ensures { IfOk result (λ all. WatchesToo number (at ∷ []) watchers.items all.items) }
 {
     let mut all = watchers;
     let before = exchanged(&mut all, at, BTreeSet::new(alloc));
@@ -106,7 +106,7 @@ fn watched(
     number: usize,
     cell: u16,
 ) -> Result<Vec<BTreeSet<usize>>, OutOfMemory>
-    ensures { IfOk result (λ all. Watches number (cell ∷ []) (numbers_by_cell watchers.items) (numbers_by_cell all.items)) }
+    ensures { IfOk result (λ all. WatchesToo number (cell ∷ []) watchers.items all.items) }
 {
     let at = usize::from(cell);
     if at >= watchers.len() {
@@ -123,7 +123,7 @@ fn watched_all(
     number: usize,
     cells: &[u16],
 ) -> Result<Vec<BTreeSet<usize>>, OutOfMemory>
-    ensures { IfOk result (λ all. Watches number cells.now (numbers_by_cell watchers.items) (numbers_by_cell all.items)) }
+    ensures { IfOk result (λ all. WatchesToo number cells.now watchers.items all.items) }
 {
     let mut all = watchers;
     for cell in cells {
@@ -150,7 +150,7 @@ impl Waits {
     pub(crate) fn put(self, number: usize, waiting: bool) -> Result<Waits, OutOfMemory>
         requires number { number ≤ length self.wakes }
         ensures wakes { IfOk result (λ done. done.wakes ≡ put_at self.wakes number None) }
-        ensures stale { IfOk result (λ done. (n : ℕ) → has_number done.stale.keys n ≡ (has_number self.stale.keys n || (waiting && nat_eq number n))) }
+        ensures stale { IfOk result (λ done. AlsoHas (λ n. waiting && nat_eq number n) self.stale.keys done.stale.keys) }
         ensures same { IfOk result (λ done. waiting ≡ false → done.stale.keys ≡ self.stale.keys) }
         ensures watchers { IfOk result (λ done. done.watchers ≡ self.watchers) }
     {
@@ -177,9 +177,9 @@ impl Waits {
         reads: &[u16],
     ) -> Result<Waits, OutOfMemory>
         ensures wakes { IfOk result (λ done. done.wakes ≡ slice_set self.wakes number wake) }
-        ensures stale { IfOk result (λ done. (n : ℕ) → nat_eq number n ≡ false → has_number done.stale.keys n ≡ has_number self.stale.keys n) }
-        ensures fewer { IfOk result (λ done. has_number self.stale.keys number ≡ true → length done.stale.keys < length self.stale.keys) }
-        ensures watches { IfOk result (λ done. Watches number reads.now (numbers_by_cell self.watchers.items) (numbers_by_cell done.watchers.items)) }
+        ensures stale { IfOk result (λ done. HasOthers number self.stale.keys done.stale.keys) }
+        ensures fewer { IfOk result (λ done. LosesOne number self.stale.keys done.stale.keys) }
+        ensures watches { IfOk result (λ done. WatchesToo number reads.now self.watchers.items done.watchers.items) }
     {
         let Waits {
             wakes,
@@ -200,7 +200,7 @@ impl Waits {
     fn touch_at(self, alloc: Global, at: usize) -> Result<Waits, OutOfMemory>
         requires { at < length self.watchers.items }
         ensures wakes { IfOk result (λ done. done.wakes ≡ self.wakes) }
-        ensures drains { IfOk result (λ done. Drains (at ∷ []) [] self.stale.keys (numbers_by_cell self.watchers.items) done.stale.keys (numbers_by_cell done.watchers.items)) }
+        ensures drains { IfOk result (TouchesWaits (at ∷ []) self) }
     {
         let Waits {
             wakes,
@@ -219,7 +219,7 @@ impl Waits {
     /// The same of a cell, if it is one of the cells.
     fn touch_cell(self, alloc: Global, cell: u16) -> Result<Waits, OutOfMemory>
         ensures wakes { IfOk result (λ done. done.wakes ≡ self.wakes) }
-        ensures drains { IfOk result (λ done. Drains (cell ∷ []) [] self.stale.keys (numbers_by_cell self.watchers.items) done.stale.keys (numbers_by_cell done.watchers.items)) }
+        ensures drains { IfOk result (TouchesWaits (cell ∷ []) self) }
     {
         let at = usize::from(cell);
         if at >= self.watchers.len() {
@@ -232,7 +232,7 @@ impl Waits {
     /// The same for some cells.
     pub(crate) fn touch(self, alloc: Global, touched: &[u16]) -> Result<Waits, OutOfMemory>
         ensures wakes { IfOk result (λ done. done.wakes ≡ self.wakes) }
-        ensures drains { IfOk result (λ done. Drains touched.now [] self.stale.keys (numbers_by_cell self.watchers.items) done.stale.keys (numbers_by_cell done.watchers.items)) }
+        ensures drains { IfOk result (TouchesWaits touched.now self) }
     {
         let mut waits = self;
         for cell in touched {

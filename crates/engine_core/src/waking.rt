@@ -8,8 +8,8 @@ ghost use Rattle.effect_cells.specs.TouchedCells.{is_cell_among};
 ghost use Rattle.run_data.specs.Tasks.{on_each, woken};
 ghost use Rattle.run_data.specs.laws.NextTimes.{least_wake};
 ghost use Rattle.engine_core.specs.TasksByNumber.{has_number, AreKept, AreFound, KeepsWakesBut};
-ghost use Rattle.engine_core.specs.Times.{least_time, IsUpToTime};
-ghost use Rattle.engine_core.specs.Waking.{AreSolvable, WakesPass, wake_at, reads_at};
+ghost use Rattle.engine_core.specs.Times.{least_time, IsUpToTime, HasNone};
+ghost use Rattle.engine_core.specs.Waking.{AreSolvable, WakesPass, wake_at, reads_at, AreReads, IsLeastWake};
 
 use crate::phases::micros;
 use crate::reads::with_reads;
@@ -61,7 +61,7 @@ impl IndexedTasks {
 
     /// The cells that the task of a number waits for.
     fn reads(&self, alloc: Global, number: usize) -> Result<Vec<u16>, OutOfMemory>
-        ensures { IfOk result (λ reads. (cell : ℕ) → is_cell_among cell reads.items ≡ reads_at (slice_get self.now.tasks number) cell) }
+        ensures { IfOk result (λ reads. AreReads (reads_at (slice_get self.now.tasks number)) reads.items) }
     {
         let none = Vec::new(alloc);
         match self.entry(number) {
@@ -122,7 +122,7 @@ impl IndexedTasks {
     /// A task whose kept wake time is now, where none is earlier.
     fn waking(&self, now: Time) -> Option<usize>
         ensures found { IfSome result (λ number. slice_get self.now.wakes number ≡ Some (Some now)) }
-        ensures none { result ≡ None → IsUpToTime now (least_time self.now.wakes) → (number : ℕ) → slice_get self.now.wakes number ≡ Some (Some now) → ⊥ }
+        ensures none { result ≡ None → IsUpToTime now (least_time self.now.wakes) → HasNone now self.now.wakes }
         ensures long { length self.now.wakes ≡ length self.now.tasks }
     {
         match self.first_wake() {
@@ -164,7 +164,7 @@ impl IndexedTasks {
 
     /// The least time at which a waiting task wakes, where no wake time is stale.
     pub(crate) fn next_wake(&self) -> Option<u64>
-        ensures { (now horizon : ℕ) (cells : List CellState) → AreFound now horizon cells self.now → result ≡ least_wake now horizon cells self.now.tasks }
+        ensures { IsLeastWake self.now result }
     {
         match self.first_wake() {
             Some((time, _)) => Some(time),

@@ -7,7 +7,7 @@ ghost use Rattle.run_data.specs.Batches.{cost_of};
 ghost use Rattle.run_data.specs.Waves.{last_count, wave_of, RoseAlike};
 ghost use Rattle.run_data.specs.laws.Generations.{beside_generation};
 ghost use Rattle.engine_core.specs.BatchDues.{AreSeenSteps, IsSeenStep};
-ghost use Rattle.engine_core.specs.BatchGenerations.{so_far, added_by, AddsGeneration, MayRun, IsTurn, PaysForTurn, LooksForTurn, PaysForAll, LooksForAll, Ran, AreDueJobs, AreAllFrames};
+ghost use Rattle.engine_core.specs.BatchGenerations.{so_far, added_by, AddsGeneration, MayRun, IsTurn, PaysForTurn, LooksForTurn, PaysForAll, LooksForAll, Ran, AreDueJobs, AreAllFrames, AddsFrame};
 
 use super::children::{deep_frames, with_children};
 use crate::ready_jobs::ReadyJobs;
@@ -45,7 +45,7 @@ fn add_frame(
     dues: ReadyJobs,
 ) -> Result<ReadyJobs, OutOfMemory>
     requires { IsSeenStep (number, job.now) frame }
-    ensures { IfOk result (λ all. beside_generation (so_far made.old.items dues) (added_by model.now (number, job.now) frame) ≡ so_far made.new.items all) }
+    ensures { IfOk result (AddsFrame model.now (number, job.now) frame made.old.items made.new.items dues) }
 {
     if job.path.children().len() < CHILD_LIMIT {
         let all = with_children(alloc, model, job, number, frame.items.as_slice(), dues)?;

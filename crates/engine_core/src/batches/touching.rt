@@ -4,7 +4,7 @@ ghost use Rattle.std.specs.Prelude.{◌≡◌, ℕ, ◌<◌, ◌≤◌, ◌++◌
 ghost use Rattle.effect_cells.specs.declared.effects.CellState.{CellState};
 ghost use Rattle.effect_cells.specs.Touched.{also_touched};
 ghost use Rattle.run_data.specs.Batches.{touched_from};
-ghost use Rattle.engine_core.specs.BatchNumbers.{number_if, numbers_from};
+ghost use Rattle.engine_core.specs.BatchNumbers.{number_if, numbers_from, AreTouched};
 
 use aerie_base::{List, OutOfMemory};
 use effect_cells::{Tree, flag_touched};
@@ -68,7 +68,7 @@ pub(super) fn touched_cells(
     tree: &Tree,
 ) -> Result<List<u16>, OutOfMemory>
     requires { count ≤ 65536 }
-    ensures { IfOk result (λ touched. (cells : List CellState) → length cells ≡ count → touched ≡ touched_from 0 tree.now cells) }
+    ensures { IfOk result (AreTouched count tree.now) }
 {
     let mut flags = blank(alloc, count)?;
     let touched = numbers_with(alloc, tree, flags.as_mut_slice())?;

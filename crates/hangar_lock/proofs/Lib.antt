@@ -1,0 +1,17 @@
+pub mod Places
+pub mod AllViews
+pub mod Draw
+pub mod Look
+pub mod PassOn
+pub mod Split
+pub mod Join
+pub mod Open
+pub mod Close
+pub mod SameModels
+pub mod Working
+pub mod Shown
+pub mod Growing
+pub mod Picking
+pub mod Going
+pub mod Fitting
+pub mod Joining

@@ -1,0 +1,10 @@
+pub mod Pasts
+pub mod Places
+pub mod Passes
+pub mod Views
+pub mod Desks
+pub mod Rule
+pub mod Steps
+pub mod Resting
+pub mod Works
+pub mod laws

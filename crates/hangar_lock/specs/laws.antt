@@ -1,0 +1,3 @@
+-- Laws of the work of clients with passes of one lock.
+pub mod ClientsWork
+pub mod JoinedPasses

@@ -1,0 +1,5 @@
+pub mod Beginnings
+pub mod MadeFrames
+pub mod Paths
+pub mod PlannedTasks
+pub mod SpansOfFrames

@@ -1,0 +1,4 @@
+pub mod SequenceRefusals
+pub mod SequenceMeaning
+pub mod SequenceAnswers
+pub mod SequenceCases
