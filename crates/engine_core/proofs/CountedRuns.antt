@@ -1,16 +1,15 @@
 -- A file of lemmas: what it proves need not be read to trust a clause.
 --
 -- The loop over an engine: it is of one plan, and what was run so far is counted.
-use Rattle.std.proofs.Common.{◌≡◌, ℕ, ◌+◌, ◌*◌, ◌<◌, ◌≤◌, List, [], ◌∷◌, map, length, refl, sym, ap, ◌∙◌, subst, arith}
+use Rattle.std.proofs.Common.{◌≡◌, ℕ, ◌+◌, ◌*◌, ◌<◌, ◌≤◌, List, [], ◌∷◌, map, length, refl, ap, ◌∙◌, subst, arith}
 use Rattle.aerie_base.specs.declared.models.model.Parts.{Parts}
 use Rattle.aerie_base.specs.declared.plans.Plan.{Plan}
-use Rattle.run_data.specs.declared.frames.Frame.{Frame}
 use Rattle.run_data.specs.declared.frames.Record.{Record}
 use Rattle.run_data.specs.declared.jobs.Job.{Job}
 use Rattle.run_data.specs.declared.runs.Run.{Run}
 use Rattle.run_data.specs.Fresh.{start, IsFresh}
 use Rattle.run_data.specs.Records.{unmatched}
-use Rattle.run_data.specs.Transitions.{Next, more, finished}
+use Rattle.run_data.specs.Transitions.{more, finished}
 use Rattle.run_data.specs.laws.Weights.{WeightFalls}
 use Rattle.engine_core.specs.RunFrames.{PaysForRun, LooksForRun}
 use Rattle.engine_core.specs.Standing.{Standing, Stands, LeadsTo, turned, jobs_in, PaysForBatch, LooksForBatch}

@@ -1,7 +1,7 @@
 -- A file of lemmas: what it proves need not be read to trust a clause.
 --
 -- Where a simulation stands after a batch, by how that ended.
-use Rattle.std.proofs.Common.{◌≡◌, ℕ, ◌+◌, List, [], ◌∷◌, ◌++◌, refl, sym, ap, ◌∙◌, subst}
+use Rattle.std.proofs.Common.{◌≡◌, ℕ, List, [], ◌∷◌, ◌++◌, sym, ap, ◌∙◌, subst}
 use Rattle.aerie_base.specs.declared.faults.Fault.{Fault}
 use Rattle.aerie_base.specs.declared.models.model.Parts.{Parts}
 use Rattle.effect_cells.specs.declared.effects.CellState.{CellState}
@@ -9,15 +9,14 @@ use Rattle.run_data.specs.declared.frames.Frame.{Frame}
 use Rattle.run_data.specs.declared.runs.Outcome.TheVariants.{Failed as Failed_, StepLimit}
 use Rattle.run_data.specs.declared.runs.Run.{Run}
 use Rattle.run_data.specs.declared.runs.Who.{Who}
-use Rattle.run_data.specs.Batches.{cost_of}
 use Rattle.run_data.specs.Endings.{after_batch}
-use Rattle.run_data.specs.Fresh.{SimulationState, after_outcome}
+use Rattle.run_data.specs.Fresh.{after_outcome}
 use Rattle.run_data.specs.Transitions.{more, finished}
 use Rattle.run_data.specs.laws.NumberedTasks.{sorted_tasks}
 use Rattle.engine_core.specs.BatchEnds.{batch_as, SpendsWith}
 use Rattle.engine_core.specs.Passing.{run_with}
-use Rattle.engine_core.specs.TasksByNumber.{AreKept, AgreeBut, MadeIsSmall}
-use Rattle.engine_core.specs.Turns.{state_of, MakesFew, TouchesAll}
+use Rattle.engine_core.specs.TasksByNumber.{AreKept, AgreeBut}
+use Rattle.engine_core.specs.Turns.{state_of, TouchesAll}
 use Rattle.engine_core.specs.declared.batch_ends.BatchEnd.{BatchEnd}
 use Rattle.engine_core.specs.declared.batch_ends.BatchEnd.TheVariants.{Limit, Failed, Committed}
 use Rattle.engine_core.specs.declared.history.History.{History}

@@ -1,15 +1,15 @@
 -- A file of lemmas: what it proves need not be read to trust a clause.
 --
 -- An engine from one place to the next.
-use Rattle.std.proofs.Common.{◌≡◌, ℕ, ◌<◌, List, [], map, length, Option, Some, slice_get, refl, sym, ap, ◌∙◌, subst}
+use Rattle.std.proofs.Common.{◌≡◌, ℕ, List, ap, ◌∙◌, subst}
 use Rattle.aerie_base.specs.declared.models.model.Parts.{Parts}
 use Rattle.aerie_base.specs.declared.plans.Plan.{Plan}
 use Rattle.run_data.specs.declared.jobs.Job.{Job}
 use Rattle.run_data.specs.declared.runs.Run.{Run}
 use Rattle.run_data.specs.Fresh.{SimulationState, IsFresh, IsReached}
-use Rattle.run_data.specs.Transitions.{Next, more, finished}
-use Rattle.engine_core.specs.Standing.{Standing, Stands, HasJob, LeadsTo, turned, jobs_in}
-use Rattle.engine_core.specs.Turns.{place_in, plan_in, bound_in, standing_of, IsOnCourse, StandsAt}
+use Rattle.run_data.specs.Transitions.{Next, finished}
+use Rattle.engine_core.specs.Standing.{Standing, Stands, LeadsTo, turned, jobs_in}
+use Rattle.engine_core.specs.Turns.{place_in, plan_in, bound_in, standing_of, StandsAt}
 use Rattle.engine_core.specs.declared.simulation.Stage.{Stage}
 
 -- what a turn leads to is what the engine leads to

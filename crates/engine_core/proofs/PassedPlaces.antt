@@ -1,25 +1,24 @@
 -- A file of lemmas: what it proves need not be read to trust a clause.
 --
 -- Where a simulation stands after time has passed.
-use Rattle.std.proofs.Common.{◌≡◌, ℕ, ◌+◌, ◌-◌, ◌<◌, ◌≤◌, List, [], ◌∷◌, ◌++◌, Option, Some, None, Ok, Err, refl, sym, ap, ◌∙◌, subst, arith}
+use Rattle.std.proofs.Common.{◌≡◌, ℕ, ◌+◌, ◌-◌, ◌<◌, ◌≤◌, List, [], Option, Some, None, Ok, Err, refl, sym, ap, ◌∙◌, subst, arith}
 use Rattle.aerie_base.specs.declared.faults.Fault.TheVariants.{Range}
 use Rattle.aerie_base.specs.declared.models.model.Parts.{Parts}
 use Rattle.effect_cells.specs.declared.cells.OutOfRange.{OutOfRange}
 use Rattle.effect_cells.specs.declared.effects.CellState.{CellState}
 use Rattle.effect_cells.specs.Cells.{passed, first_out, refusal, verdict}
-use Rattle.run_data.specs.declared.runs.Instant.{Instant}
 use Rattle.run_data.specs.declared.runs.Outcome.TheVariants.{Completed, Failed}
 use Rattle.run_data.specs.declared.runs.Run.{Run}
 use Rattle.run_data.specs.declared.runs.Who.TheVariants as who
-use Rattle.run_data.specs.Fresh.{SimulationState, to_time, to_end, settled, instant_at, below, least_due}
-use Rattle.run_data.specs.Tasks.{Table, on_each, rested}
-use Rattle.run_data.specs.Transitions.{Next, more, finished}
+use Rattle.run_data.specs.Fresh.{SimulationState, to_time, to_end, settled}
+use Rattle.run_data.specs.Tasks.{on_each, rested}
+use Rattle.run_data.specs.Transitions.{more, finished}
 use Rattle.run_data.specs.laws.NextTimes.{least_wake}
 use Rattle.run_data.specs.laws.NumberedTasks.{sorted_tasks, ChangedByNumber}
 use Rattle.engine_core.specs.Passing.{run_with, place_at_time, place_at_end, GoesOnFrom}
 use Rattle.engine_core.specs.TasksByNumber.{AreKept, AreFound}
 use Rattle.engine_core.specs.Times.{IsUpToTime}
-use Rattle.engine_core.specs.Turns.{state_of, place_in, plan_in, bound_in, AreKeptIn, StandsAt}
+use Rattle.engine_core.specs.Turns.{state_of, StandsAt}
 use Rattle.engine_core.specs.Waking.{WakesPass}
 use Rattle.engine_core.specs.declared.history.History.{History}
 use Rattle.engine_core.specs.declared.present.Present.{Present}

@@ -1,9 +1,8 @@
 -- A file of lemmas: what it proves need not be read to trust a clause.
 --
 -- Where no task is ready, and as time passes.
-use Rattle.std.proofs.Common.{◌≡◌, ℕ, zero, suc, ◌+◌, ◌-◌, ◌*◌, ◌<◌, ◌≤◌, Bool, true, false, IsTrue, if◌then◌else◌, nat_eq, nat_lt, min, List, [], ◌∷◌, Option, Some, None, slice_get, refl, sym, ap, ◌∙◌, subst, arith}
-use Rattle.std.proofs.lemmas.Bool.{ltb-true, ltb-false}
-use Rattle.aerie_base.specs.declared.conditions.Cond.{Cond}
+use Rattle.std.proofs.Common.{◌≡◌, ℕ, ◌+◌, ◌-◌, ◌<◌, Bool, true, false, IsTrue, if◌then◌else◌, nat_eq, nat_lt, min, List, [], ◌∷◌, Option, Some, None, refl, sym, ap, ◌∙◌, subst, arith}
+use Rattle.std.proofs.lemmas.Bool.{ltb-true}
 use Rattle.aerie_base.specs.declared.models.model.Parts.{Parts}
 use Rattle.aerie_base.specs.declared.plans.Plan.{Plan}
 use Rattle.aerie_base.specs.models.ValidModel.{valid_model}
@@ -13,16 +12,15 @@ use Rattle.effect_cells.specs.declared.effects.CellState.{CellState}
 use Rattle.effect_cells.specs.Cells.{passed, first_out}
 use Rattle.effect_cells.specs.WakeTimes.{holds_on}
 use Rattle.run_data.specs.declared.jobs.Job.{Job}
-use Rattle.run_data.specs.declared.runs.Run.{Run}
 use Rattle.run_data.specs.Endings.{is_open}
 use Rattle.run_data.specs.Fresh.{SimulationState, next_state, next_by, woken_or_moved, moved, to_time, to_end, below, least_due, IsReached}
 use Rattle.run_data.specs.Tasks.{TaskPhase, anchored, ready, delayed, waiting, calling, over, Task, Table, on_each, woken, woken_phase, rested, rested_phase, ready_jobs, job_if_ready}
-use Rattle.run_data.specs.Transitions.{Next, more, finished}
+use Rattle.run_data.specs.Transitions.{more}
 use Rattle.run_data.specs.laws.NextTimes.{least_delay, least_wake, DueSplits, LeastDelayByNumber, LeastWakeByNumber}
 use Rattle.run_data.specs.laws.NumberedTasks.{sorted_tasks, Distinct}
 use Rattle.run_data.specs.laws.ReachedStates.{ReachedIsOfModel}
-use Rattle.run_data.specs.laws.Weights.{one_if, opens, idle, weigh, weight, WeightFalls}
-use Rattle.engine_core.specs.Passing.{place_at_time, GoesOnFrom}
+use Rattle.run_data.specs.laws.Weights.{one_if, opens, idle, WeightFalls}
+use Rattle.engine_core.specs.Passing.{GoesOnFrom}
 use Rattle.engine_core.specs.Times.{IsUpToTime}
 
 -- ---- waking

@@ -1,7 +1,7 @@
 -- A file of lemmas: what it proves need not be read to trust a clause.
 --
 -- The batch of a state that a simulation reaches.
-use Rattle.std.proofs.Common.{◌≡◌, ℕ, zero, suc, ◌+◌, ◌*◌, ◌<◌, ◌≤◌, ◌^◌, Bool, true, false, cond, IsTrue, List, [], ◌∷◌, length, Option, Some, None, slice_get, refl, sym, ap, ◌∙◌, subst, arith}
+use Rattle.std.proofs.Common.{◌≡◌, ℕ, suc, ◌+◌, ◌*◌, ◌<◌, ◌≤◌, ◌^◌, Bool, true, false, cond, IsTrue, List, [], ◌∷◌, length, Option, Some, None, slice_get, refl, sym, ap, ◌∙◌, subst, arith}
 use Rattle.std.specs.BTreeMap.{is_at}
 use Rattle.aerie_base.specs.Paths.{path_cmp}
 use Rattle.aerie_base.specs.Ranges.{step_limit}
@@ -14,8 +14,8 @@ use Rattle.run_data.specs.declared.frames.Frame.{Frame}
 use Rattle.run_data.specs.declared.frames.Record.{Record}
 use Rattle.run_data.specs.declared.jobs.Job.{Job}
 use Rattle.run_data.specs.declared.runs.Run.{Run}
-use Rattle.run_data.specs.Batches.{Batch, limit, failed, committed, batch, cost_of}
-use Rattle.run_data.specs.Endings.{gone_on, after_batch}
+use Rattle.run_data.specs.Batches.{committed, batch}
+use Rattle.run_data.specs.Endings.{gone_on}
 use Rattle.run_data.specs.Fresh.{SimulationState, next_state, next_by, after_outcome, IsReached}
 use Rattle.run_data.specs.Records.{unmatched}
 use Rattle.run_data.specs.Tasks.{TaskPhase, anchored, ready, delayed, waiting, calling, over, Task, Table, task_at, on_each, children_made, after_frames, ready_jobs, job_if_ready}
@@ -23,10 +23,10 @@ use Rattle.run_data.specs.Transitions.{Next, more, finished, onward}
 use Rattle.run_data.specs.laws.NumberedTasks.{sorted_tasks, OrderIsDistinct, OrderIsItself, FoundByNumber}
 use Rattle.run_data.specs.laws.Orders.{EachOf}
 use Rattle.run_data.specs.laws.ReachedStates.{ReachedIsOfModel, IsStateOf}
-use Rattle.engine_core.specs.BatchEnds.{batch_as, SpendsWith, IsFrugalEnd, HasFewLooks, AreReadyJobs}
-use Rattle.engine_core.specs.Standing.{Standing, PaysForBatch, LooksForBatch}
+use Rattle.engine_core.specs.BatchEnds.{batch_as, IsFrugalEnd, HasFewLooks, AreReadyJobs}
+use Rattle.engine_core.specs.Standing.{PaysForBatch, LooksForBatch}
 use Rattle.engine_core.specs.TasksByNumber.{MadeIsSmall}
-use Rattle.engine_core.specs.Turns.{state_of, standing_of, IsOnCourse, MakesFew}
+use Rattle.engine_core.specs.Turns.{state_of, MakesFew}
 use Rattle.engine_core.specs.declared.batch_ends.BatchEnd.{BatchEnd}
 use Rattle.engine_core.specs.declared.batch_ends.BatchEnd.TheVariants.{Limit, Failed, Committed}
 use Rattle.engine_core.specs.declared.history.History.{History}

@@ -1,7 +1,7 @@
 -- A file of lemmas: what it proves need not be read to trust a clause.
 --
 -- The batch of a simulation on course.
-use Rattle.std.proofs.Common.{◌≡◌, ℕ, ◌≤◌, IsTrue, List, [], refl, sym, ap, ◌∙◌, subst}
+use Rattle.std.proofs.Common.{◌≡◌, ℕ, ◌≤◌, IsTrue, List, [], sym, ap, ◌∙◌, subst}
 use Rattle.aerie_base.specs.declared.models.model.Parts.{Parts}
 use Rattle.aerie_base.specs.models.ValidModel.{valid_model}
 use Rattle.effect_cells.specs.declared.effects.CellState.{CellState}
@@ -9,7 +9,7 @@ use Rattle.run_data.specs.declared.frames.Record.{Record}
 use Rattle.run_data.specs.declared.jobs.Job.{Job}
 use Rattle.run_data.specs.Batches.{batch}
 use Rattle.run_data.specs.Fresh.{SimulationState, next_state, after_outcome}
-use Rattle.run_data.specs.Tasks.{Table, ready_jobs}
+use Rattle.run_data.specs.Tasks.{ready_jobs}
 use Rattle.run_data.specs.laws.GoingOn.{AllQuiet}
 use Rattle.run_data.specs.laws.NumberedTasks.{sorted_tasks, OrderIsDistinct, OrderIsItself, FoundByNumber}
 use Rattle.run_data.specs.laws.QuietStates.{ReachedIsQuiet}

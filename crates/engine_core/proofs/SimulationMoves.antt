@@ -1,33 +1,30 @@
 -- A file of lemmas: what it proves need not be read to trust a clause.
 --
 -- A simulation on course where no task is ready.
-use Rattle.std.proofs.Common.{◌≡◌, ℕ, ◌+◌, ◌-◌, ◌<◌, ◌≤◌, IsTrue, List, [], Option, Some, None, length, slice_get, refl, sym, ap, ◌∙◌, subst, arith}
+use Rattle.std.proofs.Common.{◌≡◌, ℕ, ◌<◌, IsTrue, List, [], Some, refl, sym, ap, ◌∙◌, subst}
 use Rattle.aerie_base.specs.declared.conditions.Cond.{Cond}
 use Rattle.aerie_base.specs.declared.models.model.Parts.{Parts}
-use Rattle.aerie_base.specs.declared.plans.Plan.{Plan}
 use Rattle.aerie_base.specs.models.Cells.{read_kind}
 use Rattle.aerie_base.specs.models.ValidModel.{valid_model}
 use Rattle.effect_cells.specs.declared.effects.CellState.{CellState}
-use Rattle.effect_cells.specs.Cells.{AreInRange, passed, first_out}
+use Rattle.effect_cells.specs.Cells.{AreInRange}
 use Rattle.effect_cells.specs.Reads.{kind_on}
 use Rattle.effect_cells.specs.Solvable.{may_be_solved}
 use Rattle.run_data.specs.declared.runs.Run.{Run}
-use Rattle.run_data.specs.Fresh.{SimulationState, next_state, moved, to_time, below, least_due}
+use Rattle.run_data.specs.Fresh.{SimulationState, next_state, moved, below, least_due}
 use Rattle.run_data.specs.Jobs.{AreCellsOf}
-use Rattle.run_data.specs.Tasks.{TaskPhase, anchored, ready, delayed, waiting, calling, over, Task, Table, task_at, on_each, woken, rested, ready_jobs}
-use Rattle.run_data.specs.Transitions.{Next, more, finished}
+use Rattle.run_data.specs.Tasks.{TaskPhase, anchored, ready, delayed, waiting, calling, over, on_each, woken, ready_jobs}
+use Rattle.run_data.specs.Transitions.{Next, more}
 use Rattle.run_data.specs.laws.ModelSteps.{WaitsGoByCells}
 use Rattle.run_data.specs.laws.NumberedTasks.{sorted_tasks, Distinct, FoundByNumber, ChangedByNumber}
 use Rattle.run_data.specs.laws.ReachedStates.{ReachedIsOfModel, IsStateOf, IsPhaseOf}
 use Rattle.run_data.specs.laws.Weights.{WeightFalls}
 use Rattle.engine_core.specs.Passing.{GoesOnFrom}
 use Rattle.engine_core.specs.Phases.{condition_in}
-use Rattle.engine_core.specs.TasksByNumber.{AreKept, AreFound}
-use Rattle.engine_core.specs.Turns.{state_of, place_in, AreKeptIn, IsOnCourse, StandsAt}
+use Rattle.engine_core.specs.TasksByNumber.{AreFound}
+use Rattle.engine_core.specs.Turns.{state_of, IsOnCourse, StandsAt}
 use Rattle.engine_core.specs.Waking.{AreSolvable}
-use Rattle.engine_core.specs.declared.history.History.{History}
 use Rattle.engine_core.specs.declared.present.Present.{Present}
-use Rattle.engine_core.specs.declared.simulation.Request.{Request}
 use Rattle.engine_core.specs.declared.simulation.Simulation.{Simulation}
 use Rattle.engine_core.specs.declared.simulation.Stage.{Stage}
 use Rattle.engine_core.specs.declared.simulation.Stage.TheVariants.{On}

@@ -1,7 +1,7 @@
 -- A file of lemmas: what it proves need not be read to trust a clause.
 --
 -- From a turn on to the next that has a job, or to the run.
-use Rattle.std.proofs.Common.{◌≡◌, ℕ, zero, suc, ◌+◌, ◌<◌, ◌≤◌, Bool, true, false, not, List, [], ◌∷◌, refl, sym, ap, ◌∙◌, subst, arith}
+use Rattle.std.proofs.Common.{◌≡◌, ℕ, ◌+◌, ◌<◌, ◌≤◌, Bool, true, false, not, List, [], ◌∷◌, refl, sym, ◌∙◌, subst, arith}
 use Rattle.aerie_base.specs.Ranges.{step_limit}
 use Rattle.aerie_base.specs.declared.models.model.Parts.{Parts}
 use Rattle.aerie_base.specs.declared.plans.Plan.{Plan}
@@ -12,8 +12,8 @@ use Rattle.run_data.specs.Fresh.{SimulationState, start, next_state, IsReached}
 use Rattle.run_data.specs.Tasks.{ready_jobs}
 use Rattle.run_data.specs.Transitions.{Next, more, finished, begins, onward}
 use Rattle.run_data.specs.laws.Weights.{weight, WeightFalls}
-use Rattle.engine_core.specs.Standing.{Standing, Stands, HasJob, LeadsTo, there, on, turned, jobs_in}
-use Rattle.engine_core.specs.Turns.{state_of, place_in, plan_in, bound_in, are_none, is_idle_at, AreKeptBefore, AreKeptIn, StandsAt, IsOnCourse, standing_of}
+use Rattle.engine_core.specs.Standing.{Stands, HasJob, LeadsTo, there, on, turned}
+use Rattle.engine_core.specs.Turns.{state_of, place_in, plan_in, bound_in, are_none, is_idle_at, AreKeptBefore, StandsAt, IsOnCourse, standing_of}
 use Rattle.engine_core.specs.declared.simulation.Simulation.{Simulation}
 use Rattle.engine_core.specs.declared.simulation.Stage.{Stage}
 use Rattle.engine_core.specs.declared.simulation.Stage.TheVariants.{On}

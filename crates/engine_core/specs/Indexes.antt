@@ -1,5 +1,5 @@
 -- How the indexes of tasks change, and what they say of a task.
-use Rattle.std.specs.Prelude.{◌≡◌, ℕ, Bool, false, List, Option, cond, length, nat_eq}
+use Rattle.std.specs.Prelude.{◌≡◌, ℕ, Bool, List, Option, cond}
 use Rattle.std.specs.BTreeMap.{BTreeMap, is_at}
 use Rattle.std.specs.BTreeSet.{BTreeSet}
 use Rattle.aerie_base.specs.Paths.{path_cmp}

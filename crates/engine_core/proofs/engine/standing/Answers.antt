@@ -1,6 +1,5 @@
 use Rattle.std.proofs.Common.{◌∙◌, sym}
-use Rattle.engine_core.specs.Turns.{place_in}
-use Rattle.engine_core.proofs.StandingTurns.{led_first, led_on, led_less, led_there, has_job, stands_there}
+use Rattle.engine_core.proofs.StandingTurns.{led_first, led_on, led_less, led_there}
 use Rattle.engine_core.proofs.engine.standing.Goals as goal
 
 pub loop-turn-init : goal.loop-turn-init

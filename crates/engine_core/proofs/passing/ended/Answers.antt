@@ -1,6 +1,5 @@
-use Rattle.std.proofs.Common.{◌≡◌, ◌≤◌, ◌-◌, ◌∙◌, ap, length, arith, subst}
+use Rattle.std.proofs.Common.{◌∙◌, ap, length, arith}
 use Rattle.engine_core.proofs.BatchTouched.{few_cells}
-use Rattle.engine_core.proofs.PassedPlaces.{stands_out_at_end, stands_completed}
 use Rattle.engine_core.proofs.passing.ended.Goals as goal
 
 pub settled-requires-clause-count : goal.settled-requires-clause-count

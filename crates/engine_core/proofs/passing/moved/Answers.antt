@@ -1,4 +1,4 @@
-use Rattle.std.proofs.Common.{◌≡◌, ◌∙◌, Option, ℕ, sym, ap, subst, IfOk}
+use Rattle.std.proofs.Common.{◌∙◌, Option, ℕ, sym, ap, subst, IfOk}
 use Rattle.run_data.specs.Fresh.{moved, below, least_due}
 use Rattle.run_data.specs.laws.NumberedTasks.{sorted_tasks}
 use Rattle.engine_core.specs.Passing.{GoesOnFrom}

@@ -1,4 +1,4 @@
-use Rattle.std.proofs.Common.{◌≡◌, ◌≤◌, ◌∙◌, ap, length, arith}
+use Rattle.std.proofs.Common.{◌∙◌, ap, length, arith}
 use Rattle.engine_core.proofs.BatchTouched.{few_cells}
 use Rattle.engine_core.proofs.PassedPlaces.{stands_out, stands_passed}
 use Rattle.engine_core.proofs.PassingTime.{at_next_time}

@@ -1,7 +1,6 @@
-use Rattle.std.proofs.Common.{◌≡◌, ◌∙◌, List, [], length, ap, sym, arith}
+use Rattle.std.proofs.Common.{◌∙◌, List, length, ap, sym, arith}
 use Rattle.aerie_base.specs.declared.models.Daemon.{Daemon}
-use Rattle.aerie_base.specs.declared.plans.Directive.{Directive}
-use Rattle.run_data.specs.Tasks.{Table, with_directives, with_daemons}
+use Rattle.run_data.specs.Tasks.{with_directives, with_daemons}
 use Rattle.run_data.specs.laws.NumberedTasks.{sorted_tasks}
 use Rattle.engine_core.proofs.PlanningTasks.{few_daemons, not_before_start, rested_at_start}
 use Rattle.engine_core.proofs.planned_tasks.planned_tasks.Goals as goal

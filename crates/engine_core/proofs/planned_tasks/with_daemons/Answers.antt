@@ -1,4 +1,4 @@
-use Rattle.std.proofs.Common.{◌≡◌, ◌+◌, ◌∙◌, ap, arith}
+use Rattle.std.proofs.Common.{◌+◌, ◌∙◌, ap, arith}
 use Rattle.aerie_base.specs.Paths.{daemon_root}
 use Rattle.run_data.specs.Tasks.{with_task}
 use Rattle.engine_core.specs.PlannedTasks.{daemon_task}

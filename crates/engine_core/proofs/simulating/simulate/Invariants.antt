@@ -1,4 +1,3 @@
-use Rattle.std.proofs.Common.{◌≡◌}
 use Rattle.engine_core.specs.BatchGenerations.{Ran}
 use Rattle.engine_core.proofs.CountedRuns.{IsCounted}
 use Rattle.engine_core.proofs.StandingTurns.{place_weight}

@@ -1,4 +1,4 @@
-use Rattle.std.proofs.Common.{◌≡◌, List, sym, subst, ap}
+use Rattle.std.proofs.Common.{List, sym, subst}
 use Rattle.run_data.specs.declared.frames.Frame.{Frame}
 use Rattle.run_data.specs.Tasks.{after_frames}
 use Rattle.run_data.specs.laws.NumberedTasks.{sorted_tasks}

@@ -1,4 +1,3 @@
-use Rattle.std.proofs.Common.{◌∙◌}
 use Rattle.engine_core.proofs.StandingTurns.{on_course_first, leads_first}
 use Rattle.engine_core.proofs.engine.Engine.begin.Goals as goal
 

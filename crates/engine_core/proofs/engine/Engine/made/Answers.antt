@@ -1,4 +1,4 @@
-use Rattle.std.proofs.Common.{◌≡◌, ◌<◌, ◌∙◌, List, ℕ, Some, map, length, slice_get, ap, sym, subst}
+use Rattle.std.proofs.Common.{◌≡◌, ◌<◌, List, ℕ, Some, map, length, slice_get, sym, subst}
 use Rattle.run_data.specs.declared.jobs.Job.{Job}
 use Rattle.engine_core.specs.Turns.{standing_of}
 use Rattle.engine_core.proofs.EngineSteps.{jobs_are}

@@ -1,6 +1,6 @@
 use Rattle.std.proofs.Common.{◌∙◌, List, ℕ, map, ap, subst}
 use Rattle.run_data.specs.declared.jobs.Job.{Job}
-use Rattle.engine_core.specs.Standing.{Standing, Stands, jobs_in}
+use Rattle.engine_core.specs.Standing.{Stands}
 use Rattle.engine_core.specs.Turns.{standing_of}
 use Rattle.engine_core.proofs.EngineSteps.{jobs_are}
 use Rattle.engine_core.proofs.StandingTurns.{stands_there}

@@ -1,4 +1,4 @@
-use Rattle.std.proofs.Common.{◌≡◌, ◌∙◌, ap, sym, subst}
+use Rattle.std.proofs.Common.{◌∙◌, ap, sym, subst}
 use Rattle.engine_core.specs.Standing.{Standing, PaysForBatch, LooksForBatch}
 use Rattle.engine_core.specs.Turns.{standing_of}
 use Rattle.engine_core.proofs.EngineSteps.{jobs_are, leads_next}

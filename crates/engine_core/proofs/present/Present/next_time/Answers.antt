@@ -1,6 +1,5 @@
-use Rattle.std.proofs.Common.{◌≡◌, ◌∙◌, Option, ℕ, Some, sym, ap}
-use Rattle.run_data.specs.Fresh.{below, least_due}
-use Rattle.run_data.specs.laws.NumberedTasks.{sorted_tasks}
+use Rattle.std.proofs.Common.{◌∙◌, Some, sym, ap}
+use Rattle.run_data.specs.Fresh.{below}
 use Rattle.engine_core.proofs.PassingTime.{least_is}
 use Rattle.engine_core.proofs.present.Present.next_time.Goals as goal
 

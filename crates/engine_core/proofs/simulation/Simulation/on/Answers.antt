@@ -1,4 +1,4 @@
-use Rattle.std.proofs.Common.{◌≡◌, ◌<◌, ◌∙◌, length, sym, ap, subst}
+use Rattle.std.proofs.Common.{◌<◌, ◌∙◌, length, sym, ap, subst}
 use Rattle.engine_core.specs.TasksByNumber.{AreKept}
 use Rattle.engine_core.proofs.SimulationMoves.{before_end, in_range, as_many, solvable, found_later, stands_woken, goes_on, range_later, stands_moved}
 use Rattle.engine_core.proofs.simulation.Simulation.on.Goals as goal

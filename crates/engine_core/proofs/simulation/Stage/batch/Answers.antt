@@ -1,4 +1,4 @@
-use Rattle.std.proofs.Common.{◌≡◌, ◌∙◌, sym, ap, subst, IfOk}
+use Rattle.std.proofs.Common.{◌∙◌, sym, ap, subst, IfOk}
 use Rattle.engine_core.specs.Standing.{jobs_in, turned, PaysForBatch, LooksForBatch}
 use Rattle.engine_core.specs.Turns.{place_in, plan_in, bound_in, IsOnCourse, StandsAt, standing_of}
 use Rattle.engine_core.specs.declared.simulation.Stage.{Stage}

@@ -1,4 +1,4 @@
-use Rattle.std.proofs.Common.{◌≡◌, [], sym, subst}
+use Rattle.std.proofs.Common.{◌≡◌, [], subst}
 use Rattle.engine_core.specs.Standing.{jobs_in, HasJob}
 use Rattle.engine_core.specs.Turns.{place_in}
 use Rattle.engine_core.specs.declared.simulation.Stage.{Stage}

@@ -1,4 +1,4 @@
-use Rattle.std.proofs.Common.{◌≡◌, ◌∙◌, true, sym, ap, subst, IfOk}
+use Rattle.std.proofs.Common.{◌≡◌, true, sym, subst, IfOk}
 use Rattle.run_data.specs.Tasks.{ready_jobs}
 use Rattle.run_data.specs.laws.NumberedTasks.{sorted_tasks}
 use Rattle.engine_core.specs.Standing.{turned}

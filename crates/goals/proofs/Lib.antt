@@ -1,0 +1,6 @@
+pub mod FreeTimes
+pub mod MergedGaps
+pub mod Rising
+pub mod SameValues
+pub mod SortedAnchors
+pub mod Spreading

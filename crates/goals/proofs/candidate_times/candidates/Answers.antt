@@ -1,0 +1,16 @@
+use Rattle.std.proofs.Common.{◌∙◌}
+use Rattle.goals.proofs.FreeTimes.{are_in_plan, are_free, few_free}
+use Rattle.goals.proofs.candidate_times.candidates.Goals as goal
+
+pub returns-clause-in_plan : goal.returns-clause-in_plan
+returns-clause-in_plan c = are_in_plan c.args.run.now.plan.duration c.as_slice-starts.result.now c.as_slice.result.now _ c.in_ok-times.ensures
+
+pub returns-clause-free : goal.returns-clause-free
+returns-clause-free c =
+    are_free c.args.run.now.plan.duration c.as_slice-starts.result.now _ c.as_slice.result.now _ c.in_ok-times.ensures
+    (c.as_slice-starts.ensures.value ∙ c.in_ok-matched.ensures.starts)
+
+pub returns-clause-few : goal.returns-clause-few
+returns-clause-few c =
+    few_free c.args.run.now.plan.duration c.as_slice-starts.result.now c.as_slice.result.now _ _ c.args.gap.now.at c.args.goal.now.kind
+    c.in_ok-times.ensures c.as_slice.ensures.value c.in_ok-tried.ensures

@@ -1,0 +1,9 @@
+pub mod Matching
+pub mod Anchors
+pub mod Gaps
+pub mod Candidates
+pub mod Goals
+pub mod OfModel
+pub mod Merging
+pub mod Tries
+pub mod Cases

@@ -1,0 +1,90 @@
+//! Whether a gap that a goal had is filled on another run.
+
+ghost use Rattle.std.specs.Prelude.{◌≡◌, IsTrue, IfOk};
+ghost use Rattle.run_data.specs.Fresh.{IsFresh};
+ghost use Rattle.goals.specs.Goals.{filled_over, is_behind as comes_behind, is_filled as filled, is_left as left_over};
+ghost use Rattle.goals.specs.OfModel.{is_goal};
+
+use crate::anchors::anchors_of;
+use crate::first_gaps::is_completed;
+use crate::gap::Gap;
+use crate::gaps::{Beside, count_within, has_start, recurrence_gap};
+use crate::matching::{Matched, match_spans};
+use crate::types::{Goal, GoalKind};
+use aerie_base::{Model, OutOfMemory, Time};
+use run_data::Run;
+use std::alloc::Global;
+
+/// Whether the next gap is none, or after this one.
+fn is_behind(gap: &Gap, next: Option<Time>) -> bool
+    ensures { result ≡ comes_behind gap.now.at next }
+{
+    match next {
+        Some(next) => gap.at < next.get(),
+        None => true,
+    }
+}
+
+/// Whether the gap is one of the anchors, and has no start beside it.
+fn is_left(gap: &Gap, beside: &Beside, starts: &[Time], anchors: &[Time]) -> bool
+    ensures { result ≡ left_over beside.now.from beside.now.to starts.now anchors.now gap.now.at }
+{
+    for anchor in anchors {
+        if anchor.get() == gap.at {
+            return !has_start(beside, starts, *anchor);
+        }
+    }
+    false
+}
+
+/// Whether the gap is filled on a completed run.
+fn filled_by_kind(
+    alloc: Global,
+    model: &Model,
+    goal: &Goal,
+    gap: &Gap,
+    run: &Run,
+) -> Result<bool, OutOfMemory>
+    requires fresh { IsFresh model.now run.now.plan run.now.bound run.now }
+    requires goal { IsTrue (is_goal model.now goal.now) }
+    ensures { IfOk result (λ is. is ≡ filled_over model.now goal.now gap.now run.now) }
+{
+    let Matched { spans, starts } = match_spans(alloc, model, run, &goal.template)?;
+    match &goal.kind {
+        GoalKind::Recurrence { every, from, to } => {
+            Ok(is_behind(gap, recurrence_gap(*every, *from, *to, &starts)))
+        }
+        GoalKind::Coexistence { anchor, from, to } => {
+            let anchors = anchors_of(alloc, model, run, &spans, anchor)?;
+            let beside = Beside {
+                from: *from,
+                to: *to,
+            };
+            Ok(!is_left(gap, &beside, &starts, &anchors))
+        }
+        GoalKind::Cardinality { from, to, .. } => {
+            let found = count_within(*from, *to, &starts);
+            Ok(i128::from(gap.at) < found as i128)
+        }
+    }
+}
+
+/// Whether a gap that a goal had is filled on a fresh run of the model, as that of a plan with one activity more: the run
+/// completed, and of a recurrence the first gap is now none or a later one, of a coexistence the gap is no anchor without a
+/// start beside it, of a cardinality there are more starts than there were.
+pub fn is_filled(
+    alloc: Global,
+    model: &Model,
+    goal: &Goal,
+    gap: &Gap,
+    run: &Run,
+) -> Result<bool, OutOfMemory>
+    requires fresh { IsFresh model.now run.now.plan run.now.bound run.now }
+    requires goal { IsTrue (is_goal model.now goal.now) }
+    ensures { IfOk result (λ is. is ≡ filled model.now goal.now gap.now run.now) }
+{
+    if !is_completed(&run.outcome) {
+        return Ok(false);
+    }
+    filled_by_kind(alloc, model, goal, gap, run)
+}
