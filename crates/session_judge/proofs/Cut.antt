@@ -18,10 +18,10 @@ part_within text tokens from count within =
       behind = drop count rest ++ within.behind;
       are =
           within.are
-          ∙ ap (λ (row : List Token). Ok (within.before ++ (row ++ within.behind))) split
-          ∙ ap (λ (row : List Token). Ok (within.before ++ row)) (append_assoc (take from tokens) (take count rest ++ drop count rest) within.behind)
-          ∙ ap (λ (row : List Token). Ok (within.before ++ (take from tokens ++ row))) (append_assoc (take count rest) (drop count rest) within.behind)
-          ∙ ap (λ (row : List Token). Ok row) (sym (append_assoc within.before (take from tokens) (take count rest ++ (drop count rest ++ within.behind))));
+          ∙ ap (λ (row : List Token). Ok (within.before ++ row ++ within.behind)) split
+          ∙ ap (λ (row : List Token). Ok (row ++ within.behind)) (sym (append_assoc within.before (take from tokens) (take count rest ++ drop count rest)))
+          ∙ ap (λ (row : List Token). Ok (row ++ within.behind)) (sym (append_assoc (within.before ++ take from tokens) (take count rest) (drop count rest)))
+          ∙ ap (λ (row : List Token). Ok row) (append_assoc (within.before ++ take from tokens ++ take count rest) (drop count rest) within.behind);
     }
 
 -- tokens in a row are tokens of the text

@@ -1,3 +1,4 @@
+pub mod Beginning
 pub mod Cut
 pub mod FirstOfBoth
 pub mod Gathering

@@ -1,7 +1,6 @@
 -- The line of a session that is accepted.
 use Rattle.std.specs.Prelude.{ℕ, ◌+◌, List, [], ◌∷◌, codes, length, min}
-use Rattle.serde_json.specs.Data.{Data, string}
-use Rattle.aerie_text.specs.Json.{object_of}
+use Rattle.serde_json.specs.Data.{Data, member, no_members, object, string}
 use Rattle.report_text.specs.Fields.{natural_data}
 use Rattle.session_reader.specs.declared.session.Client.{Client}
 use Rattle.session_reader.specs.declared.session.Session.{Session}
@@ -18,9 +17,9 @@ count_limit = 18_446_744_073_709_551_615
 -- how many clients there are, how many commands all of them have, and what is said of the session
 abbrev pub counts_data : Session → List ℕ → Data
 counts_data session state =
-    object_of ((codes "clients", natural_data (length session.clients))
-    ∷ (codes "commands", natural_data (min (command_count session.clients) count_limit))
-    ∷ (codes "session", string state) ∷ [])
+    object (member (codes "clients") (natural_data (length session.clients))
+    (member (codes "commands") (natural_data (min (command_count session.clients) count_limit))
+    (member (codes "session") (string state) no_members)))
 
 -- a session that is good
 abbrev pub accepted_data : Session → Data

@@ -23,7 +23,6 @@ fn command_count(clients: &[Client]) -> u64
 }
 
 /// How many clients and commands a session has, and that it is so.
-#[tactic(auto, using(json_line::proofs::Steps::part_by_part))]
 fn write_counts(line: &mut JsonLine, session: &Session, state: &str) -> Result<(), OutOfMemory>
     ensures { OnOk result (line.new ≡ line.old ++ data_tokens (counts_data session.now state.now)) }
 {

@@ -4,4 +4,4 @@ use Rattle.session_judge.proofs.accepted.command_count.Given as goal
 
 -- what was counted, with what is left, is what all come to
 abbrev pub invariant-loop-client : goal.invariant-loop-client
-invariant-loop-client l = min (l.count + command_count (drop l.client-index l.client-items)) count_limit ≡ min (command_count l.client-items) count_limit
+invariant-loop-client l = min (l.count + command_count (drop l.client-index l.clients)) count_limit ≡ min (command_count l.clients) count_limit

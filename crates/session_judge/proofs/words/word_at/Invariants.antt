@@ -9,5 +9,5 @@ abbrev pub invariant-loop-token : goal.invariant-loop-token
 invariant-loop-token l = record {
   edge : IsCharBoundary l.text l.from;
   at : l.at ≡ place_of l.text l.from;
-  rest : word_at l.text l.place (drop l.token-index l.token-items) ≡ word_at l.text l.place l.token-items;
+  rest : word_at l.text l.place (drop l.token-index l.tokens) ≡ word_at l.text l.place l.tokens;
 }
