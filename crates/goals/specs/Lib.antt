@@ -7,3 +7,4 @@ pub mod OfModel
 pub mod Merging
 pub mod Tries
 pub mod Cases
+pub mod reading
