@@ -12,7 +12,7 @@ pub part_within : (text : List ℕ) (tokens : List Token) (from count : ℕ) →
 part_within text tokens from count within =
     let rest = drop from tokens in
     let split : tokens ≡ take from tokens ++ (take count rest ++ drop count rest) =
-        sym (take-append-drop from tokens) ∙ ap (λ (row : List Token). take from tokens ++ row) (sym (take-append-drop count rest)) in
+    sym (take-append-drop from tokens) ∙ ap (λ (row : List Token). take from tokens ++ row) (sym (take-append-drop count rest)) in
     record {
       before = within.before ++ take from tokens;
       behind = drop count rest ++ within.behind;

@@ -4,7 +4,7 @@ use Rattle.std.proofs.lemmas.List.{take_more}
 use Rattle.aerie_base.specs.declared.models.model.Parts.{Parts}
 use Rattle.session_reader.specs.Sections.{TokenRange}
 use Rattle.session_reader.specs.declared.session.ModelPart.{ModelPart}
-use Rattle.session_judge.specs.FirstRefused.{RulesAnswer, SectionRefusal, accepted_rules, begin_of, first_of_both, first_refused, in_front_of, refusal_in, unless_refused}
+use Rattle.session_judge.specs.FirstRefused.{RulesAnswer, SectionRefusal, accepted_rules, begin_of, first_of_both, first_refused_section, in_front_of, refusal_in, unless_section_refused}
 use Rattle.session_judge.specs.OfModels.{AreOfModels}
 use Rattle.session_judge.proofs.FirstOfBoth.{first_of_three, taken_on}
 
@@ -25,7 +25,7 @@ module _ {A : Type 0} (test : Parts → A → Bool) where
   taken_of_models parts part rules begin (Some one) (Err refusal) are is none = absurd cc
 
   -- all of them, where nothing was refused
-  pub all_of_models : (parts : List ModelPart) (rules : List A) (refused : Option SectionRefusal) → (refused ≡ None → AreOfModels test parts rules) → IfOk (unless_refused refused rules) (AreOfModels test parts)
+  pub all_of_models : (parts : List ModelPart) (rules : List A) (refused : Option SectionRefusal) → (refused ≡ None → AreOfModels test parts rules) → IfOk (unless_section_refused refused rules) (AreOfModels test parts)
   all_of_models parts rules None are = are refl
   all_of_models parts rules (Some one) are = tt
 
@@ -44,14 +44,14 @@ module _ {A : Type 0} (section : ModelPart → Option TokenRange) (answer : Mode
       ∙ ap (λ (row : List ModelPart). rules ++ accepted_rules answer row) (sym cut)
       ∙ so_far
 
-  pub next_refused : (refused more : Option SectionRefusal) (given : RulesAnswer A) (begin : ℕ) → first_of_both refused (first_refused section answer (drop i items)) ≡ first_refused section answer items
+  pub next_refused : (refused more : Option SectionRefusal) (given : RulesAnswer A) (begin : ℕ) → first_of_both refused (first_refused_section section answer (drop i items)) ≡ first_refused_section section answer items
       → more ≡ first_of_both refused (refusal_in begin given) → given ≡ answer part → begin ≡ begin_of (section part)
-      → first_of_both more (first_refused section answer (drop (i + 1) items)) ≡ first_refused section answer items
+      → first_of_both more (first_refused_section section answer (drop (i + 1) items)) ≡ first_refused_section section answer items
   next_refused refused more given begin so_far are given_is begin_is =
-      ap (λ (one : Option SectionRefusal). first_of_both one (first_refused section answer (drop (i + 1) items)))
+      ap (λ (one : Option SectionRefusal). first_of_both one (first_refused_section section answer (drop (i + 1) items)))
       (are ∙ ap (λ (g : RulesAnswer A). first_of_both refused (refusal_in begin g)) given_is ∙ ap (λ (b : ℕ). first_of_both refused (refusal_in b (answer part))) begin_is)
-      ∙ first_of_three refused (refusal_in (begin_of (section part)) (answer part)) (first_refused section answer (drop (i + 1) items))
-      ∙ ap (λ (row : List ModelPart). first_of_both refused (first_refused section answer row)) (sym cut)
+      ∙ first_of_three refused (refusal_in (begin_of (section part)) (answer part)) (first_refused_section section answer (drop (i + 1) items))
+      ∙ ap (λ (row : List ModelPart). first_of_both refused (first_refused_section section answer row)) (sym cut)
       ∙ so_far
 
   pub next_of_models : (rules more : List A) (refused later : Option SectionRefusal) (given : RulesAnswer A) (begin : ℕ) → (refused ≡ None → AreOfModels test (take i items) rules)

@@ -1,4 +1,5 @@
 pub mod Beginning
+pub mod Counting
 pub mod Cut
 pub mod FirstOfBoth
 pub mod Gathering

@@ -12,18 +12,18 @@ pub too_large : (bytes : List ℕ) → 16_777_216 < length bytes → judged_sess
 unfolding judged_session
 too_large bytes large = rw (lt-ltb 16_777_216 (length bytes) large) refl
 
-not_below : (t : Bool) (m n : ℕ) → ltb m n ≡ t → ¬ (m < n) → t ≡ false
-not_below true m n is not = absurd (not (ltb-true m n is))
-not_below false m n is not = refl
+not_below : (t : Bool) (m n : ℕ) → ltb m n ≡ t → n ≤ m → t ≡ false
+not_below true m n is most = absurd (omega (arith, ltb-true m n is, most))
+not_below false m n is most = refl
 
 not_utf8 : (t : Bool) (bytes : List ℕ) → is_utf8 bytes ≡ t → ¬ (IsUtf8 bytes) → t ≡ false
 not_utf8 true bytes is not = absurd (not (IsUtf8-from_is_utf8 bytes is))
 not_utf8 false bytes is not = refl
 
-pub by_text : (bytes : List ℕ) → ¬ (16_777_216 < length bytes) → IsUtf8 bytes → judged_session bytes ≡ judged_text bytes
+pub by_text : (bytes : List ℕ) → length bytes ≤ 16_777_216 → IsUtf8 bytes → judged_session bytes ≡ judged_text bytes
 unfolding judged_session
 by_text bytes small utf8 = rw (not_below (ltb 16_777_216 (length bytes)) 16_777_216 (length bytes) refl small, is_utf8-from_IsUtf8 bytes utf8) refl
 
-pub no_text : (bytes : List ℕ) → ¬ (16_777_216 < length bytes) → ¬ (IsUtf8 bytes) → judged_session bytes ≡ Err (told_session bytes [] (NotText (utf8_valid_len bytes)))
+pub no_text : (bytes : List ℕ) → length bytes ≤ 16_777_216 → ¬ (IsUtf8 bytes) → judged_session bytes ≡ Err (told_session bytes [] (NotText (utf8_valid_len bytes)))
 unfolding judged_session
 no_text bytes small not = rw (not_below (ltb 16_777_216 (length bytes)) 16_777_216 (length bytes) refl small, not_utf8 (is_utf8 bytes) bytes refl not) refl

@@ -34,17 +34,17 @@ module _ {A : Type 0} where
   in_front_of (Ok rules) later = rules ∷ later
   in_front_of (Err refusal) later = later
 
-  abbrev pub unless_refused : Option SectionRefusal → List A → RulesAnswer (List A)
-  unless_refused None rules = Ok rules
-  unless_refused (Some refused) rules = Err refused.1
+  abbrev pub unless_section_refused : Option SectionRefusal → List A → RulesAnswer (List A)
+  unless_section_refused None rules = Ok rules
+  unless_section_refused (Some refused) rules = Err refused.1
 
 -- The parts are models, with what else their rules are read by; each has a section or none.
 module _ {P A : Type 0} where
   -- of the parts' sections that are refused, the refusal of the one that begins first
-  abbrev pub first_refused : (P → Option TokenRange) → (P → RulesAnswer A) → List P → Option SectionRefusal
-  first_refused section answer [] = None
-  first_refused section answer (part ∷ parts) =
-      first_of_both (refusal_in (begin_of (section part)) (answer part)) (first_refused section answer parts)
+  abbrev pub first_refused_section : (P → Option TokenRange) → (P → RulesAnswer A) → List P → Option SectionRefusal
+  first_refused_section section answer [] = None
+  first_refused_section section answer (part ∷ parts) =
+      first_of_both (refusal_in (begin_of (section part)) (answer part)) (first_refused_section section answer parts)
 
   -- the rules of the parts whose sections are not refused, in the order of the parts
   abbrev pub accepted_rules : (P → RulesAnswer A) → List P → List A
@@ -53,4 +53,4 @@ module _ {P A : Type 0} where
 
   -- the rules of all parts, or the refusal that stands first in the text
   abbrev pub all_rules : (P → Option TokenRange) → (P → RulesAnswer A) → List P → RulesAnswer (List A)
-  all_rules section answer parts = unless_refused (first_refused section answer parts) (accepted_rules answer parts)
+  all_rules section answer parts = unless_section_refused (first_refused_section section answer parts) (accepted_rules answer parts)

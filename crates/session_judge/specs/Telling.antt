@@ -20,10 +20,10 @@ abbrev pub are_equal_places : Place → Place → Bool
 are_equal_places one other = nat_eq one.line other.line && nat_eq one.column other.column
 
 -- the text of the token that stands at a place, or nothing where none does
-abbrev pub word_at : List ℕ → Place → List Token → List ℕ
-word_at text place [] = []
-word_at text place (token ∷ later) =
-    if are_equal_places (place_of text token.from) place then slice_of text token.from token.to else word_at text place later
+abbrev pub word_standing_at : List ℕ → Place → List Token → List ℕ
+word_standing_at text place [] = []
+word_standing_at text place (token ∷ later) =
+    if are_equal_places (place_of text token.from) place then slice_of text token.from token.to else word_standing_at text place later
 
 -- ---- forms
 
@@ -59,11 +59,11 @@ told_dataset number fault = record (told_name (codes "Dataset")) { number = Some
 
 -- a refusal of a model or of the names of a session, by the tokens of the text
 abbrev pub told_check : List ℕ → List Token → CheckError → Refusal
-told_check text tokens (check.Unknown place) = told_word (codes "Unknown") place (word_at text place tokens)
-told_check text tokens (check.Duplicate place) = told_word (codes "Duplicate") place (word_at text place tokens)
-told_check text tokens (check.WrongType place) = told_word (codes "WrongType") place (word_at text place tokens)
-told_check text tokens (check.NotLinear place) = told_word (codes "NotLinear") place (word_at text place tokens)
-told_check text tokens (check.OutOfRange place) = told_word (codes "OutOfRange") place (word_at text place tokens)
+told_check text tokens (check.Unknown place) = told_word (codes "Unknown") place (word_standing_at text place tokens)
+told_check text tokens (check.Duplicate place) = told_word (codes "Duplicate") place (word_standing_at text place tokens)
+told_check text tokens (check.WrongType place) = told_word (codes "WrongType") place (word_standing_at text place tokens)
+told_check text tokens (check.NotLinear place) = told_word (codes "NotLinear") place (word_standing_at text place tokens)
+told_check text tokens (check.OutOfRange place) = told_word (codes "OutOfRange") place (word_standing_at text place tokens)
 told_check text tokens (check.TooMany what place) = told_limit what place
 told_check text tokens check.OutOfMemory = told_name (codes "OutOfMemory")
 
@@ -83,10 +83,10 @@ told_session text tokens session.OutOfMemory = told_name (codes "OutOfMemory")
 -- a refusal of rules
 abbrev pub told_rule : List ℕ → List Token → RuleError → Refusal
 told_rule text tokens (rule.Syntax place) = told_place (codes "Syntax") place
-told_rule text tokens (rule.Unknown place) = told_word (codes "Unknown") place (word_at text place tokens)
-told_rule text tokens (rule.Duplicate place) = told_word (codes "Duplicate") place (word_at text place tokens)
-told_rule text tokens (rule.WrongType place) = told_word (codes "WrongType") place (word_at text place tokens)
-told_rule text tokens (rule.OutOfRange place) = told_word (codes "OutOfRange") place (word_at text place tokens)
+told_rule text tokens (rule.Unknown place) = told_word (codes "Unknown") place (word_standing_at text place tokens)
+told_rule text tokens (rule.Duplicate place) = told_word (codes "Duplicate") place (word_standing_at text place tokens)
+told_rule text tokens (rule.WrongType place) = told_word (codes "WrongType") place (word_standing_at text place tokens)
+told_rule text tokens (rule.OutOfRange place) = told_word (codes "OutOfRange") place (word_standing_at text place tokens)
 told_rule text tokens (rule.TooMany what place) = told_limit what place
-told_rule text tokens (rule.Invalid place) = told_word (codes "Invalid") place (word_at text place tokens)
+told_rule text tokens (rule.Invalid place) = told_word (codes "Invalid") place (word_standing_at text place tokens)
 told_rule text tokens rule.OutOfMemory = told_name (codes "OutOfMemory")

@@ -4,7 +4,7 @@ ghost use Rattle.std.specs.Prelude.{◌≡◌, ◌++◌, IfOk, OnOk, length, min
 ghost use Rattle.aerie_text.specs.Json.{line_of as line_of_by};
 ghost use Rattle.json_line.specs.Parts.{data_tokens};
 ghost use Rattle.report_text.specs.Fields.{natural_data};
-ghost use Rattle.session_judge.specs.Accepted.{accepted_data, counts_data, command_count as command_count_by, count_limit};
+ghost use Rattle.session_judge.specs.Accepted.{accepted_data, counts_data, command_count as command_count_by, told_count_limit};
 
 use aerie_base::OutOfMemory;
 use json_line::{JsonData, JsonLine, line_of};
@@ -13,7 +13,7 @@ use std::alloc::Global;
 
 /// The commands of all clients; more than 2^64 - 1 are told as so many.
 fn command_count(clients: &[Client]) -> u64
-    ensures { result ≡ min (command_count_by clients.now) count_limit }
+    ensures { result ≡ min (command_count_by clients.now) told_count_limit }
 {
     let mut count = 0u64;
     for client in clients {
@@ -22,13 +22,19 @@ fn command_count(clients: &[Client]) -> u64
     count
 }
 
-/// How many clients and commands a session has, and that it is so.
-fn write_counts(line: &mut JsonLine, session: &Session, state: &str) -> Result<(), OutOfMemory>
-    ensures { OnOk result (line.new ≡ line.old ++ data_tokens (counts_data session.now state.now)) }
+/// How many clients and commands a session has, and what is said of it.
+#[tactic(auto, using(json_line::proofs::Steps::part_by_part))]
+fn write_counts(
+    line: &mut JsonLine,
+    clients: usize,
+    commands: u64,
+    state: &str,
+) -> Result<(), OutOfMemory>
+    ensures { OnOk result (line.new ≡ line.old ++ data_tokens (counts_data clients commands state.now)) }
 {
     line.begin_object()?;
-    line.member("clients", &session.clients.len())?;
-    line.member("commands", &command_count(session.clients.as_slice()))?;
+    line.member("clients", &clients)?;
+    line.member("commands", &commands)?;
     line.text_member("session", state)?;
     line.end_object()
 }
@@ -43,7 +49,8 @@ impl<'a> JsonData for Accepted<'a> {
     ghost as_data = { λ accepted. accepted_data accepted.session.now };
 
     fn write(&self, line: &mut JsonLine) -> Result<(), OutOfMemory> {
-        write_counts(line, self.session, "ok")
+        let clients = self.session.clients.as_slice();
+        write_counts(line, clients.len(), command_count(clients), "ok")
     }
 }
 

@@ -9,7 +9,7 @@ ghost use Rattle.session_judge.specs.OfModels.{AreOfModels, are_constraints};
 ghost use Rattle.session_judge.specs.Rules.{constraints_of_part as constraints_of_part_by, constraints_of_section as constraints_of_section_by, session_constraints as session_constraints_by};
 
 use crate::gathered::Gathered;
-use crate::sections::{TokenRange, begin_of, tokens_in};
+use crate::sections::{SectionRange, begin_of, tokens_in};
 use crate::telling::told_rule;
 use aerie_base::{List, Model, Name, OutOfMemory, Shared};
 use aerie_text::Token;
@@ -29,7 +29,7 @@ fn constraints_in(
     tokens: &[Token],
     datasets: &[(Name, Shared<Series>)],
     model: &Model,
-    range: TokenRange,
+    range: SectionRange,
 ) -> Result<ConstraintsAnswer, OutOfMemory>
     requires short { length text.now < 4_294_967_295 }
     requires tokens { AreTokensWithin text.now tokens.now }

@@ -1,7 +1,7 @@
 //! The rules of a sort, gathered model by model.
 
 ghost use Rattle.std.specs.Prelude.{◌≡◌, ◌++◌, ◌∷◌, [], Some, None, IfOk};
-ghost use Rattle.session_judge.specs.FirstRefused.{first_of_both, first_of_two, in_front_of, refusal_in, unless_refused};
+ghost use Rattle.session_judge.specs.FirstRefused.{first_of_both, first_of_two, in_front_of, refusal_in, unless_section_refused};
 
 use aerie_base::{List, OutOfMemory};
 use report_text::Refusal;
@@ -70,7 +70,7 @@ impl<A: Drop> Gathered<A> {
 
     /// The rules of all, or what stands first in the text of what is refused.
     pub(crate) fn answer(self) -> Result<List<A>, Refusal>
-        ensures { result ≡ unless_refused self.refused self.rules }
+        ensures { result ≡ unless_section_refused self.refused self.rules }
     {
         let Gathered { rules, refused } = self;
         match refused {

@@ -8,7 +8,7 @@ ghost use Rattle.session_judge.specs.OfModels.{AreOfModels, are_sendable};
 ghost use Rattle.session_judge.specs.Rules.{sequence_of_part as sequence_of_part_by, sequence_of_section as sequence_of_section_by, session_sequences as session_sequences_by};
 
 use crate::gathered::Gathered;
-use crate::sections::{TokenRange, begin_of, tokens_in};
+use crate::sections::{SectionRange, begin_of, tokens_in};
 use crate::telling::told_rule;
 use aerie_base::{List, Model, OutOfMemory};
 use aerie_text::Token;
@@ -26,7 +26,7 @@ fn sequence_in(
     text: &str,
     tokens: &[Token],
     model: &Model,
-    range: TokenRange,
+    range: SectionRange,
 ) -> Result<SequenceAnswer, OutOfMemory>
     requires short { length text.now < 4_294_967_295 }
     requires tokens { AreTokensWithin text.now tokens.now }

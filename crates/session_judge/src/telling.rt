@@ -4,9 +4,9 @@ ghost use Rattle.std.specs.Prelude.{◌≡◌, ◌<◌, All, IfOk, length};
 ghost use Rattle.aerie_text.specs.Cut.{IsTokenOf};
 ghost use Rattle.constraints.specs.declared.rule_error.RuleError.TheVariants.{OutOfMemory as NoMemoryForRules};
 ghost use Rattle.session_reader.specs.declared.session_error.SessionError.TheVariants.{OutOfMemory as NoMemoryForSession};
-ghost use Rattle.session_judge.specs.Telling.{told_check as told_check_by, told_dataset as told_dataset_by, told_directive as told_directive_by, told_limit as told_limit_by, told_name as told_name_by, told_offset as told_offset_by, told_place as told_place_by, told_rule as told_rule_by, told_session as told_session_by, told_word, word_at as word_at_by};
+ghost use Rattle.session_judge.specs.Telling.{told_check as told_check_by, told_dataset as told_dataset_by, told_directive as told_directive_by, told_limit as told_limit_by, told_name as told_name_by, told_offset as told_offset_by, told_place as told_place_by, told_rule as told_rule_by, told_session as told_session_by, told_word, word_standing_at as word_standing_at_by};
 
-use crate::words::word_at;
+use crate::words::word_standing_at;
 use aerie_base::{OutOfMemory, Place, Text};
 use aerie_text::Token;
 use constraints::RuleError;
@@ -53,10 +53,10 @@ fn told_at(
 ) -> Result<Refusal, OutOfMemory>
     requires short { length text.now < 4_294_967_295 }
     requires tokens { All (IsTokenOf text.now) tokens.now }
-    ensures { IfOk result (λ refusal. refusal ≡ told_word name.now place (word_at_by text.now place tokens.now)) }
+    ensures { IfOk result (λ refusal. refusal ≡ told_word name.now place (word_standing_at_by text.now place tokens.now)) }
 {
     let mut refusal = told_place(alloc, name, place)?;
-    refusal.word = Some(word_at(alloc, text, place, tokens)?);
+    refusal.word = Some(word_standing_at(alloc, text, place, tokens)?);
     Ok(refusal)
 }
 

@@ -5,7 +5,7 @@ ghost use Rattle.std.specs.Str.{IsCharBoundary};
 ghost use Rattle.aerie_text.specs.Cut.{IsTokenOf};
 ghost use Rattle.aerie_text.specs.Marks.{slice_of};
 ghost use Rattle.aerie_text.specs.Places.{place_of as place_of_by};
-ghost use Rattle.session_judge.specs.Telling.{are_equal_places, word_at as word_at_by};
+ghost use Rattle.session_judge.specs.Telling.{are_equal_places, word_standing_at as word_standing_at_by};
 
 use aerie_base::{OutOfMemory, Place, Text};
 use aerie_text::{Token, place_of, place_on};
@@ -43,7 +43,7 @@ fn text_of(alloc: Global, text: &str, token: Token) -> Result<Text, OutOfMemory>
 }
 
 /// The text of the token that stands at a place, or nothing where none does. It takes time linear in the text.
-pub(crate) fn word_at(
+pub(crate) fn word_standing_at(
     alloc: Global,
     text: &str,
     place: Place,
@@ -51,7 +51,7 @@ pub(crate) fn word_at(
 ) -> Result<Text, OutOfMemory>
     requires short { length text.now < 4_294_967_295 }
     requires tokens { All (IsTokenOf text.now) tokens.now }
-    ensures { IfOk result (λ word. word ≡ word_at_by text.now place tokens.now) }
+    ensures { IfOk result (λ word. word ≡ word_standing_at_by text.now place tokens.now) }
 {
     let mut from = 0;
     let mut at = Place { line: 1, column: 1 };
