@@ -1,5 +1,4 @@
 pub mod Beginning
-pub mod Counting
 pub mod Cut
 pub mod FirstOfBoth
 pub mod Gathering

@@ -1,4 +1,3 @@
-pub mod Accepted
 pub mod FirstRefused
 pub mod Judging
 pub mod OfModels

@@ -2,7 +2,6 @@
 //! told.
 #![tactic(auto)]
 
-mod accepted;
 mod constraint_sections;
 mod gathered;
 mod judge_error;
@@ -13,7 +12,6 @@ mod sequence_sections;
 mod telling;
 mod words;
 
-pub use accepted::accepted_line;
 pub use judge_error::JudgeError;
 pub use judged::JudgedSession;
 pub use judging::judge;
