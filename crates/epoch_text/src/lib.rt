@@ -11,4 +11,4 @@ mod writing;
 pub use bad_start::BadStart;
 pub use reading::read_start;
 pub use start::Start;
-pub use writing::day_text;
+pub use writing::{day_text, push_day_text};

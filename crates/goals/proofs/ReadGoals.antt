@@ -1,5 +1,5 @@
 -- Goals of which nothing is refused are of the model.
-use Rattle.std.proofs.Common.{◌≡◌, ℕ, zero, suc, ℤ, pos, Bool, true, false, not, ◌&&◌, IsTrue, List, [], ◌∷◌, ◌++◌, Option, Some, None, nat_le, nat_lt, refl, sym, ap, subst, ◌∙◌, if◌then◌else◌}
+use Rattle.std.proofs.Common.{◌≡◌, ℕ, zero, suc, ℤ, pos, Bool, true, false, not, IsTrue, List, [], ◌∷◌, ◌++◌, Option, Some, None, nat_le, nat_lt, refl, ap, ◌∙◌, if◌then◌else◌}
 use Rattle.std.specs.Prelude.{int_le}
 use Rattle.std.specs.List.{list_all}
 use Rattle.std.specs.Int.RustNames.{unsigned_abs}
@@ -7,7 +7,6 @@ use Rattle.aerie_base.specs.Ranges.{time_limit}
 use Rattle.aerie_base.specs.declared.models.Activity.{Activity}
 use Rattle.aerie_base.specs.declared.models.model.Parts.{Parts}
 use Rattle.aerie_base.specs.models.ValidModel.{valid_model}
-use Rattle.model_reader.specs.declared.raw.names.RawName.{RawName}
 use Rattle.rule_grammar.specs.declared.raw.goals.RawAnchor.{RawAnchor}
 use Rattle.rule_grammar.specs.declared.raw.goals.RawAnchor.TheVariants as raw_anchor
 use Rattle.rule_grammar.specs.declared.raw.goals.RawGoal.{RawGoal}
@@ -24,7 +23,7 @@ use Rattle.constraints.specs.reading.RefusalLaws.{both_empty, or_empty, none_fou
 use Rattle.constraints.specs.reading.Refusals.{first_of_refusals, wrong_unless}
 use Rattle.constraints.specs.reading.RuleLiterals.{activity_named}
 use Rattle.constraints.specs.reading.RuleNames.{Datasets}
-use Rattle.goals.specs.OfModel.{is_template, is_anchor, is_count, are_shifts, is_goal_kind, is_goal}
+use Rattle.goals.specs.OfModel.{is_template, is_anchor, is_count, is_goal_kind, is_goal}
 use Rattle.goals.specs.reading.GoalMeaning.{meant_count, meant_anchor, meant_kind, meant_goal, meant_goals}
 use Rattle.goals.specs.reading.GoalRefusals.{is_range_within, is_count_within, refusals_of_every, refusals_of_range, refusals_of_count, refusals_of_shifts, refusals_of_anchor, refusals_of_kind, is_goal_named, refusals_of_keeping, refusals_of_goal, refusals_of_goals_behind, refusals_of_goals}
 use Rattle.goals.specs.reading.TemplateMeaning.{meant_template}

@@ -11,8 +11,7 @@ use Rattle.aerie_base.specs.declared.values.Kind.{Kind}
 use Rattle.aerie_base.specs.declared.values.Kind.TheVariants.{Int, Truth, Enum}
 use Rattle.aerie_base.specs.declared.values.Value.{Value}
 use Rattle.aerie_base.specs.expressions.Typing.{same_kind}
-use Rattle.aerie_base.specs.models.Activities.{is_default, is_parameter, are_parameters, parameter_names, are_requires, is_result, is_activity, activity_setting}
-use Rattle.aerie_base.specs.models.Bodies.{is_body}
+use Rattle.aerie_base.specs.models.Activities.{is_default, is_parameter, are_parameters, parameter_names, are_requires, is_result, is_activity}
 use Rattle.aerie_base.specs.models.Limits.{parameter_limit, type_limit}
 use Rattle.aerie_base.specs.models.Names.{same_name, is_name_among, are_distinct}
 use Rattle.aerie_base.specs.models.Signatures.{parameter_kinds, signatures_of}
@@ -31,7 +30,6 @@ use Rattle.constraints.specs.reading.RefusalLaws.{both_empty, or_empty}
 use Rattle.constraints.specs.reading.Refusals.{wrong_unless}
 use Rattle.constraints.specs.reading.RuleLiterals.{activity_named, parameters_if_known, known_parameter, refusals_of_named_variant, refusals_of_literal, literal_kind, literal_value}
 use Rattle.constraints.specs.reading.RuleNames.{short_number, place_of_enum}
-use Rattle.goals.specs.declared.types.Template.{Template}
 use Rattle.goals.specs.reading.TemplateMeaning.{Argument, default_or_false, written_or_default, template_value, meant_template}
 use Rattle.goals.specs.reading.TemplateRefusals.{has_argument, is_kind_if_known, refusals_of_value, refusals_of_argument, refusals_of_arguments, is_given_or_default, refusals_of_given}
 

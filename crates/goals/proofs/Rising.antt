@@ -1,5 +1,5 @@
 -- Times that rise, one by one and by their places.
-use Rattle.std.proofs.Common.{◌≡◌, ℕ, zero, suc, ◌+◌, ◌≤◌, ◌<◌, Bool, true, false, ◌||◌, List, [], ◌∷◌, length, get_or, refl, sym, ap, subst, ◌∙◌, arith, nat_eq, nat_lt, if◌then◌else◌}
+use Rattle.std.proofs.Common.{◌≡◌, ℕ, zero, suc, ◌≤◌, ◌<◌, Bool, true, false, ◌||◌, List, [], ◌∷◌, length, get_or, refl, sym, subst, arith, nat_eq, nat_lt, if◌then◌else◌}
 use Rattle.std.specs.Prelude.{Result, Ok, Err, MatchResult, is_ok}
 use Rattle.std.specs.List.{list_any}
 use Rattle.std.specs.List.Sorted.{IsNonDecreasingBy, IsBinarySearchResult}
@@ -9,7 +9,7 @@ use Rattle.std.proofs.lemmas.List.Folds.{list_any_at}
 use Rattle.std.proofs.lemmas.List.Sorted.{searched}
 use Rattle.aerie_base.specs.declared.models.model.Parts.{Parts}
 use Rattle.run_data.specs.declared.runs.Run.{Run}
-use Rattle.run_data.specs.Spans.{SpanOf, Timed, sorted_spans, spans_from, spans_of, timed}
+use Rattle.run_data.specs.Spans.{SpanOf, spans_from, spans_of, timed}
 use Rattle.constraints.specs.Meeting.{StartBehind, ByStart}
 use Rattle.constraints.proofs.SpanOrder.{sorted_order}
 use Rattle.goals.specs.declared.types.Template.{Template}

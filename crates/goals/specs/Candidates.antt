@@ -1,5 +1,5 @@
 -- The times at which a goal's activity is tried, in the order in which it is.
-use Rattle.std.specs.Prelude.{◌≡◌, ℕ, zero, suc, ◌+◌, ◌-◌, ◌/◌, ℤ, pos, negsuc, ◌+ℤ◌, ◌-ℤ◌, Bool, false, not, ◌&&◌, List, [], ◌∷◌, ◌++◌, length, max, nat_eq, nat_lt, int_le, int_lt, refl, if◌then◌else◌}
+use Rattle.std.specs.Prelude.{◌≡◌, ℕ, zero, suc, ◌-◌, ◌/◌, ℤ, pos, negsuc, ◌+ℤ◌, ◌-ℤ◌, Bool, false, not, ◌&&◌, List, [], ◌∷◌, ◌++◌, length, max, nat_eq, nat_lt, int_le, int_lt, refl, if◌then◌else◌}
 use Rattle.std.specs.List.{filter, list_any}
 use Rattle.std.specs.Int.RustNames.{unsigned_abs}
 

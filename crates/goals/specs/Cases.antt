@@ -1,5 +1,5 @@
 -- Worked cases of goals, over runs that are computed from their plans.
-use Rattle.std.specs.Prelude.{◌≡◌, ℕ, ◌*◌, ℤ, pos, true, false, List, [], ◌∷◌, Option, Some, None, codes, length, slice_get, refl}
+use Rattle.std.specs.Prelude.{◌≡◌, ℕ, ◌*◌, pos, true, false, List, [], ◌∷◌, Some, None, codes, length, slice_get, refl}
 use Rattle.aerie_base.specs.declared.expressions.Comparison.TheVariants.{AtLeast}
 use Rattle.aerie_base.specs.declared.expressions.Expr.TheBlock.{hidden-the_row-Expr-0, shape-the_row-Expr-0}
 use Rattle.aerie_base.specs.declared.models.Resource.TheVariants as resource

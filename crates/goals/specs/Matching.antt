@@ -1,5 +1,5 @@
 -- Which spans a goal's template matches, and when they start.
-use Rattle.std.specs.Prelude.{◌≡◌, ℕ, Bool, true, false, ◌&&◌, List, [], ◌∷◌, None, nat_eq, pos, refl, if◌then◌else◌}
+use Rattle.std.specs.Prelude.{◌≡◌, ℕ, Bool, false, ◌&&◌, List, [], ◌∷◌, None, nat_eq, pos, refl, if◌then◌else◌}
 use Rattle.aerie_base.specs.declared.values.Value.{Value}
 use Rattle.aerie_base.specs.declared.values.Value.TheVariants.{Int, Truth}
 use Rattle.aerie_base.specs.declared.models.model.Parts.{Parts}

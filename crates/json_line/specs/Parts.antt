@@ -37,6 +37,11 @@ unfoldable pub member_if_tokens : List ℕ → Option Data → List Token
 member_if_tokens name (Some data_) = member_tokens name data_
 member_if_tokens name None = []
 
+-- the tokens of these values, one behind another
+unfoldable pub listed_tokens : List Data → List Token
+listed_tokens [] = []
+listed_tokens (data_ ∷ later) = data_tokens data_ ++ listed_tokens later
+
 -- what stands behind these tokens, when the members that are left and the closing bracket have been written
 unfoldable pub with_members : List Token → Members → List Token
 with_members front members = front ++ members_tokens (members_outline members)

@@ -1,6 +1,6 @@
 //! What is written as JSON.
 
-ghost use Rattle.std.specs.Prelude.{◌≡◌, ◌++◌, List, ℕ, OnOk};
+ghost use Rattle.std.specs.Prelude.{◌≡◌, ◌++◌, List, ℕ, OnOk, string_bytes};
 ghost use Rattle.serde_json.specs.Data.{Data};
 ghost use Rattle.json_line.specs.Parts.{data_tokens, member_tokens};
 
@@ -35,4 +35,14 @@ pub trait JsonIn<C> {
     /// Writes it.
     fn write_in(&self, context: &C, line: &mut JsonLine) -> Result<(), OutOfMemory>
         ensures { OnOk result (line.new ≡ line.old ++ data_tokens (data_in context.now self.now)) };
+}
+
+/// What is written as a text that is put together of parts.
+pub trait JsonText {
+    /// The bytes of the text.
+    ghost as_text: { Self → List ℕ };
+
+    /// Appends the text.
+    fn push_to(&self, text: &mut String) -> Result<(), OutOfMemory>
+        ensures { OnOk result (string_bytes text.new ≡ string_bytes text.old ++ as_text self.now) };
 }

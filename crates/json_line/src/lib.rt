@@ -5,8 +5,9 @@
 mod data;
 mod line;
 mod parts;
+mod paths;
 mod values;
 
-pub use data::{JsonData, JsonIn, JsonMember};
+pub use data::{JsonData, JsonIn, JsonMember, JsonText};
 pub use line::JsonLine;
 pub use parts::{line_of, line_of_in};

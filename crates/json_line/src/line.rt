@@ -8,6 +8,7 @@ ghost use Rattle.serde_json.specs.Find.{of_integer};
 ghost use Rattle.serde_json.specs.Written.{compact_text};
 ghost use Rattle.json_line.specs.Parts.{data_tokens};
 
+use crate::data::JsonText;
 use aerie_base::OutOfMemory;
 use itoa::Buffer;
 use json::Writer;
@@ -21,6 +22,7 @@ use std::marker::Model;
 #[derive(Drop)]
 pub struct JsonLine {
     out: Writer,
+    text: String,
 }
 
 impl Model for JsonLine {
@@ -43,6 +45,7 @@ impl JsonLine {
     {
         JsonLine {
             out: Writer::new(Vec::new(alloc)),
+            text: String::new(alloc),
         }
     }
 
@@ -121,6 +124,16 @@ impl JsonLine {
         Ok(self.out.string(text)?)
     }
 
+    /// A text that is put together of parts. One buffer serves all such texts of the line.
+    #[tactic(auto, unfolding(crate::specs::Parts::data_tokens))]
+    pub fn text_of<T: JsonText>(&mut self, value: &T) -> Result<(), OutOfMemory>
+        ensures { OnOk result (self.new ≡ self.old ++ data_tokens (string (T.as_text value.now))) }
+    {
+        self.text.clear();
+        value.push_to(&mut self.text)?;
+        Ok(self.out.string(self.text.as_str())?)
+    }
+
     /// The text of a whole number's decimal digits, with `-` where it is negative: for numbers that may be too large for a
     /// number of JSON.
     pub fn digits(&mut self, z: i128) -> Result<(), OutOfMemory>
@@ -134,7 +147,7 @@ impl JsonLine {
     pub fn finish(self) -> Result<String, OutOfMemory>
         ensures { (d : Data) → self ≡ data_tokens d → IfOk result (λ line. string_bytes line ≡ compact_text d ++ 10 ∷ []) }
     {
-        let JsonLine { out } = self;
+        let JsonLine { out, .. } = self;
         let bytes = out.into_inner();
         let mut text = unsafe { String::from_utf8_unchecked(bytes) };
         text.push_str("\n")?;

@@ -4,9 +4,9 @@ ghost use Rattle.std.specs.Prelude.{◌≡◌, ◌++◌, ◌∷◌, [], IfOk, On
 ghost use Rattle.serde_json.specs.Data.{array, object, string};
 ghost use Rattle.serde_json.specs.View.{items_of};
 ghost use Rattle.serde_json.specs.Written.{compact_text};
-ghost use Rattle.json_line.specs.Parts.{data_tokens, member_if_tokens, member_tokens, members_from};
+ghost use Rattle.json_line.specs.Parts.{data_tokens, listed_tokens, member_if_tokens, member_tokens, members_from};
 
-use crate::data::{JsonData, JsonIn, JsonMember};
+use crate::data::{JsonData, JsonIn, JsonMember, JsonText};
 use crate::line::JsonLine;
 use aerie_base::OutOfMemory;
 use std::alloc::Global;
@@ -43,6 +43,15 @@ impl JsonLine {
     {
         self.key(name)?;
         self.text(text)
+    }
+
+    /// A member whose value is a text that is put together of parts.
+    #[tactic(auto, unfolding(crate::specs::Parts::member_tokens))]
+    pub fn text_member_of<T: JsonText>(&mut self, name: &str, value: &T) -> Result<(), OutOfMemory>
+        ensures { OnOk result (self.new ≡ self.old ++ member_tokens name.now (string (T.as_text value.now))) }
+    {
+        self.key(name)?;
+        self.text_of(value)
     }
 
     /// A member whose value is written as what it belongs to says.
@@ -97,6 +106,17 @@ impl JsonLine {
             item.write_in(context, self)?;
         }
         self.end_array()
+    }
+
+    /// Items of an array that is open, each written as what it belongs to says.
+    #[tactic(auto, unfolding(crate::specs::Parts::listed_tokens))]
+    pub fn items_in<C, T: JsonIn<C>>(&mut self, context: &C, items: &[T]) -> Result<(), OutOfMemory>
+        ensures { OnOk result (self.new ≡ self.old ++ listed_tokens (map (T.data_in context.now) items.now)) }
+    {
+        for item in items {
+            item.write_in(context, self)?;
+        }
+        Ok(())
     }
 
     /// The object of these members, in their order. That this is the order of the bytes of their names, as in every object

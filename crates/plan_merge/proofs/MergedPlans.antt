@@ -57,11 +57,10 @@ module _ (model : Parts) (duration : ℕ) where
   of_plan plan is lasts d among =
       let takes_them = takes model.enums (slice_get model.activities d.kind) d.arguments in
       let parts = both (takes_them && nat_lt d.start plan.duration) (is_there plan.directives (anchored_to d))
-          (all_at (is_directive_of model plan) plan.directives among.0 d is.directives among.1) in
+      (all_at (is_directive_of model plan) plan.directives among.0 d is.directives among.1) in
       subst (λ (end : ℕ). IsTrue (takes_them && nat_lt d.start end)) lasts parts.0
 
   module _ (base source target : Plan) (of_source : AllFit source.directives) (of_target : AllFit target.directives) where
-
     -- a renamed directive of the source
     of_renamed : (x d : Directive) → IsAmong source.directives x → renamed base source target x ≡ d → IsTrue (fits d)
     of_renamed x d among is = subst (λ y. IsTrue (fits y)) is (of_source x among)
@@ -186,7 +185,7 @@ like_target model base source target of_source of_target lasts next plan is orde
         let takes_them = takes model.enums (slice_get model.activities d.kind) d.arguments in
         let among = subst (λ (ds : List Directive). slice_get ds at ≡ Some d) (ap (λ (p : Plan). p.directives) is) here in
         let fit = of_merged model target.duration base source target (of_plan model target.duration source of_source lasts)
-            (of_plan model target.duration target of_target refl) d (at, among) in
+        (of_plan model target.duration target of_target refl) d (at, among) in
         let there = all_at (λ (x : Directive). is_there plan.directives (anchored_to x)) plan.directives at d order.anchors here in
         pass_both (takes_them && nat_lt d.start plan.duration) (is_there plan.directives (anchored_to d))
         (subst (λ (end : ℕ). IsTrue (takes_them && nat_lt d.start end)) (sym lasts_too) fit) there

@@ -1,6 +1,14 @@
+mod ArgumentMembers
 pub mod ArgumentOrders
 pub mod Arrays
+mod FirstPlaces
+mod NewIds
 pub mod Numbers
 pub mod Placing
+mod RawArguments
 pub mod Resources
 pub mod ShownDirectives
+mod ShownLoads
+pub mod Violated
+mod WrittenDirectives
+mod WrittenValues

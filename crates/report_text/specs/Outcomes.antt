@@ -10,7 +10,7 @@ use Rattle.run_data.specs.declared.runs.Outcome.TheVariants.{Completed, Failed, 
 use Rattle.run_data.specs.declared.runs.Who.{Who}
 use Rattle.run_data.specs.declared.runs.Who.TheVariants.{Task, Cell}
 use Rattle.report_text.specs.Fields.{natural_data}
-use Rattle.report_text.specs.PathTexts.{path_text}
+use Rattle.json_line.specs.PathTexts.{path_data}
 
 abbrev pub fault_word : Fault → List ℕ
 fault_word Range = codes "Range"
@@ -25,7 +25,7 @@ cell_name model cell = unwrap_or (option_map (λ named. named.0) (slice_get mode
 -- a fault of a task, by its path
 abbrev pub over_task_data : ℕ → Fault → List ℕ → Data
 over_task_data time fault path =
-    object_of ((codes "fault", string (fault_word fault)) ∷ (codes "task", string (path_text path)) ∷ (codes "time", natural_data time) ∷ [])
+    object_of ((codes "fault", string (fault_word fault)) ∷ (codes "task", path_data path) ∷ (codes "time", natural_data time) ∷ [])
 
 -- a fault of a cell that left its range, by its name
 abbrev pub over_cell_data : Parts → ℕ → Fault → ℕ → Data

@@ -18,7 +18,7 @@ use Rattle.report_text.specs.ProfileLines.{profile_data}
 use Rattle.report_text.specs.SpanLines.{span_data}
 
 -- a camera with an enumeration, a cell and an activity type whose parameters do not stand in the order of their names
-abbrev camera : Parts
+abbrev pub camera : Parts
 camera = record {
   name = codes "camera";
   enums = record { name = codes "Mode"; variants = codes "OFF" ∷ codes "WIDE" ∷ [] } ∷ [];

@@ -13,7 +13,7 @@ use Rattle.plan_edit.specs.ShownPlan.{Fields, argument_fields, json_of_value}
 use Rattle.run_data.specs.Spans.{SpanOf, spans_of}
 use Rattle.run_data.specs.declared.runs.Run.{Run}
 use Rattle.report_text.specs.Fields.{natural_data}
-use Rattle.report_text.specs.PathTexts.{path_text}
+use Rattle.json_line.specs.PathTexts.{path_data}
 
 -- the name of an activity type, where the model has one of that number
 abbrev pub type_name : Parts → ℕ → List ℕ
@@ -33,7 +33,7 @@ abbrev pub span_data : Parts → ℤ → SpanOf → Data
 span_data model start span =
     object_of ((codes "arguments", arguments_data model span.kind span.arguments)
     ∷ (codes "end", optional_data natural_data span.end)
-    ∷ (codes "path", string (path_text span.path))
+    ∷ (codes "path", path_data span.path)
     ∷ (codes "result", optional_data (json_of_value model.enums) span.result)
     ∷ (codes "start", natural_data span.start)
     ∷ (codes "type", string (type_name model span.kind))

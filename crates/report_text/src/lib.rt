@@ -3,22 +3,34 @@
 //! `Calendar`.
 #![tactic(auto)]
 
+mod answers;
 mod arguments;
 mod edits;
 mod fields;
+mod goal_lines;
+mod journal_lines;
+pub mod laws;
+mod lines;
 mod order;
 mod outcomes;
-mod paths;
 mod plans;
 mod profile_lines;
 mod refusals;
+mod reply_lines;
+mod reports;
+mod sequence_lines;
 mod span_lines;
 mod values;
+mod violation_lines;
 mod wordings;
 
+pub use answers::{Answer, Report, SequenceReport};
 pub use arguments::Arguments;
 pub use fields::Alone;
+pub use journal_lines::journal_line;
+pub use lines::reply_line;
 pub use profile_lines::write_profiles;
 pub use refusals::{Refusal, refusal_line};
 pub use span_lines::{Calendar, write_spans};
+pub use violation_lines::write_violations;
 pub use wordings::Wording;

@@ -52,7 +52,7 @@ fn write_of_task<'a>(
 {
     line.begin_object()?;
     line.text_member("fault", fault_word(fault))?;
-    line.member_in("task", wording, path)?;
+    line.member("task", path)?;
     line.member("time", &time)?;
     line.end_object()
 }

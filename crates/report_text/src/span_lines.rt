@@ -1,15 +1,16 @@
 //! How spans are written.
 
 ghost use Rattle.std.specs.Prelude.{◌≡◌, ◌++◌, OnOk};
+ghost use Rattle.epoch_text.specs.DayTexts.{day_text_of};
 ghost use Rattle.json_line.specs.Parts.{data_tokens};
 ghost use Rattle.span_table.specs.AsDefined.{defined_span};
 ghost use Rattle.report_text.specs.SpanLines.{span_data, spans_data};
 
 use crate::arguments::Arguments;
 use crate::wordings::Wording;
-use aerie_base::OutOfMemory;
-use epoch_text::{Start, day_text};
-use json_line::{JsonIn, JsonLine};
+use aerie_base::{OutOfMemory, Time};
+use epoch_text::{Start, push_day_text};
+use json_line::{JsonIn, JsonLine, JsonText};
 use run_data::Run;
 use span_table::{Span, spans};
 
@@ -22,12 +23,30 @@ pub struct Calendar<'a> {
     pub start: Start,
 }
 
+/// A time of a plan with this start, as it is told in the calendar.
+#[derive(Drop)]
+pub(crate) struct Utc<'b> {
+    pub(crate) start: &'b Start,
+    pub(crate) time: Time,
+}
+
+impl<'b> JsonText for Utc<'b> {
+    ghost as_text = { λ utc. day_text_of utc.start.now utc.time };
+
+    fn push_to(&self, text: &mut String) -> Result<(), OutOfMemory> {
+        push_day_text(text, self.start, self.time)
+    }
+}
+
 impl<'a> JsonIn<Calendar<'a>> for Span {
     ghost data_in = { λ calendar span. span_data calendar.wording calendar.start (defined_span span) };
 
     fn write_in(&self, calendar: &Calendar<'a>, line: &mut JsonLine) -> Result<(), OutOfMemory> {
         let wording = &calendar.wording;
-        let utc = day_text(wording.alloc(), &calendar.start, self.start)?;
+        let utc = Utc {
+            start: &calendar.start,
+            time: self.start,
+        };
         let arguments = Arguments {
             kind: self.kind,
             values: &self.arguments,
@@ -35,11 +54,11 @@ impl<'a> JsonIn<Calendar<'a>> for Span {
         line.begin_object()?;
         line.member_in("arguments", wording, &arguments)?;
         line.member("end", &self.end)?;
-        line.member_in("path", wording, &self.path)?;
+        line.member("path", &self.path)?;
         line.member_in("result", wording, &self.result)?;
         line.member("start", &self.start)?;
         line.text_member("type", wording.type_name(self.kind))?;
-        line.member("utc", &utc)?;
+        line.text_member_of("utc", &utc)?;
         line.end_object()
     }
 }

@@ -2,6 +2,10 @@
 #![tactic(auto)]
 
 #[cfg(test)]
+mod goal_rules;
+#[cfg(test)]
 mod raw_rules;
 #[cfg(test)]
 mod refusals;
+#[cfg(test)]
+mod sequences;

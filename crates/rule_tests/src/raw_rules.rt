@@ -23,26 +23,66 @@ const CASES: [(Section, &str, &str); 14] = [
         "a: n >= 0; b: forbid A, B; c: for x in A: not during(x) or 2 * n - m <= 1h and p;",
         "3 rules",
     ),
-    (Section::Constraints, "a: n", "no rules go on at line 1, column 5"),
-    (Section::Constraints, "a: n; b", "no rules go on at line 1, column 8"),
-    (Section::Constraints, "a: n; 5", "no rules go on at line 1, column 7"),
-    (Section::Constraints, "a: n + 1 == true;", "no rules go on at line 1, column 13"),
-    (Section::Constraints, "a: shift(n, 1s);", "no rules go on at line 1, column 15"),
+    (
+        Section::Constraints,
+        "a: n",
+        "no rules go on at line 1, column 5",
+    ),
+    (
+        Section::Constraints,
+        "a: n; b",
+        "no rules go on at line 1, column 8",
+    ),
+    (
+        Section::Constraints,
+        "a: n; 5",
+        "no rules go on at line 1, column 7",
+    ),
+    (
+        Section::Constraints,
+        "a: n + 1 == true;",
+        "no rules go on at line 1, column 13",
+    ),
+    (
+        Section::Constraints,
+        "a: shift(n, 1s);",
+        "no rules go on at line 1, column 15",
+    ),
     (
         Section::Goals,
         "g: recurrence A(x = -1) every 6h in [0us, 7d) keeping a, b rollback;\nh: coexistence A() for window(n > 1) from -1s to 0s;",
         "2 rules",
     ),
-    (Section::Goals, "g: cardinality A() count 5s in [0us, 7d);", "no rules go on at line 1, column 26"),
-    (Section::Goals, "g: coexistence A() for start of B from 1s", "no rules go on at line 1, column 42"),
+    (
+        Section::Goals,
+        "g: cardinality A() count 5s in [0us, 7d);",
+        "no rules go on at line 1, column 26",
+    ),
+    (
+        Section::Goals,
+        "g: coexistence A() for start of B from 1s",
+        "no rules go on at line 1, column 42",
+    ),
     (
         Section::Sequence,
         "for A: start S(1, x, E.V, return), end - 5s T() if x == true; longer(S, 10s);",
         "2 rules",
     ),
-    (Section::Sequence, "for A: ;", "no rules go on at line 1, column 8"),
-    (Section::Sequence, "for A: start S(x +);", "no rules go on at line 1, column 18"),
-    (Section::Sequence, "longer(S, 10s)", "no rules go on at line 1, column 15"),
+    (
+        Section::Sequence,
+        "for A: ;",
+        "no rules go on at line 1, column 8",
+    ),
+    (
+        Section::Sequence,
+        "for A: start S(x +);",
+        "no rules go on at line 1, column 18",
+    ),
+    (
+        Section::Sequence,
+        "longer(S, 10s)",
+        "no rules go on at line 1, column 15",
+    ),
 ];
 
 /// What is answered of so many rules that were read, or of the error.
@@ -110,8 +150,14 @@ fn deep(alloc: Global, levels: usize) -> Option<String> {
 fn windows_open_64_levels(rt: HostRuntime) {
     let alloc = rt.alloc();
     let most = deep(alloc, 64).expect(&rt, "memory");
-    assert!(&rt; is_answer(alloc, Section::Constraints, most.as_str(), "1 rules"), "64");
+    assert!(&rt;
+        is_answer(alloc, Section::Constraints, most.as_str(), "1 rules"),
+        "64"
+    );
     let beyond = deep(alloc, 65).expect(&rt, "memory");
     let refused = "too many depth at line 66, column 1";
-    assert!(&rt; is_answer(alloc, Section::Constraints, beyond.as_str(), refused), "65");
+    assert!(&rt;
+        is_answer(alloc, Section::Constraints, beyond.as_str(), refused),
+        "65"
+    );
 }

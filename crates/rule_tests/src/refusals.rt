@@ -55,7 +55,7 @@ const CASES: [(&str, &str); 18] = [
 ];
 
 /// The model of a text.
-fn model_in(alloc: Global, text: &str) -> Option<Model> {
+pub(crate) fn model_in(alloc: Global, text: &str) -> Option<Model> {
     if text.len() >= 4_294_967_295 {
         return None;
     }
@@ -73,12 +73,7 @@ fn told(alloc: Global, read: Result<usize, RuleError>) -> Option<String> {
 }
 
 /// How many constraints the tokens of a text are.
-fn count_on(
-    alloc: Global,
-    text: &str,
-    tokens: &[Token],
-    model: &Model,
-) -> Result<usize, RuleError>
+fn count_on(alloc: Global, text: &str, tokens: &[Token], model: &Model) -> Result<usize, RuleError>
     requires short { length text.now < 4_294_967_295 }
     requires tokens { AreTokensWithin text.now tokens.now }
 {
@@ -127,7 +122,10 @@ fn a_model_has_256_constraints(rt: HostRuntime) {
     let alloc = rt.alloc();
     let model = model_in(alloc, MODEL).expect(&rt, "the model");
     let most = many(alloc, 256).expect(&rt, "memory");
-    assert!(&rt; is_answer(alloc, most.as_str(), &model, "256 constraints"), "256");
+    assert!(&rt;
+        is_answer(alloc, most.as_str(), &model, "256 constraints"),
+        "256"
+    );
     let beyond = many(alloc, 257).expect(&rt, "memory");
     let refused = "too many constraints at line 257, column 1";
     assert!(&rt; is_answer(alloc, beyond.as_str(), &model, refused), "257");

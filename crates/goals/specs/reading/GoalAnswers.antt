@@ -4,11 +4,13 @@ use Rattle.aerie_base.specs.declared.models.model.Parts.{Parts}
 use Rattle.aerie_text.specs.declared.token.Token.{Token}
 use Rattle.readers.specs.Marks.{marks_of}
 use Rattle.rule_grammar.specs.RuleAnswers.{answer_of}
+use Rattle.rule_grammar.specs.declared.raw.goals.RawGoal.{RawGoal}
 use Rattle.rule_grammar.specs.reading.Goals.{goals_at}
 use Rattle.rule_grammar.specs.reading.ToTheEnd.{to_the_end}
 use Rattle.constraints.specs.declared.rule_error.RuleError.{RuleError}
 use Rattle.constraints.specs.declared.types.Constraint.{Constraint}
-use Rattle.constraints.specs.reading.ConstraintAnswers.{judged_rules, RuledUnlessOutOfMemory}
+use Rattle.constraints.specs.reading.ConstraintAnswers.{judged_rules, rules_or_refusal, RuledUnlessOutOfMemory}
+use Rattle.constraints.specs.reading.Refusals.{first_of_refusals}
 use Rattle.constraints.specs.reading.RuleNames.{Datasets}
 use Rattle.goals.specs.declared.types.Goal.{Goal}
 use Rattle.goals.specs.reading.GoalMeaning.{meant_goals}
@@ -23,3 +25,8 @@ goals_answer text tokens model duration constraints datasets =
 abbrev pub IsGoalsAnswer : List ℕ → List Token → Parts → ℕ → List Constraint → Datasets → Result (List Goal) RuleError → Type 0
 IsGoalsAnswer text tokens model duration constraints datasets result =
     RuledUnlessOutOfMemory (goals_answer text tokens model duration constraints datasets) result
+
+-- the same of goals that are read as they are written
+abbrev pub IsJudgedGoals : Parts → ℕ → List Constraint → Datasets → List RawGoal → Result (List Goal) RuleError → Type 0
+IsJudgedGoals model duration constraints datasets raw result =
+    RuledUnlessOutOfMemory (rules_or_refusal (first_of_refusals (refusals_of_goals model duration constraints datasets raw)) (meant_goals model datasets raw)) result

@@ -1,5 +1,5 @@
 -- What is refused of goals.
-use Rattle.std.specs.Prelude.{ℕ, ℤ, Bool, ◌&&◌, not, List, [], ◌∷◌, ◌++◌, None, nat_le, nat_lt, int_le}
+use Rattle.std.specs.Prelude.{ℕ, ◌-◌, ℤ, Bool, ◌&&◌, not, List, [], ◌∷◌, ◌++◌, None, nat_le, nat_lt, int_le, take, drop}
 use Rattle.std.specs.List.{list_any}
 use Rattle.std.specs.Int.RustNames.{unsigned_abs}
 use Rattle.aerie_base.specs.declared.models.model.Parts.{Parts}
@@ -98,6 +98,11 @@ too_many_goals goal = wrong_at (TooMany Goals) goal.name.at
 abbrev pub refusals_of_goals_behind : Parts → ℕ → List Constraint → Datasets → ℕ → List RawGoal → List RawGoal → List RuleRefusal
 refusals_of_goals_behind model duration constraints datasets room others goals =
     refusals_in_turn (refusals_of_goal model duration constraints datasets) too_many_goals room others goals
+
+-- the goals from this number on
+abbrev pub refusals_of_goals_from : Parts → ℕ → List Constraint → Datasets → ℕ → List RawGoal → List RuleRefusal
+refusals_of_goals_from model duration constraints datasets at goals =
+    refusals_of_goals_behind model duration constraints datasets (most_goals - at) (take at goals) (drop at goals)
 
 -- what is refused of the goals of a model, by the duration of a plan and the constraints and datasets beside them
 abbrev pub refusals_of_goals : Parts → ℕ → List Constraint → Datasets → List RawGoal → List RuleRefusal

@@ -25,8 +25,12 @@ abbrev pub written_or_default : Parts → Parameter → Option Argument → Valu
 written_or_default model parameter None = default_or_false parameter.default
 written_or_default model parameter (Some argument) = literal_value model argument.1.what
 
+-- the argument for a parameter
+abbrev pub argument_named : List Argument → List ℕ → Option Argument
+argument_named arguments name = find (λ argument. same_name argument.0.name name) arguments
+
 abbrev pub template_value : Parts → List Argument → Parameter → Value
-template_value model arguments parameter = written_or_default model parameter (find (λ (argument : Argument). same_name argument.0.name parameter.name) arguments)
+template_value model arguments parameter = written_or_default model parameter (argument_named arguments parameter.name)
 
 abbrev pub meant_template : Parts → RawTemplate → Template
 meant_template model template = record {

@@ -1,6 +1,6 @@
 -- What is refused of the template of a goal: an activity type and its arguments. What stands behind an argument that is refused
 -- is not judged: it stands later in the text.
-use Rattle.std.specs.Prelude.{ℕ, Bool, true, ◌||◌, not, List, [], ◌∷◌, ◌++◌, Option, Some, None, is_some, slice_get}
+use Rattle.std.specs.Prelude.{ℕ, Bool, true, ◌||◌, not, List, [], ◌∷◌, ◌++◌, Option, Some, None, is_some, slice_get, take, drop}
 use Rattle.std.specs.List.{list_all, list_any}
 use Rattle.aerie_base.specs.declared.models.Activity.{Activity}
 use Rattle.aerie_base.specs.declared.models.Parameter.{Parameter}
@@ -48,6 +48,10 @@ refusals_of_arguments model parameters others [] = []
 refusals_of_arguments model parameters others (argument ∷ rest) =
     refusals_or (refusals_of_argument model parameters others argument) (refusals_of_arguments model parameters (others ++ argument ∷ []) rest)
 
+-- the arguments from this number on
+abbrev pub refusals_of_arguments_from : Parts → List Parameter → ℕ → List Argument → List RuleRefusal
+refusals_of_arguments_from model parameters at arguments = refusals_of_arguments model parameters (take at arguments) (drop at arguments)
+
 -- ---- templates
 
 -- whether a parameter has an argument or a default
@@ -65,11 +69,15 @@ abbrev pub refusals_of_requires : Parts → RawName → Template → List RuleRe
 refusals_of_requires model kind template =
     wrong_unless (not (is_some (unmet_of_type (slice_get model.activities template.kind) template.arguments))) Invalid kind.at
 
+-- the same of what the template means
+abbrev pub refusals_of_meant : Parts → RawTemplate → List RuleRefusal
+refusals_of_meant model template = refusals_of_requires model template.kind (meant_template model template)
+
 -- for a type, where it is known; only what is given well is judged by the `require`s
 abbrev pub refusals_by_type : Parts → RawTemplate → Option Activity → List RuleRefusal
 refusals_by_type model template None = wrong_at Unknown template.kind.at
 refusals_by_type model template (Some activity) =
-    refusals_or (refusals_of_given model activity template) (refusals_of_requires model template.kind (meant_template model template))
+    refusals_or (refusals_of_given model activity template) (refusals_of_meant model template)
 
 abbrev pub refusals_of_template : Parts → RawTemplate → List RuleRefusal
 refusals_of_template model template = refusals_by_type model template (activity_named model template.kind.name)

@@ -1,13 +1,12 @@
 //! What is refused of templates is found. A type has at most 16 parameters, so of more arguments one is refused among the first
 //! 17, and those behind it are not judged: the time is linear in the arguments.
 
-ghost use Rattle.std.specs.Prelude.{◌≡◌, ◌≤◌, OnOk, IsTrue, Some, [], take, drop, length, option_copied, slice_get};
+ghost use Rattle.std.specs.Prelude.{◌≡◌, ◌≤◌, OnOk, IsTrue, Some, [], length, option_copied, slice_get};
 ghost use Rattle.std.specs.List.{list_all};
 ghost use Rattle.aerie_base.specs.plans.OfModel.{takes};
 ghost use Rattle.constraints.specs.reading.Refusals.{found_with, first_of_refusals};
 ghost use Rattle.constraints.specs.reading.RuleLiterals.{activity_named};
-ghost use Rattle.goals.specs.reading.TemplateRefusals.{has_argument, is_kind_if_known, refusals_of_value, refusals_of_argument, refusals_of_arguments, is_given_or_default, refusals_of_given, refusals_of_requires, refusals_by_type, refusals_of_template};
-ghost use Rattle.goals.specs.reading.TemplateMeaning.{meant_template};
+ghost use Rattle.goals.specs.reading.TemplateRefusals.{has_argument, is_kind_if_known, refusals_of_value, refusals_of_argument, refusals_of_arguments_from, is_given_or_default, refusals_of_given, refusals_of_requires, refusals_of_meant, refusals_by_type, refusals_of_template};
 
 use crate::reading::templates::meant_template;
 use crate::types::Template;
@@ -104,7 +103,7 @@ fn judge_arguments(
     found: &mut Option<RuleRefusal>,
 )
     requires there { at ≤ length arguments.now }
-    ensures { found.new ≡ found_with found.old (refusals_of_arguments model.now parameters.now (take at arguments.now) (drop at arguments.now)) }
+    ensures { found.new ≡ found_with found.old (refusals_of_arguments_from model.now parameters.now at arguments.now) }
 {
     let (others, rest) = arguments.split_at(at);
     match rest.split_first() {
@@ -186,7 +185,7 @@ fn judge_good(
 ) -> Result<(), OutOfMemory>
     requires named { activity_named model.now template.now.kind.name ≡ Some activity.now }
     requires given { refusals_of_given model.now activity.now template.now ≡ [] }
-    ensures { OnOk result (found.new ≡ found_with found.old (refusals_of_requires model.now template.now.kind (meant_template model.now template.now))) }
+    ensures { OnOk result (found.new ≡ found_with found.old (refusals_of_meant model.now template.now)) }
 {
     read_parts_are_of_models();
     let _ = model.name();

@@ -4,12 +4,8 @@ ghost use Rattle.std.specs.Prelude.{◌≡◌, ◌<◌, IfOk, IsTrue, length};
 ghost use Rattle.std.specs.List.{list_all};
 ghost use Rattle.aerie_text.specs.Marks.{AreTokensWithin};
 ghost use Rattle.constraints.specs.GivenSeries.{is_series};
-ghost use Rattle.constraints.specs.reading.ConstraintAnswers.{rules_or_refusal, RuledUnlessOutOfMemory};
-ghost use Rattle.constraints.specs.reading.Refusals.{first_of_refusals};
 ghost use Rattle.goals.specs.OfModel.{is_goal};
-ghost use Rattle.goals.specs.reading.GoalAnswers.{IsGoalsAnswer};
-ghost use Rattle.goals.specs.reading.GoalMeaning.{meant_goals};
-ghost use Rattle.goals.specs.reading.GoalRefusals.{refusals_of_goals};
+ghost use Rattle.goals.specs.reading.GoalAnswers.{IsGoalsAnswer, IsJudgedGoals};
 
 use crate::reading::judging::judge_from;
 use crate::reading::meaning::meant_goals;
@@ -59,7 +55,7 @@ fn judged(
 ) -> Result<List<Goal>, RuleError>
     requires series { IsTrue (list_all (λ dataset. is_series dataset.1) datasets.now) }
     ensures of_model { IfOk result (λ goals. IsTrue (list_all (is_goal model.now) goals)) }
-    ensures exact { RuledUnlessOutOfMemory (rules_or_refusal (first_of_refusals (refusals_of_goals model.now duration constraints.now datasets.now raw.now)) (meant_goals model.now datasets.now raw.now)) result }
+    ensures exact { IsJudgedGoals model.now duration constraints.now datasets.now raw.now result }
 {
     let _ = model.name();
     read_parts_are_of_models();

@@ -1,8 +1,8 @@
 //! What is refused of goals is found. The time is linear in the goals, but for looking up names among the at most 256 of a sort.
 
-ghost use Rattle.std.specs.Prelude.{◌≡◌, ◌≤◌, ◌-◌, OnOk, length, take, drop};
+ghost use Rattle.std.specs.Prelude.{◌≡◌, ◌≤◌, OnOk, length};
 ghost use Rattle.constraints.specs.reading.Refusals.{found_with};
-ghost use Rattle.goals.specs.reading.GoalRefusals.{refusals_of_every, is_range_within, refusals_of_range, is_count_within, refusals_of_count, refusals_of_shifts, refusals_of_anchor, refusals_of_kind, is_constraint_named, refusals_of_keeping, is_goal_named, refusals_of_goal, refusals_of_goals_behind};
+ghost use Rattle.goals.specs.reading.GoalRefusals.{refusals_of_every, is_range_within, refusals_of_range, is_count_within, refusals_of_count, refusals_of_shifts, refusals_of_anchor, refusals_of_kind, is_constraint_named, refusals_of_keeping, is_goal_named, refusals_of_goal, refusals_of_goals_from};
 
 use crate::reading::given::judge_template;
 use aerie_base::{Model, Name, Number, OutOfMemory, Shared, Time};
@@ -176,7 +176,7 @@ pub(crate) fn judge_from(
 ) -> Result<(), OutOfMemory>
     requires few { at ≤ 64 }
     requires there { at ≤ length goals.now }
-    ensures { OnOk result (found.new ≡ found_with found.old (refusals_of_goals_behind model.now duration constraints.now datasets.now (64 - at) (take at goals.now) (drop at goals.now))) }
+    ensures { OnOk result (found.new ≡ found_with found.old (refusals_of_goals_from model.now duration constraints.now datasets.now at goals.now)) }
 {
     let (others, rest) = goals.split_at(at);
     match rest.split_first() {

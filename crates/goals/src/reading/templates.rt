@@ -1,8 +1,7 @@
 //! The templates that are meant.
 
-ghost use Rattle.std.specs.Prelude.{◌≡◌, IfOk, option_copied, find, map};
-ghost use Rattle.aerie_base.specs.models.Names.{same_name};
-ghost use Rattle.goals.specs.reading.TemplateMeaning.{Argument, default_or_false, written_or_default, template_value, meant_template};
+ghost use Rattle.std.specs.Prelude.{◌≡◌, IfOk, option_copied, map};
+ghost use Rattle.goals.specs.reading.TemplateMeaning.{default_or_false, argument_named, written_or_default, template_value, meant_template};
 
 use crate::types::Template;
 use aerie_base::{List, Model, Name, OutOfMemory, Parameter, Value};
@@ -25,7 +24,7 @@ fn argument_named<'a>(
     arguments: &'a [(RawName, RawLiteral)],
     name: &Name,
 ) -> Option<&'a (RawName, RawLiteral)>
-    ensures { option_copied result ≡ find (λ (argument : Argument). same_name argument.0.name name.now) arguments.now }
+    ensures { option_copied result ≡ argument_named arguments.now name.now }
 {
     arguments.iter().find(|argument| argument.0.name == *name)
 }

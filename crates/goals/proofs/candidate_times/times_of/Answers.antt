@@ -1,8 +1,8 @@
-use Rattle.std.proofs.Common.{◌≡◌, ◌<◌, ◌≤◌, ◌*◌, ◌+◌, ℕ, ℤ, ◌+ℤ◌, List, Vec, Global, sym, ap, subst, ◌∙◌, arith}
+use Rattle.std.proofs.Common.{◌<◌, ◌≤◌, ℤ, Vec, Global, sym, ap, subst, ◌∙◌, arith}
 use Rattle.std.specs.Int.RustNames.{unsigned_abs}
 use Rattle.std.proofs.lemmas.Grind.{common_steps}
 use mir.Syntax.{w128}
-use mir.Val.{of_z, to_z}
+use mir.Val.{to_z}
 use Rattle.goals.proofs.Spreading.{at_first, at_last, next_is, not_far, past_bound, plain, within_bound}
 use Rattle.goals.proofs.candidate_times.times_of.Goals as goal
 use Rattle.goals.proofs.candidate_times.times_of.Goals.{then-admits+in_ok-push, else-admits}

@@ -7,4 +7,4 @@ pub returns : goal.returns
 returns c =
     IfOk-equal _ _ _ _ c.end_object.ensures
     (simp part_by_part
-    (rw (c.in_ok-member-3.ensures, c.in_ok-utc.ensures, c.in_ok-text_member.ensures, c.type_name.ensures, c.in_ok-member-2.ensures, c.in_ok-member_in-3.ensures, c.in_ok-member_in-2.ensures, c.in_ok-member.ensures, c.in_ok-member_in.ensures, c.in_ok-begin_object.ensures)))
+    (rw (c.in_ok-text_member_of.ensures, c.in_ok-text_member.ensures, c.type_name.ensures, c.in_ok-member-3.ensures, c.in_ok-member_in-2.ensures, c.in_ok-member-2.ensures, c.in_ok-member.ensures, c.in_ok-member_in.ensures, c.in_ok-begin_object.ensures)))

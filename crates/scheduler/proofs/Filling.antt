@@ -1,0 +1,68 @@
+-- Where a goal comes from some place does not depend on how many gaps are allowed for, once they are more than the trials
+-- that are left.
+use Rattle.std.proofs.Common.{◌≡◌, ℕ, zero, suc, ◌<◌, ◌≤◌, List, [], ◌∷◌, ◌++◌, Option, Some, None, refl, sym, ap, ◌∙◌, arith}
+use Rattle.aerie_base.specs.declared.models.model.Parts.{Parts}
+use Rattle.aerie_base.specs.declared.plans.Plan.{Plan}
+use Rattle.run_data.specs.declared.runs.Run.{Run}
+use Rattle.constraints.specs.declared.types.Constraint.{Constraint}
+use Rattle.goals.specs.declared.gap.Gap.{Gap}
+use Rattle.goals.specs.declared.types.Goal.{Goal}
+use Rattle.goals.specs.Goals.{first_gap, candidates_of}
+use Rattle.scheduler.specs.Trials.{Found}
+use Rattle.scheduler.specs.Scheduling.{Placing, with_found, found_for, after_gap, gaps_filled, all_filled}
+use Rattle.scheduler.proofs.Verdicts.{took_one}
+
+module _ (model : Parts) (constraints : List Constraint) (run_of : Plan → Run) (goal : Goal) where
+  abbrev filled_with : ℕ → Placing → Placing
+  filled_with gaps at = gaps_filled model constraints run_of gaps goal at
+
+  abbrev searched : (Placing → Placing) → Placing → Option Plan → ℕ → Placing
+  searched again at found left = with_found model constraints run_of again at found left
+
+  abbrev gone_on : (Placing → Placing) → Placing → Option Gap → Placing
+  gone_on again at gap = after_gap model constraints run_of again goal at gap
+
+  pub found_took : (at : Placing) (gap : Gap) (plan : Plan) → (found_for model constraints run_of goal at gap).plan ≡ Some plan →
+      (found_for model constraints run_of goal at gap).left < at.left
+  found_took at gap plan e =
+      took_one model constraints run_of goal gap at.plan (candidates_of model goal (run_of at.plan) gap) at.left plan e
+
+  pub enough : (gaps others : ℕ) (at : Placing) → at.left < gaps → at.left < others → filled_with gaps at ≡ filled_with others at
+  enough zero others at less more = absurd (omega (arith, less))
+  enough (suc gaps) zero at less more = absurd (omega (arith, more))
+  enough (suc gaps) (suc others) at less more = by (first_gap model goal (run_of at.plan)) (enough gaps others)
+    where
+      further : (found : Option Plan) (left : ℕ) → ((plan : Plan) → found ≡ Some plan → left < at.left) →
+          ((next : Placing) → next.left < gaps → next.left < others → filled_with gaps next ≡ filled_with others next) →
+          searched (filled_with gaps) at found left ≡ searched (filled_with others) at found left
+      further None left took same = refl
+      further (Some plan) left took same =
+          let one : left < at.left = took plan refl in
+          same (record { plan = plan; placed = at.placed ++ at.plan.next_id ∷ []; left = left }) (omega (arith, one, less)) (omega (arith, one, more))
+
+      by : (gap : Option Gap) → ((next : Placing) → next.left < gaps → next.left < others → filled_with gaps next ≡ filled_with others next) →
+          gone_on (filled_with gaps) at gap ≡ gone_on (filled_with others) at gap
+      by None same = refl
+      by (Some gap) same = let found = found_for model constraints run_of goal at gap in further found.plan found.left (found_took at gap) same
+
+  -- ---- by the first gap
+
+  -- where nothing is found the goal ends
+  pub none_found : (at : Placing) (gap : Gap) → first_gap model goal (run_of at.plan) ≡ Some gap →
+      (found_for model constraints run_of goal at gap).plan ≡ None →
+      all_filled model constraints run_of goal at ≡ record at { left = (found_for model constraints run_of goal at gap).left }
+  none_found at gap some none =
+      ap (gone_on (filled_with at.left) at) some
+      ∙ ap (λ (found : Option Plan). searched (filled_with at.left) at found (found_for model constraints run_of goal at gap).left) none
+
+  -- where a plan is found, it goes on there
+  pub one_found : (at : Placing) (gap : Gap) (plan : Plan) → first_gap model goal (run_of at.plan) ≡ Some gap →
+      (found_for model constraints run_of goal at gap).plan ≡ Some plan →
+      all_filled model constraints run_of goal at
+      ≡ all_filled model constraints run_of goal
+      (record { plan = plan; placed = at.placed ++ at.plan.next_id ∷ []; left = (found_for model constraints run_of goal at gap).left })
+  one_found at gap plan some is =
+      let left : ℕ = (found_for model constraints run_of goal at gap).left in
+      ap (gone_on (filled_with at.left) at) some
+      ∙ ap (λ (found : Option Plan). searched (filled_with at.left) at found left) is
+      ∙ enough at.left (suc left) (record { plan = plan; placed = at.placed ++ at.plan.next_id ∷ []; left = left }) (found_took at gap plan is) (omega arith)

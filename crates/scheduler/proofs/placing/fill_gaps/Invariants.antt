@@ -1,0 +1,18 @@
+use Rattle.std.proofs.Common.{◌≡◌, ◌≤◌}
+use Rattle.scheduler.specs.Standing.{IsKeptOf, goal_filled, turns_left}
+use Rattle.scheduler.proofs.placing.fill_gaps.Given as goal
+
+-- the goal comes where it comes from the beginning
+abbrev pub invariant-loop-placing : goal.invariant-loop-placing
+invariant-loop-placing g l = record {
+  filled : goal_filled (g.M.Simulator.bound l.fn.simulator) l.request l.placing ≡ goal_filled (g.M.Simulator.bound l.fn.simulator) l.request l.fn.placing;
+  kept : IsKeptOf l.request.model.now (g.M.Simulator.bound l.fn.simulator) l.placing.kept;
+  steps : l.fn.steps ≤ l.steps;
+  looks : l.fn.looks ≤ l.looks;
+  same_model : g.M.Simulator.model l.simulator ≡ g.M.Simulator.model l.fn.simulator;
+  same_bound : g.M.Simulator.bound l.simulator ≡ g.M.Simulator.bound l.fn.simulator;
+  same_anchor : g.M.Simulator.anchor l.simulator ≡ g.M.Simulator.anchor l.fn.simulator;
+}
+
+abbrev pub decreases-loop-placing : goal.decreases-loop-placing
+decreases-loop-placing g l = turns_left l.placing

@@ -1,0 +1,34 @@
+use Rattle.std.proofs.Common.{ℕ, ◌≡◌, sym, subst}
+use Rattle.aerie_base.specs.plans.OfModel.{IsPlanOf}
+use Rattle.goals.specs.declared.types.Template.{Template}
+use Rattle.scheduler.specs.declared.scheduled.Schedule.{Schedule}
+use Rattle.scheduler.specs.FreshRuns.{fresh_run}
+use Rattle.scheduler.specs.Scheduling.{schedule_of}
+use Rattle.scheduler.specs.Told.{AreAllPlaced, EachWith, IsLikePlan, IsTold}
+use Rattle.scheduler.proofs.Placed.{is_placed, schedule_like, schedule_placed, schedule_told}
+use Rattle.scheduler.proofs.scheduling.schedule.Goals as goal
+
+pub returns-clause-same_place : goal.returns-clause-same_place
+returns-clause-same_place g c =
+    let bound = g.M.Simulator.bound c.args.simulator.now in
+    subst (λ (s : Schedule). IsLikePlan c.args.plan.now s.plan) (sym c.in_ok-made.ensures.scheduled)
+    (schedule_like c.args.model.now bound c.args.constraints.now c.args.goals.now c.args.plan.now)
+
+pub returns-clause-told : goal.returns-clause-told
+returns-clause-told g c =
+    let bound = g.M.Simulator.bound c.args.simulator.now in
+    let model = c.args.model.now in
+    subst (λ (s : Schedule). EachWith (IsTold model (fresh_run model bound s.plan)) c.args.goals.now s.goals) (sym c.in_ok-made.ensures.scheduled)
+    (schedule_told model bound c.args.constraints.now c.args.goals.now c.args.plan.now)
+
+pub returns-clause-placed : goal.returns-clause-placed
+returns-clause-placed g c =
+    let bound = g.M.Simulator.bound c.args.simulator.now in
+    let model = c.args.model.now in
+    let made : Schedule = schedule_of model bound c.args.constraints.now c.args.goals.now c.args.plan.now in
+    let of = subst (λ (s : Schedule). IsPlanOf model s.plan) c.in_ok-made.ensures.scheduled c.in_ok-made.ensures.plan in
+    subst (λ (s : Schedule). EachWith (AreAllPlaced model s.plan (fresh_run model bound s.plan)) c.args.goals.now s.goals) (sym c.in_ok-made.ensures.scheduled)
+    (schedule_placed model bound c.args.constraints.now c.args.goals.now c.args.plan.now
+    (λ template id completed is.
+    is_placed c.planned_directives_have_spans.ensures model bound made.plan (fresh_run model bound made.plan) c.name-valid.ensures.valid of
+    (c.fresh_runs_are_given.ensures.fresh.given model bound made.plan) completed template id is))

@@ -1,0 +1,16 @@
+use Rattle.std.proofs.Common.{◌≡◌, ◌≤◌, drop}
+use Rattle.scheduler.specs.Standing.{first_accepted_for}
+use Rattle.scheduler.proofs.searching.first_accepted.Given as goal
+
+-- what is found among all candidates is found among those that are left
+abbrev pub invariant-loop-time : goal.invariant-loop-time
+invariant-loop-time g l = record {
+  found :
+      first_accepted_for (g.M.Simulator.bound l.fn.simulator) l.request l.gap l.plan (drop l.time-index l.times) l.left
+      ≡ first_accepted_for (g.M.Simulator.bound l.fn.simulator) l.request l.gap l.plan l.times l.fn.left;
+  steps : l.fn.steps ≤ l.steps;
+  looks : l.fn.looks ≤ l.looks;
+  same_model : g.M.Simulator.model l.simulator ≡ g.M.Simulator.model l.fn.simulator;
+  same_bound : g.M.Simulator.bound l.simulator ≡ g.M.Simulator.bound l.fn.simulator;
+  same_anchor : g.M.Simulator.anchor l.simulator ≡ g.M.Simulator.anchor l.fn.simulator;
+}

@@ -1,0 +1,237 @@
+//! One goal: gap after gap, until none is left, no candidate is accepted or all trials are made.
+
+ghost use Rattle.std.specs.Prelude.{◌≡◌, ◌≤◌, ◌<◌, Some, true, false, IfOk};
+ghost use Rattle.goals.specs.Goals.{first_gap};
+ghost use Rattle.scheduler.specs.FreshRuns.{kept_run};
+ghost use Rattle.scheduler.specs.Standing.{IsEither, IsKeptOf, IsRequest, goal_ended, goal_filled, goal_placed_for, placed_after, placed_with, search_for, searched_of, shown, turns_left};
+
+use crate::laws::fresh_runs_are_given;
+use crate::requests::GoalRequest;
+use crate::searching::{Search, first_accepted};
+use aerie_base::{List, OutOfMemory, Shared, Steps};
+use goals::{Gap, candidates, missing};
+use run_data::{Kept, Simulator};
+use std::alloc::Global;
+use std::sync::ledger::Ledger;
+
+/// Where a goal stands.
+#[derive(Drop)]
+pub(crate) struct Placing {
+    /// The run of the plan so far.
+    pub(crate) kept: Shared<Kept>,
+    /// The ids that were placed for the goal, in order.
+    pub(crate) placed: List<u32>,
+    /// How many trials are left.
+    pub(crate) left: u32,
+    /// Whether a gap is to be looked for.
+    pub(crate) goes_on: bool,
+}
+
+impl Placing {
+    /// The goal ends here, with so many trials left.
+    fn closed(self, left: u32) -> Placing
+        ensures { result ≡ record self { left = left; goes_on = false } }
+    {
+        Placing {
+            kept: self.kept,
+            placed: self.placed,
+            left,
+            goes_on: false,
+        }
+    }
+
+    /// The goal goes on with the plan of an accepted trial, and its run.
+    fn with(self, kept: Shared<Kept>, left: u32) -> Result<Placing, OutOfMemory>
+        ensures { IfOk result (λ made. made ≡ placed_with self kept left) }
+    {
+        let Placing {
+            kept: before,
+            mut placed,
+            ..
+        } = self;
+        placed.push(before.get().run().plan.next_id)?;
+        Ok(Placing {
+            kept,
+            placed,
+            left,
+            goes_on: true,
+        })
+    }
+
+    /// The goal goes on, or ends, by what was found for its gap.
+    fn after(self, found: Search) -> Result<Placing, OutOfMemory>
+        ensures { IfOk result (λ made. made ≡ placed_after self found) }
+    {
+        let Search { kept, left } = found;
+        match kept {
+            Some(kept) => self.with(kept, left),
+            None => Ok(self.closed(left)),
+        }
+    }
+}
+
+/// The first accepted trial for a gap of the goal.
+fn search<M: Simulator, L: Ledger, K: Ledger>(
+    alloc: Global,
+    request: &GoalRequest,
+    gap: &Gap,
+    placing: &Placing,
+    simulator: &mut M,
+    steps: &mut Steps<L>,
+    looks: &mut Steps<K>,
+) -> Result<Search, OutOfMemory>
+    requires shares { M.shares }
+    requires model { M.model simulator.old ≡ request.now.model.now }
+    requires request { IsRequest request.now }
+    requires kept { IsKeptOf request.now.model.now (M.bound simulator.old) placing.now.kept }
+    requires gap { first_gap request.now.model.now request.now.goal.now placing.now.kept.run ≡ Some gap.now }
+    ensures found { IfOk result (λ found. found ≡ searched_of (kept_run request.now.model.now (M.bound simulator.old)) (search_for (M.bound simulator.old) request.now placing.now gap.now)) }
+    ensures steps { steps.old ≤ steps.new }
+    ensures looks { looks.old ≤ looks.new }
+    ensures same_model { M.model simulator.new ≡ M.model simulator.old }
+    ensures same_bound { M.bound simulator.new ≡ M.bound simulator.old }
+    ensures anchor { M.anchor simulator.new ≡ M.anchor simulator.old }
+{
+    let run = placing.kept.get().run();
+    let times = candidates(alloc, request.model, request.goal, run, gap)?;
+    let found = first_accepted(
+        alloc,
+        request,
+        gap,
+        &run.plan,
+        times.as_slice(),
+        placing.left,
+        simulator,
+        steps,
+        looks,
+    )?;
+    Ok(found)
+}
+
+/// The goal after its first gap, if it has one.
+fn fill_gap<M: Simulator, L: Ledger, K: Ledger>(
+    alloc: Global,
+    request: &GoalRequest,
+    placing: Placing,
+    simulator: &mut M,
+    steps: &mut Steps<L>,
+    looks: &mut Steps<K>,
+) -> Result<Placing, OutOfMemory>
+    requires shares { M.shares }
+    requires model { M.model simulator.old ≡ request.now.model.now }
+    requires request { IsRequest request.now }
+    requires kept { IsKeptOf request.now.model.now (M.bound simulator.old) placing.kept }
+    requires goes_on { placing.goes_on ≡ true }
+    ensures filled { IfOk result (λ made. goal_filled (M.bound simulator.old) request.now made ≡ goal_filled (M.bound simulator.old) request.now placing) }
+    ensures fewer { IfOk result (λ made. turns_left made < turns_left placing) }
+    ensures kept { IfOk result (λ made. IsKeptOf request.now.model.now (M.bound simulator.old) made.kept) }
+    ensures steps { steps.old ≤ steps.new }
+    ensures looks { looks.old ≤ looks.new }
+    ensures same_model { M.model simulator.new ≡ M.model simulator.old }
+    ensures same_bound { M.bound simulator.new ≡ M.bound simulator.old }
+    ensures anchor { M.anchor simulator.new ≡ M.anchor simulator.old }
+{
+    fresh_runs_are_given();
+    let found = missing(alloc, request.model, request.goal, placing.kept.get().run())?;
+    match found {
+        Some(gap) => {
+            let found = search(alloc, request, &gap, &placing, simulator, steps, looks)?;
+            let made = placing.after(found)?;
+            Ok(made)
+        }
+        None => {
+            let left = placing.left;
+            Ok(placing.closed(left))
+        }
+    }
+}
+
+/// The goal after all gaps that can be filled.
+fn fill_gaps<M: Simulator, L: Ledger, K: Ledger>(
+    alloc: Global,
+    request: &GoalRequest,
+    placing: Placing,
+    simulator: &mut M,
+    steps: &mut Steps<L>,
+    looks: &mut Steps<K>,
+) -> Result<Placing, OutOfMemory>
+    requires shares { M.shares }
+    requires model { M.model simulator.old ≡ request.now.model.now }
+    requires request { IsRequest request.now }
+    requires kept { IsKeptOf request.now.model.now (M.bound simulator.old) placing.kept }
+    ensures filled { IfOk result (λ made. shown made ≡ goal_filled (M.bound simulator.old) request.now placing) }
+    ensures kept { IfOk result (λ made. IsKeptOf request.now.model.now (M.bound simulator.old) made.kept) }
+    ensures steps { steps.old ≤ steps.new }
+    ensures looks { looks.old ≤ looks.new }
+    ensures same_model { M.model simulator.new ≡ M.model simulator.old }
+    ensures same_bound { M.bound simulator.new ≡ M.bound simulator.old }
+    ensures anchor { M.anchor simulator.new ≡ M.anchor simulator.old }
+{
+    let mut placing = placing;
+    while placing.goes_on {
+        placing = fill_gap(alloc, request, placing, simulator, steps, looks)?;
+    }
+    Ok(placing)
+}
+
+/// The goal as it ends. With `rollback` a gap that is left gives back the plan before the goal, with its run.
+fn ended(
+    alloc: Global,
+    request: &GoalRequest,
+    before: Shared<Kept>,
+    placing: Placing,
+) -> Result<Placing, OutOfMemory>
+    requires request { IsRequest request.now }
+    requires model { placing.kept.model ≡ request.now.model.now }
+    ensures ended { IfOk result (λ made. shown made ≡ goal_ended request.now before placing) }
+    ensures kept { IfOk result (λ made. IsEither made.kept before placing.kept) }
+{
+    if !request.goal.rollback {
+        return Ok(placing);
+    }
+    let gap = missing(alloc, request.model, request.goal, placing.kept.get().run())?;
+    if gap.is_none() {
+        return Ok(placing);
+    }
+    let nothing = List::new(alloc);
+    Ok(Placing {
+        kept: before,
+        placed: nothing,
+        left: placing.left,
+        goes_on: false,
+    })
+}
+
+/// What is placed for a goal in a plan, whose run this is.
+pub(crate) fn place_goal<M: Simulator, L: Ledger, K: Ledger>(
+    alloc: Global,
+    request: &GoalRequest,
+    kept: Shared<Kept>,
+    left: u32,
+    simulator: &mut M,
+    steps: &mut Steps<L>,
+    looks: &mut Steps<K>,
+) -> Result<Placing, OutOfMemory>
+    requires shares { M.shares }
+    requires model { M.model simulator.old ≡ request.now.model.now }
+    requires request { IsRequest request.now }
+    requires kept { IsKeptOf request.now.model.now (M.bound simulator.old) kept }
+    ensures placed { IfOk result (λ made. shown made ≡ goal_placed_for (M.bound simulator.old) request.now kept.run.plan left) }
+    ensures kept { IfOk result (λ made. IsKeptOf request.now.model.now (M.bound simulator.old) made.kept) }
+    ensures steps { steps.old ≤ steps.new }
+    ensures looks { looks.old ≤ looks.new }
+    ensures same_model { M.model simulator.new ≡ M.model simulator.old }
+    ensures same_bound { M.bound simulator.new ≡ M.bound simulator.old }
+    ensures anchor { M.anchor simulator.new ≡ M.anchor simulator.old }
+{
+    let before = kept.share()?;
+    let placing = Placing {
+        kept,
+        placed: List::new(alloc),
+        left,
+        goes_on: true,
+    };
+    let placing = fill_gaps(alloc, request, placing, simulator, steps, looks)?;
+    let made = ended(alloc, request, before, placing)?;
+    Ok(made)
+}

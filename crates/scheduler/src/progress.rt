@@ -1,0 +1,152 @@
+//! One goal after another, and what they come to.
+
+ghost use Rattle.std.specs.Prelude.{◌≡◌, ◌≤◌, IsTrue, IfOk, length};
+ghost use Rattle.std.specs.List.{list_all};
+ghost use Rattle.run_data.specs.Fresh.{IsFresh};
+ghost use Rattle.constraints.specs.OfModel.{is_constraint};
+ghost use Rattle.goals.specs.Goals.{is_goal_met};
+ghost use Rattle.goals.specs.OfModel.{is_goal};
+ghost use Rattle.scheduler.specs.FreshRuns.{fresh_run};
+ghost use Rattle.scheduler.specs.Scheduling.{goals_placed, goal_status as goal_status_by, statuses_on, trial_limit};
+ghost use Rattle.scheduler.specs.Standing.{IsKeptOf, IsRequest, all_shown, next_placed};
+
+use crate::placing::place_goal;
+use crate::requests::GoalRequest;
+use aerie_base::{List, Model, OutOfMemory, Shared, Steps};
+use constraints::Constraint;
+use goals::{Goal, GoalStatus, met};
+use run_data::{Kept, Run, Simulator};
+use std::alloc::Global;
+use std::sync::ledger::Ledger;
+
+/// The most trials of one schedule.
+pub(crate) const TRIAL_LIMIT: u32 = 10_000;
+
+/// What is placed for the goals so far.
+#[derive(Drop)]
+pub(crate) struct GoalProgress {
+    /// The run of the plan so far.
+    pub(crate) kept: Shared<Kept>,
+    /// The ids that were placed for each goal, in order.
+    pub(crate) placed: List<List<u32>>,
+    /// How many trials are left.
+    pub(crate) left: u32,
+}
+
+/// What is placed for one goal more.
+fn place_next<M: Simulator, L: Ledger, K: Ledger>(
+    alloc: Global,
+    request: &GoalRequest,
+    progress: GoalProgress,
+    simulator: &mut M,
+    steps: &mut Steps<L>,
+    looks: &mut Steps<K>,
+) -> Result<GoalProgress, OutOfMemory>
+    requires shares { M.shares }
+    requires model { M.model simulator.old ≡ request.now.model.now }
+    requires request { IsRequest request.now }
+    requires kept { IsKeptOf request.now.model.now (M.bound simulator.old) progress.kept }
+    ensures placed { IfOk result (λ made. all_shown made ≡ next_placed (M.bound simulator.old) request.now progress) }
+    ensures kept { IfOk result (λ made. IsKeptOf request.now.model.now (M.bound simulator.old) made.kept) }
+    ensures steps { steps.old ≤ steps.new }
+    ensures looks { looks.old ≤ looks.new }
+    ensures same_model { M.model simulator.new ≡ M.model simulator.old }
+    ensures same_bound { M.bound simulator.new ≡ M.bound simulator.old }
+    ensures anchor { M.anchor simulator.new ≡ M.anchor simulator.old }
+{
+    let GoalProgress {
+        kept,
+        mut placed,
+        left,
+    } = progress;
+    let placing = place_goal(alloc, request, kept, left, simulator, steps, looks)?;
+    placed.push(placing.placed)?;
+    Ok(GoalProgress {
+        kept: placing.kept,
+        placed,
+        left: placing.left,
+    })
+}
+
+/// What is placed for all goals in a plan, whose run this is.
+pub(crate) fn place_goals<M: Simulator, L: Ledger, K: Ledger>(
+    alloc: Global,
+    model: &Model,
+    goals: &[Goal],
+    constraints: &[Constraint],
+    kept: Shared<Kept>,
+    simulator: &mut M,
+    steps: &mut Steps<L>,
+    looks: &mut Steps<K>,
+) -> Result<GoalProgress, OutOfMemory>
+    requires shares { M.shares }
+    requires model { M.model simulator.old ≡ model.now }
+    requires goals { IsTrue (list_all (is_goal model.now) goals.now) }
+    requires constraints { IsTrue (list_all (is_constraint model.now) constraints.now) }
+    requires kept { IsKeptOf model.now (M.bound simulator.old) kept }
+    ensures placed { IfOk result (λ made. all_shown made ≡ goals_placed model.now constraints.now (fresh_run model.now (M.bound simulator.old)) goals.now kept.run.plan trial_limit) }
+    ensures each { IfOk result (λ made. length made.placed ≡ length goals.now) }
+    ensures kept { IfOk result (λ made. IsKeptOf model.now (M.bound simulator.old) made.kept) }
+    ensures steps { steps.old ≤ steps.new }
+    ensures looks { looks.old ≤ looks.new }
+    ensures same_model { M.model simulator.new ≡ M.model simulator.old }
+    ensures same_bound { M.bound simulator.new ≡ M.bound simulator.old }
+    ensures anchor { M.anchor simulator.new ≡ M.anchor simulator.old }
+{
+    let mut progress = GoalProgress {
+        kept,
+        placed: List::new(alloc),
+        left: TRIAL_LIMIT,
+    };
+    for goal in goals {
+        let request = GoalRequest {
+            model,
+            constraints,
+            goal,
+        };
+        progress = place_next(alloc, &request, progress, simulator, steps, looks)?;
+    }
+    Ok(progress)
+}
+
+/// What a goal came to on a run.
+fn goal_status(
+    alloc: Global,
+    model: &Model,
+    goal: &Goal,
+    run: &Run,
+    placed: &[u32],
+) -> Result<GoalStatus, OutOfMemory>
+    requires fresh { IsFresh model.now run.now.plan run.now.bound run.now }
+    requires goal { IsTrue (is_goal model.now goal.now) }
+    ensures { IfOk result (λ status. status ≡ goal_status_by model.now run.now goal.now placed.now) }
+{
+    let name = goal.name.copy(alloc)?;
+    let is_met = met(alloc, model, goal, run)?;
+    let placed = Vec::from_slice(alloc, placed)?;
+    Ok(GoalStatus {
+        goal: name,
+        met: is_met,
+        placed: List::from_vec(placed),
+    })
+}
+
+/// What the goals came to on a run.
+pub(crate) fn statuses(
+    alloc: Global,
+    model: &Model,
+    goals: &[Goal],
+    run: &Run,
+    placed: &[List<u32>],
+) -> Result<List<GoalStatus>, OutOfMemory>
+    requires fresh { IsFresh model.now run.now.plan run.now.bound run.now }
+    requires goals { IsTrue (list_all (is_goal model.now) goals.now) }
+    requires each { length placed.now ≡ length goals.now }
+    ensures { IfOk result (λ statuses. statuses ≡ statuses_on model.now run.now goals.now placed.now) }
+{
+    let mut statuses = List::with_capacity(alloc, goals.len())?;
+    for at in 0..goals.len() {
+        statuses.push(goal_status(alloc, model, &goals[at], run, placed[at].as_slice())?)?;
+    }
+    Ok(statuses)
+}

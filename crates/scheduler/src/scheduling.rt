@@ -1,0 +1,145 @@
+//! The schedule of a plan.
+
+ghost use Rattle.std.specs.Prelude.{◌≡◌, ◌≤◌, [], IsTrue, IfOk, length};
+ghost use Rattle.std.specs.List.{list_all};
+ghost use Rattle.aerie_base.specs.plans.OfModel.{IsPlanOf};
+ghost use Rattle.constraints.specs.OfModel.{is_constraint};
+ghost use Rattle.goals.specs.OfModel.{is_goal};
+ghost use Rattle.scheduler.specs.Scheduling.{schedule_of};
+ghost use Rattle.scheduler.specs.FreshRuns.{fresh_run};
+ghost use Rattle.scheduler.specs.Standing.{IsKeptOf, schedule_after};
+ghost use Rattle.scheduler.specs.Told.{AreAllPlaced, EachWith, IsLikePlan, IsTold};
+
+use crate::laws::fresh_runs_are_given;
+use crate::progress::{GoalProgress, TRIAL_LIMIT, place_goals, statuses};
+use crate::scheduled::Schedule;
+use crate::trials::simulated;
+use aerie_base::{List, Model, OutOfMemory, Plan, Steps};
+use constraints::Constraint;
+use goals::Goal;
+use plan_edit::copy_plan;
+use planned_spans::planned_directives_have_spans;
+use run_data::Simulator;
+use std::alloc::Global;
+use std::sync::ledger::Ledger;
+
+/// The plan as it is, where there are no goals.
+fn unscheduled(alloc: Global, plan: &Plan) -> Result<Schedule, OutOfMemory>
+    ensures { IfOk result (λ made. made ≡ record { plan = plan.now; goals = []; trials = 0 }) }
+{
+    Ok(Schedule {
+        plan: copy_plan(alloc, plan)?,
+        goals: List::new(alloc),
+        trials: 0,
+    })
+}
+
+/// The schedule, once all goals are placed.
+fn finished(
+    alloc: Global,
+    model: &Model,
+    goals: &[Goal],
+    progress: &GoalProgress,
+) -> Result<Schedule, OutOfMemory>
+    requires model { progress.now.kept.model ≡ model.now }
+    requires goals { IsTrue (list_all (is_goal model.now) goals.now) }
+    requires each { length progress.now.placed ≡ length goals.now }
+    ensures { IfOk result (λ made. made ≡ schedule_after model.now goals.now progress.now) }
+{
+    let run = progress.kept.get().run();
+    let plan = copy_plan(alloc, &run.plan)?;
+    let statuses = statuses(alloc, model, goals, run, progress.placed.as_slice())?;
+    Ok(Schedule {
+        plan,
+        goals: statuses,
+        trials: TRIAL_LIMIT.saturating_sub(progress.left),
+    })
+}
+
+/// The schedule of a plan. Where there are no goals nothing is simulated.
+fn scheduled<M: Simulator, L: Ledger, K: Ledger>(
+    alloc: Global,
+    model: &Model,
+    plan: &Plan,
+    goals: &[Goal],
+    constraints: &[Constraint],
+    simulator: &mut M,
+    steps: &mut Steps<L>,
+    looks: &mut Steps<K>,
+) -> Result<Schedule, OutOfMemory>
+    requires shares { M.shares }
+    requires model { M.model simulator.old ≡ model.now }
+    requires plan { IsPlanOf model.now plan.now }
+    requires goals { IsTrue (list_all (is_goal model.now) goals.now) }
+    requires constraints { IsTrue (list_all (is_constraint model.now) constraints.now) }
+    ensures scheduled { IfOk result (λ made. made ≡ schedule_of model.now (M.bound simulator.old) constraints.now goals.now plan.now) }
+    ensures plan { IfOk result (λ made. IsPlanOf model.now made.plan) }
+    ensures steps { steps.old ≤ steps.new }
+    ensures looks { looks.old ≤ looks.new }
+    ensures same_model { M.model simulator.new ≡ M.model simulator.old }
+    ensures same_bound { M.bound simulator.new ≡ M.bound simulator.old }
+    ensures anchor { M.anchor simulator.new ≡ M.anchor simulator.old }
+{
+    if goals.is_empty() {
+        let made = unscheduled(alloc, plan)?;
+        return Ok(made);
+    }
+    fresh_runs_are_given();
+    let kept = simulated(alloc, plan, simulator, steps, looks)?;
+    let progress = place_goals(
+        alloc,
+        model,
+        goals,
+        constraints,
+        kept,
+        simulator,
+        steps,
+        looks,
+    )?;
+    let made = finished(alloc, model, goals, &progress)?;
+    Ok(made)
+}
+
+/// The plan with what is placed in it for the goals, one goal after another, and what they come to on its run. The
+/// simulator is of the model. A plan is simulated for each trial, and once at first; no plan is simulated twice in a row.
+pub fn schedule<M: Simulator, L: Ledger, K: Ledger>(
+    alloc: Global,
+    model: &Model,
+    plan: &Plan,
+    goals: &[Goal],
+    constraints: &[Constraint],
+    simulator: &mut M,
+    steps: &mut Steps<L>,
+    looks: &mut Steps<K>,
+) -> Result<Schedule, OutOfMemory>
+    requires shares { M.shares }
+    requires model { M.model simulator.old ≡ model.now }
+    requires plan { IsPlanOf model.now plan.now }
+    requires goals { IsTrue (list_all (is_goal model.now) goals.now) }
+    requires constraints { IsTrue (list_all (is_constraint model.now) constraints.now) }
+    ensures scheduled { IfOk result (λ made. made ≡ schedule_of model.now (M.bound simulator.old) constraints.now goals.now plan.now) }
+    ensures plan { IfOk result (λ made. IsPlanOf model.now made.plan) }
+    ensures same_place { IfOk result (λ made. IsLikePlan plan.now made.plan) }
+    ensures told { IfOk result (λ made. EachWith (IsTold model.now (fresh_run model.now (M.bound simulator.old) made.plan)) goals.now made.goals) }
+    ensures placed { IfOk result (λ made. EachWith (AreAllPlaced model.now made.plan (fresh_run model.now (M.bound simulator.old) made.plan)) goals.now made.goals) }
+    ensures steps { steps.old ≤ steps.new }
+    ensures looks { looks.old ≤ looks.new }
+    ensures same_model { M.model simulator.new ≡ M.model simulator.old }
+    ensures same_bound { M.bound simulator.new ≡ M.bound simulator.old }
+    ensures anchor { M.anchor simulator.new ≡ M.anchor simulator.old }
+{
+    planned_directives_have_spans();
+    fresh_runs_are_given();
+    let _valid = model.name();
+    let made = scheduled(
+        alloc,
+        model,
+        plan,
+        goals,
+        constraints,
+        simulator,
+        steps,
+        looks,
+    )?;
+    Ok(made)
+}

@@ -1,0 +1,65 @@
+//! The candidates for a gap are tried, one after another.
+
+ghost use Rattle.std.specs.Prelude.{◌≡◌, ◌≤◌, IfOk};
+ghost use Rattle.aerie_base.specs.plans.OfModel.{IsPlanOf};
+ghost use Rattle.scheduler.specs.FreshRuns.{kept_run};
+ghost use Rattle.scheduler.specs.Standing.{IsRequest, first_accepted_for, searched_of};
+
+use crate::requests::GoalRequest;
+use crate::trials::{Trial, tried};
+use aerie_base::{OutOfMemory, Plan, Shared, Steps, Time};
+use goals::Gap;
+use run_data::{Kept, Simulator};
+use std::alloc::Global;
+use std::sync::ledger::Ledger;
+
+/// What is found for a gap.
+#[derive(Drop)]
+pub(crate) struct Search {
+    /// The run of the plan with the first accepted trial, if there is one.
+    pub(crate) kept: Option<Shared<Kept>>,
+    /// How many trials are left.
+    pub(crate) left: u32,
+}
+
+/// The first accepted trial among the candidates, as long as a trial is left.
+pub(crate) fn first_accepted<M: Simulator, L: Ledger, K: Ledger>(
+    alloc: Global,
+    request: &GoalRequest,
+    gap: &Gap,
+    plan: &Plan,
+    times: &[Time],
+    left: u32,
+    simulator: &mut M,
+    steps: &mut Steps<L>,
+    looks: &mut Steps<K>,
+) -> Result<Search, OutOfMemory>
+    requires shares { M.shares }
+    requires model { M.model simulator.old ≡ request.now.model.now }
+    requires request { IsRequest request.now }
+    requires plan { IsPlanOf request.now.model.now plan.now }
+    ensures found { IfOk result (λ found. found ≡ searched_of (kept_run request.now.model.now (M.bound simulator.old)) (first_accepted_for (M.bound simulator.old) request.now gap.now plan.now times.now left)) }
+    ensures steps { steps.old ≤ steps.new }
+    ensures looks { looks.old ≤ looks.new }
+    ensures same_model { M.model simulator.new ≡ M.model simulator.old }
+    ensures same_bound { M.bound simulator.new ≡ M.bound simulator.old }
+    ensures anchor { M.anchor simulator.new ≡ M.anchor simulator.old }
+{
+    let mut left = left;
+    for time in times {
+        if left == 0 {
+            break;
+        }
+        match tried(alloc, request, gap, plan, *time, simulator, steps, looks)? {
+            Trial::Refused => {}
+            Trial::Rejected => left -= 1,
+            Trial::Accepted(kept) => {
+                return Ok(Search {
+                    kept: Some(kept),
+                    left: left - 1,
+                });
+            }
+        }
+    }
+    Ok(Search { kept: None, left })
+}

@@ -1,0 +1,229 @@
+//! A trial: a goal's template is added to a plan at a time, and the run of that plan is judged.
+
+ghost use Rattle.std.specs.Prelude.{◌≡◌, ◌≤◌, IsTrue, IfOk, IfSome};
+ghost use Rattle.std.specs.List.{list_all};
+ghost use Rattle.aerie_base.specs.plans.OfModel.{IsPlanOf};
+ghost use Rattle.run_data.specs.Fresh.{IsFresh};
+ghost use Rattle.constraints.specs.OfModel.{is_constraint};
+ghost use Rattle.plan_edit.specs.Editing.{is_full as is_full_plan, is_outside as is_outside_plan};
+ghost use Rattle.scheduler.specs.FreshRuns.{kept_run};
+ghost use Rattle.scheduler.specs.Standing.{IsKeptOf, IsRequest, trial_of, verdict_for};
+ghost use Rattle.scheduler.specs.Trials.{is_accepted as accepts, is_kept as is_kept_by, is_kept_well as is_kept_well_by, directive_with, keeps as keeps_all, made_with};
+
+use crate::requests::GoalRequest;
+use aerie_base::{Directive, Model, OutOfMemory, Plan, Shared, Steps, Time, copy_list};
+use constraints::{Constraint, violations};
+use goals::{Gap, Goal, Template, is_filled};
+use plan_edit::copy_plan;
+use run_data::laws::{fresh_runs, simulation_ends};
+use run_data::{Kept, Run, Simulator};
+use std::alloc::Global;
+use std::sync::ledger::Ledger;
+
+/// What comes of a candidate.
+#[derive(Drop)]
+pub(crate) enum Trial {
+    /// The directive may not be added there. This counts as no trial.
+    Refused,
+    /// The run is not as the goal wants it.
+    Rejected,
+    /// The run is as the goal wants it.
+    Accepted(Shared<Kept>),
+}
+
+/// The most directives of a plan.
+const MOST_DIRECTIVES: usize = 65_536;
+
+/// The greatest id that a plan's next directive can have.
+const LAST_ID: u32 = 4_294_967_295;
+
+/// Whether no directive may start at that time.
+fn is_outside(plan: &Plan, time: Time) -> bool
+    ensures { result ≡ is_outside_plan plan.now time }
+{
+    !(time.get() < plan.duration.get())
+}
+
+/// Whether the plan may have no directive more.
+fn is_full(plan: &Plan) -> bool
+    ensures { result ≡ is_full_plan plan.now }
+{
+    !(plan.directives.len() < MOST_DIRECTIVES) || !(plan.next_id < LAST_ID)
+}
+
+/// The template's directive under the next id, at a time.
+fn directive_at(
+    alloc: Global,
+    plan: &Plan,
+    template: &Template,
+    time: Time,
+) -> Result<Directive, OutOfMemory>
+    ensures { IfOk result (λ made. made ≡ directive_with plan.now template.now time) }
+{
+    let arguments = copy_list(alloc, &template.arguments)?;
+    Ok(Directive {
+        id: plan.next_id,
+        start: time,
+        anchor: None,
+        kind: template.kind,
+        arguments,
+    })
+}
+
+/// The plan with the template at a time, unless it may not stand there. It copies the plan.
+fn with_template(
+    alloc: Global,
+    plan: &Plan,
+    template: &Template,
+    time: Time,
+) -> Result<Option<Plan>, OutOfMemory>
+    ensures { IfOk result (λ made. made ≡ made_with plan.now template.now time) }
+{
+    if is_outside(plan, time) || is_full(plan) {
+        return Ok(None);
+    }
+    let directive = directive_at(alloc, plan, template, time)?;
+    let mut next = copy_plan(alloc, plan)?;
+    next.directives.push(directive)?;
+    next.next_id += 1;
+    Ok(Some(next))
+}
+
+/// The plan of a trial, which is of the model again, unless the template may not stand there.
+fn tried_plan(
+    alloc: Global,
+    request: &GoalRequest,
+    plan: &Plan,
+    time: Time,
+) -> Result<Option<Plan>, OutOfMemory>
+    requires request { IsRequest request.now }
+    requires plan { IsPlanOf request.now.model.now plan.now }
+    ensures made { IfOk result (λ made. made ≡ made_with plan.now request.now.goal.now.template time) }
+    ensures of_model { IfOk result (λ made. IfSome made (IsPlanOf request.now.model.now)) }
+{
+    let made = with_template(alloc, plan, &request.goal.template, time)?;
+    Ok(made)
+}
+
+/// Whether the goal names the constraint after `keeping`.
+fn is_kept(goal: &Goal, constraint: &Constraint) -> bool
+    ensures { result ≡ is_kept_by goal.now constraint.now }
+{
+    for name in goal.keeping.as_slice() {
+        if constraint.name == *name {
+            return true;
+        }
+    }
+    false
+}
+
+/// Whether the constraint is not violated, where the goal names it.
+fn is_kept_well(
+    alloc: Global,
+    model: &Model,
+    goal: &Goal,
+    run: &Run,
+    constraint: &Constraint,
+) -> Result<bool, OutOfMemory>
+    requires fresh { IsFresh model.now run.now.plan run.now.bound run.now }
+    requires constraint { IsTrue (is_constraint model.now constraint.now) }
+    ensures { IfOk result (λ well. well ≡ is_kept_well_by model.now goal.now run.now constraint.now) }
+{
+    if !is_kept(goal, constraint) {
+        return Ok(true);
+    }
+    let found = violations(alloc, model, run, constraint)?;
+    Ok(found.is_empty())
+}
+
+/// Whether the run violates none of the constraints that the goal names after `keeping`.
+fn keeps(
+    alloc: Global,
+    model: &Model,
+    constraints: &[Constraint],
+    goal: &Goal,
+    run: &Run,
+) -> Result<bool, OutOfMemory>
+    requires fresh { IsFresh model.now run.now.plan run.now.bound run.now }
+    requires constraints { IsTrue (list_all (is_constraint model.now) constraints.now) }
+    ensures { IfOk result (λ kept. kept ≡ keeps_all model.now constraints.now goal.now run.now) }
+{
+    for constraint in constraints {
+        if !is_kept_well(alloc, model, goal, run, constraint)? {
+            return Ok(false);
+        }
+    }
+    Ok(true)
+}
+
+/// Whether the trial with this run is accepted.
+fn is_accepted(
+    alloc: Global,
+    request: &GoalRequest,
+    gap: &Gap,
+    run: &Run,
+) -> Result<bool, OutOfMemory>
+    requires request { IsRequest request.now }
+    requires fresh { IsFresh request.now.model.now run.now.plan run.now.bound run.now }
+    ensures { IfOk result (λ yes. yes ≡ accepts request.now.model.now request.now.constraints.now request.now.goal.now gap.now run.now) }
+{
+    if !is_filled(alloc, request.model, request.goal, gap, run)? {
+        return Ok(false);
+    }
+    keeps(alloc, request.model, request.constraints, request.goal, run)
+}
+
+/// The kept fresh run of the plan.
+pub(crate) fn simulated<M: Simulator, L: Ledger, K: Ledger>(
+    alloc: Global,
+    plan: &Plan,
+    simulator: &mut M,
+    steps: &mut Steps<L>,
+    looks: &mut Steps<K>,
+) -> Result<Shared<Kept>, OutOfMemory>
+    requires shares { M.shares }
+    requires plan { IsPlanOf (M.model simulator.old) plan.now }
+    ensures kept { IfOk result (λ kept. kept ≡ kept_run (M.model simulator.old) (M.bound simulator.old) plan.now) }
+    ensures of_model { IfOk result (IsKeptOf (M.model simulator.old) (M.bound simulator.old)) }
+    ensures steps { steps.old ≤ steps.new }
+    ensures looks { looks.old ≤ looks.new }
+    ensures same_model { M.model simulator.new ≡ M.model simulator.old }
+    ensures same_bound { M.bound simulator.new ≡ M.bound simulator.old }
+    ensures anchor { M.anchor simulator.new ≡ M.anchor simulator.old }
+{
+    simulation_ends();
+    let kept = simulator.run(alloc, plan, steps, looks)?;
+    Ok(kept)
+}
+
+/// What comes of a candidate for the goal's gap.
+pub(crate) fn tried<M: Simulator, L: Ledger, K: Ledger>(
+    alloc: Global,
+    request: &GoalRequest,
+    gap: &Gap,
+    plan: &Plan,
+    time: Time,
+    simulator: &mut M,
+    steps: &mut Steps<L>,
+    looks: &mut Steps<K>,
+) -> Result<Trial, OutOfMemory>
+    requires shares { M.shares }
+    requires model { M.model simulator.old ≡ request.now.model.now }
+    requires request { IsRequest request.now }
+    requires plan { IsPlanOf request.now.model.now plan.now }
+    ensures trial { IfOk result (λ trial. trial ≡ trial_of (kept_run request.now.model.now (M.bound simulator.old)) (verdict_for (M.bound simulator.old) request.now gap.now plan.now time)) }
+    ensures steps { steps.old ≤ steps.new }
+    ensures looks { looks.old ≤ looks.new }
+    ensures same_model { M.model simulator.new ≡ M.model simulator.old }
+    ensures same_bound { M.bound simulator.new ≡ M.bound simulator.old }
+    ensures anchor { M.anchor simulator.new ≡ M.anchor simulator.old }
+{
+    let Some(next) = tried_plan(alloc, request, plan, time)? else {
+        return Ok(Trial::Refused);
+    };
+    let kept = simulated(alloc, &next, simulator, steps, looks)?;
+    if is_accepted(alloc, request, gap, kept.get().run())? {
+        return Ok(Trial::Accepted(kept));
+    }
+    Ok(Trial::Rejected)
+}
