@@ -1,0 +1,5 @@
+pub mod FirstRefused
+pub mod Judging
+pub mod OfModels
+pub mod Rules
+pub mod Telling
