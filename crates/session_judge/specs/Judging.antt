@@ -5,6 +5,7 @@ use Rattle.std.specs.Str.Lossy.{utf8_valid_len}
 use Rattle.aerie_text.specs.Tokens.{tokens_of}
 use Rattle.aerie_text.specs.declared.token.Token.{Token}
 use Rattle.constraints.specs.declared.types.Constraint.{Constraint}
+use Rattle.goals.specs.declared.types.Goal.{Goal}
 use Rattle.report_text.specs.declared.refusals.Refusal.{Refusal}
 use Rattle.seq_expand.specs.declared.rules.Sequencing.{Sequencing}
 use Rattle.session_reader.specs.Answers.{Answer}
@@ -12,7 +13,7 @@ use Rattle.session_reader.specs.SessionTexts.{byte_limit, text_answer}
 use Rattle.session_reader.specs.declared.session.Session.{Session}
 use Rattle.session_reader.specs.declared.session_error.SessionError.TheVariants.{TooLarge, NotText}
 use Rattle.session_judge.specs.FirstRefused.{RulesAnswer}
-use Rattle.session_judge.specs.Rules.{session_constraints, session_sequences}
+use Rattle.session_judge.specs.Rules.{session_constraints, session_goals, session_sequences}
 use Rattle.session_judge.specs.Telling.{told_session}
 use Rattle.session_judge.specs.declared.judge_error.JudgeError.{JudgeError}
 use Rattle.session_judge.specs.declared.judge_error.JudgeError.TheVariants.{Refused, OutOfMemory}
@@ -29,15 +30,20 @@ tokens_or_none (Err at) = []
 
 -- ---- the rules of a session
 
-abbrev pub with_sequences : Session → List (List Constraint) → RulesAnswer (List Sequencing) → Judgement JudgedSession
-with_sequences session constraints (Ok sequences) = Ok (record { session = session; constraints = constraints; sequences = sequences })
-with_sequences session constraints (Err refusal) = Err refusal
+abbrev pub with_sequences : Session → List (List Constraint) → List (List Goal) → RulesAnswer (List Sequencing) → Judgement JudgedSession
+with_sequences session constraints goals (Ok sequences) =
+    Ok (record { session = session; constraints = constraints; goals = goals; sequences = sequences })
+with_sequences session constraints goals (Err refusal) = Err refusal
+
+abbrev pub with_goals : List ℕ → List Token → Session → List (List Constraint) → RulesAnswer (List (List Goal)) → Judgement JudgedSession
+with_goals text tokens session constraints (Ok goals) = with_sequences session constraints goals (session_sequences text tokens session)
+with_goals text tokens session constraints (Err refusal) = Err refusal
 
 abbrev pub with_constraints : List ℕ → List Token → Session → RulesAnswer (List (List Constraint)) → Judgement JudgedSession
-with_constraints text tokens session (Ok constraints) = with_sequences session constraints (session_sequences text tokens session)
+with_constraints text tokens session (Ok constraints) = with_goals text tokens session constraints (session_goals text tokens session constraints)
 with_constraints text tokens session (Err refusal) = Err refusal
 
--- its constraints are judged before its sequences
+-- its constraints are judged before its goals, and these before its sequences
 abbrev pub with_rules : List ℕ → List Token → Session → Judgement JudgedSession
 with_rules text tokens session = with_constraints text tokens session (session_constraints text tokens session)
 
@@ -52,8 +58,8 @@ abbrev pub judged_text : List ℕ → Judgement JudgedSession
 judged_text text = judged_answer text (tokens_or_none (tokens_of text)) (text_answer text)
 
 -- The session that bytes are, with all its rules; or their first refusal: more bytes than a session may have, bytes that are no
--- text, what is refused of the session, and then of the constraints of all models, and after them of their
--- sequences, the refusal that stands first in the text.
+-- text, what is refused of the session, and then of the constraints of all models, after them of their goals, and
+-- after these of their sequences, the refusal that stands first in the text.
 unfoldable pub judged_session : List ℕ → Judgement JudgedSession
 judged_session bytes =
     if nat_lt byte_limit (length bytes) then Err (told_session bytes [] TooLarge)

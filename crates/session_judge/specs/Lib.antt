@@ -1,3 +1,4 @@
+pub mod Accepted
 pub mod FirstRefused
 pub mod Judging
 pub mod OfModels

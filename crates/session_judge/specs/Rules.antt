@@ -1,10 +1,13 @@
 -- The rules of a session's models, sort by sort.
 use Rattle.std.specs.Prelude.{ℕ, ◌-◌, List, [], Option, Some, None, Result, Ok, Err, take, drop}
+use Rattle.std.specs.List.{zip}
 use Rattle.aerie_base.specs.declared.models.model.Parts.{Parts}
 use Rattle.aerie_text.specs.declared.token.Token.{Token}
 use Rattle.constraints.specs.declared.rule_error.RuleError.{RuleError}
 use Rattle.constraints.specs.declared.types.Constraint.{Constraint}
 use Rattle.constraints.specs.reading.ConstraintAnswers.{constraints_answer}
+use Rattle.goals.specs.declared.types.Goal.{Goal}
+use Rattle.goals.specs.reading.GoalAnswers.{goals_answer}
 use Rattle.seq_expand.specs.declared.rules.Sequencing.{Sequencing}
 use Rattle.seq_expand.specs.reading.SequenceAnswers.{sequence_answer}
 use Rattle.session_reader.specs.DatasetAnswers.{NamedSeries}
@@ -38,6 +41,26 @@ constraints_of_part text tokens datasets part = constraints_of_section text toke
 abbrev pub session_constraints : List ℕ → List Token → Session → RulesAnswer (List (List Constraint))
 session_constraints text tokens session =
     all_rules (λ part. part.constraints) (constraints_of_part text tokens session.datasets) session.models
+
+-- ---- goals
+
+-- the goals of a model for a plan of this duration: those of its section, which may keep these constraints, and none where it has no section
+abbrev pub goals_of_section : List ℕ → List Token → List NamedSeries → ℕ → Parts → List Constraint → Option TokenRange → RulesAnswer (List Goal)
+goals_of_section text tokens datasets duration model constraints None = Ok []
+goals_of_section text tokens datasets duration model constraints (Some range) =
+    told_rules text tokens (goals_answer text (tokens_in tokens range) model duration constraints datasets)
+
+-- a model with its constraints
+abbrev pub RuledPart : Type 0
+RuledPart = ModelPart × List Constraint
+
+abbrev pub goals_of_part : List ℕ → List Token → List NamedSeries → ℕ → RuledPart → RulesAnswer (List Goal)
+goals_of_part text tokens datasets duration part = goals_of_section text tokens datasets duration part.0.model part.1 part.0.goals
+
+-- the goals of all models, each with its own constraints
+abbrev pub session_goals : List ℕ → List Token → Session → List (List Constraint) → RulesAnswer (List (List Goal))
+session_goals text tokens session constraints =
+    all_rules (λ part. part.0.goals) (goals_of_part text tokens session.datasets session.plan.duration) (zip session.models constraints)
 
 -- ---- sequences
 

@@ -2,6 +2,7 @@
 
 use aerie_base::{List, Shared};
 use constraints::Constraint;
+use goals::Goal;
 use seq_expand::Sequencing;
 use session_reader::Session;
 
@@ -13,6 +14,8 @@ pub struct JudgedSession {
     pub session: Session,
     /// The constraints of each model.
     pub constraints: List<Shared<List<Constraint>>>,
+    /// The goals of each model.
+    pub goals: List<Shared<List<Goal>>>,
     /// The rules by which each model gives commands.
-    pub sequences: List<Sequencing>,
+    pub sequences: List<Shared<Sequencing>>,
 }

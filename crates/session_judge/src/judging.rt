@@ -5,13 +5,15 @@ ghost use Rattle.std.specs.List.{AllByRecursion};
 ghost use Rattle.aerie_text.specs.Marks.{AreTokensWithin};
 ghost use Rattle.aerie_text.specs.Tokens.{tokens_of};
 ghost use Rattle.session_reader.specs.Answers.{IsMade};
+ghost use Rattle.session_reader.specs.FewClients.{HasFewClients};
 ghost use Rattle.session_reader.specs.SessionTexts.{byte_limit, text_answer};
 ghost use Rattle.session_reader.specs.WellFormed.{HasSectionsWithin, IsSession};
-ghost use Rattle.session_judge.specs.OfModels.{AreOfModels, HasConstraintsOfModels, HasSequencesOfModels, are_constraints};
-ghost use Rattle.session_judge.specs.Judging.{IsJudged, judged_answer, judged_session, judged_text, with_rules as with_rules_by, with_sequences as with_sequences_by};
-ghost use Rattle.session_judge.specs.Rules.{session_sequences as session_sequences_by};
+ghost use Rattle.session_judge.specs.OfModels.{AreOfModels, HasConstraintsOfModels, HasGoalsOfModels, HasSequencesOfModels, are_constraints, are_goals};
+ghost use Rattle.session_judge.specs.Judging.{IsJudged, judged_answer, judged_session, judged_text, with_goals as with_goals_by, with_rules as with_rules_by, with_sequences as with_sequences_by};
+ghost use Rattle.session_judge.specs.Rules.{session_goals as session_goals_by, session_sequences as session_sequences_by};
 
 use crate::constraint_sections::session_constraints;
+use crate::goal_sections::session_goals;
 use crate::judge_error::JudgeError;
 use crate::judged::JudgedSession;
 use crate::sequence_sections::session_sequences;
@@ -19,25 +21,49 @@ use crate::telling::{named_refusal, told_offset, told_session};
 use aerie_base::{List, Shared};
 use aerie_text::{TextError, Token, tokens};
 use constraints::Constraint;
-use session_reader::{Session, SessionError, read_session};
+use goals::Goal;
+use session_reader::{Session, SessionError, read_cut_session, read_session};
 use std::alloc::Global;
 
 /// The most bytes of a session.
 const MOST_BYTES: usize = 16_777_216;
 
-/// The session of a text with these tokens.
-fn session_of(alloc: Global, text: &str, tokens: &[Token]) -> Result<Session, SessionError>
+/// The session with its constraints, its goals and its sequences.
+fn with_sequences(
+    alloc: Global,
+    text: &str,
+    tokens: &[Token],
+    session: Session,
+    constraints: List<Shared<List<Constraint>>>,
+    goals: List<Shared<List<Goal>>>,
+) -> Result<JudgedSession, JudgeError>
     requires short { length text.now ≤ byte_limit }
-    requires tokens { tokens_of text.now ≡ Ok tokens.now }
-    ensures exact { IsMade (text_answer text.now) result }
-    ensures session { IfOk result IsSession }
-    ensures sections { IfOk result (λ session. AllByRecursion (HasSectionsWithin (length tokens.now)) session.models) }
+    requires tokens { AreTokensWithin text.now tokens.now }
+    requires session { IsSession session }
+    requires few { HasFewClients session }
+    requires sections { AllByRecursion (HasSectionsWithin (length tokens.now)) session.models }
+    requires constraints { AreOfModels are_constraints session.models constraints }
+    requires goals { AreOfModels are_goals session.models goals }
+    ensures exact { IsJudged (with_sequences_by session constraints goals (session_sequences_by text.now tokens.now session)) result }
+    ensures session { IfOk result (λ judged. IsSession judged.session) }
+    ensures few { IfOk result (λ judged. HasFewClients judged.session) }
+    ensures constraints { IfOk result HasConstraintsOfModels }
+    ensures goals { IfOk result HasGoalsOfModels }
+    ensures sequences { IfOk result HasSequencesOfModels }
 {
-    read_session(alloc, text.as_bytes())
+    match session_sequences(alloc, text, tokens, &session)? {
+        Ok(sequences) => Ok(JudgedSession {
+            session,
+            constraints,
+            goals,
+            sequences,
+        }),
+        Err(refusal) => Err(JudgeError::Refused(refusal)),
+    }
 }
 
-/// The session with its constraints and its sequences.
-fn with_sequences(
+/// The session with its constraints, and with its goals and its sequences.
+fn with_goals(
     alloc: Global,
     text: &str,
     tokens: &[Token],
@@ -47,19 +73,18 @@ fn with_sequences(
     requires short { length text.now ≤ byte_limit }
     requires tokens { AreTokensWithin text.now tokens.now }
     requires session { IsSession session }
+    requires few { HasFewClients session }
     requires sections { AllByRecursion (HasSectionsWithin (length tokens.now)) session.models }
     requires constraints { AreOfModels are_constraints session.models constraints }
-    ensures exact { IsJudged (with_sequences_by session constraints (session_sequences_by text.now tokens.now session)) result }
+    ensures exact { IsJudged (with_goals_by text.now tokens.now session constraints (session_goals_by text.now tokens.now session constraints)) result }
     ensures session { IfOk result (λ judged. IsSession judged.session) }
+    ensures few { IfOk result (λ judged. HasFewClients judged.session) }
     ensures constraints { IfOk result HasConstraintsOfModels }
+    ensures goals { IfOk result HasGoalsOfModels }
     ensures sequences { IfOk result HasSequencesOfModels }
 {
-    match session_sequences(alloc, text, tokens, &session)? {
-        Ok(sequences) => Ok(JudgedSession {
-            session,
-            constraints,
-            sequences,
-        }),
+    match session_goals(alloc, text, tokens, &session, constraints.as_slice())? {
+        Ok(goals) => with_sequences(alloc, text, tokens, session, constraints, goals),
         Err(refusal) => Err(JudgeError::Refused(refusal)),
     }
 }
@@ -74,14 +99,17 @@ fn with_rules(
     requires short { length text.now ≤ byte_limit }
     requires tokens { AreTokensWithin text.now tokens.now }
     requires session { IsSession session }
+    requires few { HasFewClients session }
     requires sections { AllByRecursion (HasSectionsWithin (length tokens.now)) session.models }
     ensures exact { IsJudged (with_rules_by text.now tokens.now session) result }
     ensures session { IfOk result (λ judged. IsSession judged.session) }
+    ensures few { IfOk result (λ judged. HasFewClients judged.session) }
     ensures constraints { IfOk result HasConstraintsOfModels }
+    ensures goals { IfOk result HasGoalsOfModels }
     ensures sequences { IfOk result HasSequencesOfModels }
 {
     match session_constraints(alloc, text, tokens, &session)? {
-        Ok(constraints) => with_sequences(alloc, text, tokens, session, constraints),
+        Ok(constraints) => with_goals(alloc, text, tokens, session, constraints),
         Err(refusal) => Err(JudgeError::Refused(refusal)),
     }
 }
@@ -97,10 +125,13 @@ fn judge_read(
     requires tokens { AreTokensWithin text.now tokens.now }
     requires read { IsMade (text_answer text.now) read }
     requires session { IfOk read IsSession }
+    requires few { IfOk read HasFewClients }
     requires sections { IfOk read (λ session. AllByRecursion (HasSectionsWithin (length tokens.now)) session.models) }
     ensures exact { IsJudged (judged_answer text.now tokens.now (text_answer text.now)) result }
     ensures session { IfOk result (λ judged. IsSession judged.session) }
+    ensures few { IfOk result (λ judged. HasFewClients judged.session) }
     ensures constraints { IfOk result HasConstraintsOfModels }
+    ensures goals { IfOk result HasGoalsOfModels }
     ensures sequences { IfOk result HasSequencesOfModels }
 {
     match read {
@@ -115,7 +146,9 @@ fn judge_uncut(alloc: Global, text: &str, at: usize) -> Result<JudgedSession, Ju
     requires uncut { tokens_of text.now ≡ Err at }
     ensures exact { IsJudged (judged_answer text.now [] (text_answer text.now)) result }
     ensures session { IfOk result (λ judged. IsSession judged.session) }
+    ensures few { IfOk result (λ judged. HasFewClients judged.session) }
     ensures constraints { IfOk result HasConstraintsOfModels }
+    ensures goals { IfOk result HasGoalsOfModels }
     ensures sequences { IfOk result HasSequencesOfModels }
 {
     match read_session(alloc, text.as_bytes()) {
@@ -129,13 +162,15 @@ fn judge_text(alloc: Global, text: &str) -> Result<JudgedSession, JudgeError>
     requires short { length text.now ≤ byte_limit }
     ensures exact { IsJudged (judged_text text.now) result }
     ensures session { IfOk result (λ judged. IsSession judged.session) }
+    ensures few { IfOk result (λ judged. HasFewClients judged.session) }
     ensures constraints { IfOk result HasConstraintsOfModels }
+    ensures goals { IfOk result HasGoalsOfModels }
     ensures sequences { IfOk result HasSequencesOfModels }
 {
     match tokens(alloc, text) {
         Ok(tokens) => {
             let tokens = tokens.as_slice();
-            judge_read(alloc, text, tokens, session_of(alloc, text, tokens))
+            judge_read(alloc, text, tokens, read_cut_session(alloc, text, tokens))
         }
         Err(TextError::BadToken { at }) => judge_uncut(alloc, text, at),
         Err(TextError::OutOfMemory) => Err(JudgeError::OutOfMemory),
@@ -148,7 +183,9 @@ fn judge_text(alloc: Global, text: &str) -> Result<JudgedSession, JudgeError>
 pub fn judge(alloc: Global, bytes: &[u8]) -> Result<JudgedSession, JudgeError>
     ensures exact { IsJudged (judged_session bytes.now) result }
     ensures session { IfOk result (λ judged. IsSession judged.session) }
+    ensures few { IfOk result (λ judged. HasFewClients judged.session) }
     ensures constraints { IfOk result HasConstraintsOfModels }
+    ensures goals { IfOk result HasGoalsOfModels }
     ensures sequences { IfOk result HasSequencesOfModels }
 {
     if MOST_BYTES < bytes.len() {

@@ -2,8 +2,10 @@
 //! told.
 #![tactic(auto)]
 
+mod accepted;
 mod constraint_sections;
 mod gathered;
+mod goal_sections;
 mod judge_error;
 mod judged;
 mod judging;
@@ -12,6 +14,7 @@ mod sequence_sections;
 mod telling;
 mod words;
 
+pub use accepted::accepted_line;
 pub use judge_error::JudgeError;
 pub use judged::JudgedSession;
 pub use judging::judge;

@@ -10,7 +10,7 @@ ghost use Rattle.session_judge.specs.Rules.{sequence_of_part as sequence_of_part
 use crate::gathered::Gathered;
 use crate::sections::{SectionRange, begin_of, tokens_in};
 use crate::telling::told_rule;
-use aerie_base::{List, Model, OutOfMemory};
+use aerie_base::{List, Model, OutOfMemory, Shared};
 use aerie_text::Token;
 use report_text::Refusal;
 use seq_expand::{Sequencing, read_sequence};
@@ -18,7 +18,7 @@ use session_reader::{ModelPart, Session};
 use std::alloc::Global;
 
 /// Rules, or how their refusal is told.
-type SequenceAnswer = Result<Sequencing, Refusal>;
+type SequenceAnswer = Result<Shared<Sequencing>, Refusal>;
 
 /// The rules of a section.
 fn sequence_in(
@@ -35,7 +35,7 @@ fn sequence_in(
     ensures of_model { IfOk result (λ answer. IfOk answer (λ rules. IsTrue (are_sendable model.now rules))) }
 {
     match read_sequence(alloc, text, tokens_in(tokens, range), model) {
-        Ok(sequencing) => Ok(Ok(sequencing)),
+        Ok(sequencing) => Ok(Ok(Shared::new(alloc, sequencing)?)),
         Err(error) => Ok(Err(told_rule(alloc, text, tokens, error)?)),
     }
 }
@@ -54,10 +54,13 @@ fn sequence_of_part(
     ensures of_model { IfOk result (λ answer. IfOk answer (λ rules. IsTrue (are_sendable part.now.model rules))) }
 {
     match part.sequence {
-        None => Ok(Ok(Sequencing {
-            rules: List::new(alloc),
-            spacings: List::new(alloc),
-        })),
+        None => {
+            let sequencing = Sequencing {
+                rules: List::new(alloc),
+                spacings: List::new(alloc),
+            };
+            Ok(Ok(Shared::new(alloc, sequencing)?))
+        }
         Some(range) => sequence_in(alloc, text, tokens, part.model.get(), range),
     }
 }
@@ -68,7 +71,7 @@ pub(crate) fn session_sequences(
     text: &str,
     tokens: &[Token],
     session: &Session,
-) -> Result<Result<List<Sequencing>, Refusal>, OutOfMemory>
+) -> Result<Result<List<Shared<Sequencing>>, Refusal>, OutOfMemory>
     requires short { length text.now < 4_294_967_295 }
     requires tokens { AreTokensWithin text.now tokens.now }
     requires sections { AllByRecursion (HasSectionsWithin (length tokens.now)) session.now.models }

@@ -12,10 +12,10 @@ loop-part-preserved c =
     let given = c.in_ok-answer.answer in
     let begin = c.begin_of.result in
     record {
-      rules = next_rules (λ part. part.sequence) answer are_sendable items index part c.loop-part-test.true c.part-item.is
+      rules = next_rules (λ part. part.sequence) answer (λ part. are_sendable part.model) items index part c.loop-part-test.true c.part-item.is
           _ _ given c.loop-part.invariant.rules c.in_ok-gathered.ensures.rules c.in_ok-answer.ensures.exact;
-      refused = next_refused (λ part. part.sequence) answer are_sendable items index part c.loop-part-test.true c.part-item.is
+      refused = next_refused (λ part. part.sequence) answer (λ part. are_sendable part.model) items index part c.loop-part-test.true c.part-item.is
           _ _ given begin c.loop-part.invariant.refused c.in_ok-gathered.ensures.refused c.in_ok-answer.ensures.exact c.begin_of.ensures;
-      of_models = next_of_models (λ part. part.sequence) answer are_sendable items index part c.loop-part-test.true c.part-item.is
+      of_models = next_of_models (λ part. part.sequence) answer (λ part. are_sendable part.model) items index part c.loop-part-test.true c.part-item.is
           _ _ _ _ given begin c.loop-part.invariant.of_models c.in_ok-answer.ensures.of_model c.in_ok-gathered.ensures.rules c.in_ok-gathered.ensures.refused;
     }
