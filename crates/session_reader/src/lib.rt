@@ -2,6 +2,7 @@
 #![tactic(auto)]
 
 mod clients;
+mod cut_sessions;
 mod dataset_names;
 mod datasets;
 mod diagnostics;
@@ -21,6 +22,7 @@ mod session_error;
 mod sessions;
 mod starts;
 
+pub use cut_sessions::read_cut_session;
 pub use reading::read_session;
 pub use session::{Client, ModelPart, Session};
 pub use session_error::SessionError;

@@ -22,7 +22,7 @@ use std::alloc::Global;
 const MOST_BYTES: usize = 16_777_216;
 
 /// The session as it is written in a text of these tokens.
-fn form(alloc: Global, text: &str, tokens: &[Token]) -> Result<RawSession, SessionError>
+pub(crate) fn form(alloc: Global, text: &str, tokens: &[Token]) -> Result<RawSession, SessionError>
     requires short { length text.now ≤ byte_limit }
     requires tokens { AreTokensWithin text.now tokens.now }
     ensures made { IsMade (form_answer text.now tokens.now) result }
