@@ -5,6 +5,7 @@ ghost use Rattle.std.specs.List.{AllByRecursion};
 ghost use Rattle.aerie_text.specs.Tokens.{tokens_of};
 ghost use Rattle.session_grammar.specs.SessionLimits.{IsLimitedSession};
 ghost use Rattle.session_reader.specs.Answers.{IsMade};
+ghost use Rattle.session_reader.specs.FewClients.{HasFewClients};
 ghost use Rattle.session_reader.specs.SessionTexts.{byte_limit, raw_answer, text_answer};
 ghost use Rattle.session_reader.specs.WellFormed.{HasSectionsWithin, IsLimited, IsSession};
 
@@ -38,6 +39,7 @@ pub fn read_cut_session(
     requires tokens { tokens_of text.now ≡ Ok tokens.now }
     ensures exact { IsMade (text_answer text.now) result }
     ensures session { IfOk result IsSession }
+    ensures few { IfOk result HasFewClients }
     ensures sections { IfOk result (λ session. AllByRecursion (HasSectionsWithin (length tokens.now)) session.models) }
 {
     let raw = cut_form(alloc, text, tokens)?;

@@ -8,6 +8,7 @@ mod datasets;
 mod diagnostics;
 mod feeds;
 mod known_parts;
+pub mod laws;
 mod literals;
 mod mappings;
 mod meant_mappings;

@@ -1,5 +1,5 @@
 -- The sections stand where those of the session as it is written do.
-use Rattle.std.proofs.Common.{ℕ, List, Ok, Err, IfOk, length}
+use Rattle.std.proofs.Common.{ℕ, Ok, Err, IfOk, length}
 use Rattle.std.specs.List.{AllByRecursion}
 use Rattle.session_grammar.specs.SessionLimits.{IsLimitedSession}
 use Rattle.session_grammar.specs.declared.raw.sessions.RawSession.{RawSession}
