@@ -10,10 +10,9 @@ use Rattle.session_judge.specs.Telling.{told_session}
 use Rattle.session_judge.specs.declared.judged.JudgedSession.{JudgedSession}
 use Rattle.session_reader.specs.declared.session_error.SessionError.TheVariants.{TooLarge}
 use Rattle.aerie.specs.Input.{HasReadAll}
-use Rattle.aerie.specs.Program.{ProgramAnswer, IsAnswerTo, IsInputIf, IsModeAnswer, IsProgramAnswer, IsRunAnswer, check_answer, is_answered, is_thin, made_answer, mode_reads, named_answer, number_of_status, reads_input, refused_answer, thin_answer, thin_text_answer}
+use Rattle.aerie.specs.Program.{ProgramAnswer, IsAnswerTo, IsInputIf, IsModeAnswer, IsProgramAnswer, IsRunAnswer, check_answer, is_answered, made_answer, mode_reads, named_answer, number_of_status, reads_input, refused_answer}
+use Rattle.aerie.specs.declared.exit_status.ExitStatus.{ExitStatus}
 use Rattle.aerie.specs.declared.exit_status.ExitStatus.TheVariants as status
-use Rattle.aerie.specs.declared.thin.session.Session.{Session}
-use Rattle.aerie.specs.thin.Checking.{session_of}
 
 -- ---- statuses
 
@@ -27,24 +26,16 @@ check_tells : (judgement : Judgement JudgedSession) → Tells (check_answer judg
 check_tells (Ok judged) = refl
 check_tells (Err refusal) = refl
 
-thin_text_tells : (thin : Option Session) → Tells (thin_text_answer thin)
-thin_text_tells None = refl
-thin_text_tells (Some thin) = refl
-
-thin_tells : (may : Bool) (input : List ℕ) → Tells (thin_answer may input)
-thin_tells false input = refl
-thin_tells true input = thin_text_tells (session_of input)
-
-run_tells : (invocation : Invocation) (input : List ℕ) (judgement : Judgement JudgedSession) (answer : ProgramAnswer) → IsRunAnswer invocation input judgement answer → Tells answer
-run_tells invocation input (Ok judged) answer is = as_told answer (thin_answer (is_thin invocation) input) is (thin_tells (is_thin invocation) input)
-run_tells invocation input (Err refusal) answer is = as_told answer (refused_answer status.Refused refusal) is refl
+run_tells : (invocation : Invocation) (judgement : Judgement JudgedSession) (answer : ProgramAnswer) → IsRunAnswer invocation judgement answer → Tells answer
+run_tells invocation (Ok judged) answer is = subst (λ (ending : ExitStatus). IsTrue (is_answered (number_of_status ending))) (sym is.done) refl
+run_tells invocation (Err refusal) answer is = as_told answer (refused_answer status.Refused refusal) is refl
 
 made_tells : (number : ℕ) (text : Bool) → Tells (made_answer number text)
 made_tells number true = refl
 made_tells number false = refl
 
 mode_tells : (invocation : Invocation) (input : List ℕ) (mode : Mode) (answer : ProgramAnswer) → IsModeAnswer invocation input mode answer → Tells answer
-mode_tells invocation input Run answer is = run_tells invocation input (judged_session input) answer is
+mode_tells invocation input Run answer is = run_tells invocation (judged_session input) answer is
 mode_tells invocation input Check answer is = as_told answer (check_answer (judged_session input)) is (check_tells (judged_session input))
 mode_tells invocation input (Make number text) answer is = as_told answer (made_answer number text) is (made_tells number text)
 
@@ -86,7 +77,7 @@ refused_is_not_done answer input is done = absurd (clash (subst (λ (one : Progr
 not_done : (invocation : Invocation) (input : List ℕ) (mode : Mode) (answer : ProgramAnswer) → IsModeAnswer invocation input mode answer
     → mode_reads mode ≡ true → length input ≡ 16_777_217 → number_of_status answer.status ≡ 0 → ⊥
 not_done invocation input Run answer is reads long done =
-    refused_is_not_done answer input (subst (λ (j : Judgement JudgedSession). IsRunAnswer invocation input j answer) (too_long input long) is) done
+    refused_is_not_done answer input (subst (λ (j : Judgement JudgedSession). IsRunAnswer invocation j answer) (too_long input long) is) done
 not_done invocation input Check answer is reads long done =
     refused_is_not_done answer input (subst (λ (j : Judgement JudgedSession). answer ≡ check_answer j) (too_long input long) is) done
 not_done invocation input (Make number text) answer is reads long done = absurd cc
@@ -118,7 +109,7 @@ pub of_check : (invocation : Invocation) (before after : Option (List ℕ)) (inp
 of_check invocation before after input answer is read told = of_mode invocation Check before after input answer is read told
 
 pub of_run : (invocation : Invocation) (before after : Option (List ℕ)) (input : List ℕ) (answer : ProgramAnswer) → invocation.mode ≡ Run
-    → HasReadAll before after input → IsRunAnswer invocation input (judged_session input) answer → IsAnswerTo (Some invocation) before after answer
+    → HasReadAll before after input → IsRunAnswer invocation (judged_session input) answer → IsAnswerTo (Some invocation) before after answer
 of_run invocation before after input answer is read told = of_mode invocation Run before after input answer is read told
 
 pub of_make : (invocation : Invocation) (number : ℕ) (text : Bool) (before after : Option (List ℕ)) (answer : ProgramAnswer) → invocation.mode ≡ Make number text

@@ -1,4 +1,3 @@
 pub mod Input
 pub mod Output
 pub mod Program
-pub mod thin

@@ -1,5 +1,5 @@
 -- What the program answers to the words and to the input.
-use Rattle.std.specs.Prelude.{◌≡◌, ℕ, ◌==◌, Bool, true, false, not, ◌||◌, ◌&&◌, List, Option, Some, None, Ok, Err, codes, nat_le}
+use Rattle.std.specs.Prelude.{◌≡◌, ℕ, ◌==◌, Bool, true, false, ◌||◌, List, Option, Some, None, Ok, Err, codes}
 use Rattle.aerie_text.specs.Json.{line_of}
 use Rattle.command_line.specs.declared.invocation.Invocation.{Invocation}
 use Rattle.command_line.specs.declared.invocation.Mode.{Mode}
@@ -11,12 +11,10 @@ use Rattle.session_judge.specs.Judging.{Judgement, judged_session}
 use Rattle.session_judge.specs.Telling.{told_name}
 use Rattle.session_judge.specs.declared.judged.JudgedSession.{JudgedSession}
 use Rattle.session_make.specs.Sessions.{session}
+use Rattle.session_run.specs.Performed.{IsPerformed, IsPerformedInTurn}
 use Rattle.aerie.specs.Input.{HasReadAll}
 use Rattle.aerie.specs.declared.exit_status.ExitStatus.{ExitStatus}
 use Rattle.aerie.specs.declared.exit_status.ExitStatus.TheVariants as status
-use Rattle.aerie.specs.thin.Checking.{session_of}
-use Rattle.aerie.specs.thin.Lines.{text_of}
-use Rattle.aerie.specs.declared.thin.session.Session.{Session}
 
 -- ---- statuses
 
@@ -55,7 +53,7 @@ refused_answer ending refusal = answer_with ending (line_of (refused_data (refus
 abbrev pub named_answer : ExitStatus → List ℕ → ProgramAnswer
 named_answer ending name = refused_answer ending (told_name name)
 
--- what the program does not take yet
+-- what the program does not do yet
 abbrev pub unbuilt_answer : ProgramAnswer
 unbuilt_answer = named_answer status.Refused (codes "Unbuilt")
 
@@ -68,23 +66,20 @@ check_answer (Err refusal) = refused_answer status.Refused refusal
 
 -- ---- run
 
--- a thin session runs to its end with so many statements, whose number is not told
-abbrev pub is_thin : Invocation → Bool
-is_thin invocation = nat_le 1_000 invocation.limit && not invocation.stats
+-- the text of a session that is performed: along the journal of clients who take turns where that is asked for, or else along a journal that fits
+abbrev pub IsRunText : Bool → JudgedSession → ℕ → Bool → List ℕ → Type 0
+IsRunText true judged limit stats text = IsPerformedInTurn judged limit stats text
+IsRunText false judged limit stats text = IsPerformed judged limit stats text
 
-abbrev pub thin_text_answer : Option Session → ProgramAnswer
-thin_text_answer None = unbuilt_answer
-thin_text_answer (Some thin) = answer_with status.Done (text_of thin)
-
--- of good sessions the thin ones are performed
-abbrev pub thin_answer : Bool → List ℕ → ProgramAnswer
-thin_answer false input = unbuilt_answer
-thin_answer true input = thin_text_answer (session_of input)
+-- a good session is performed
+pub record HasRun (invocation : Invocation) (judged : JudgedSession) (answer : ProgramAnswer) : Type 0 where
+  pub done : answer.status ≡ status.Done
+  pub text : IsRunText invocation.serial judged invocation.limit invocation.stats answer.text
 
 -- a session is judged, and performed where it is good
-abbrev pub IsRunAnswer : Invocation → List ℕ → Judgement JudgedSession → ProgramAnswer → Type 0
-IsRunAnswer invocation input (Ok judged) answer = answer ≡ thin_answer (is_thin invocation) input
-IsRunAnswer invocation input (Err refusal) answer = answer ≡ refused_answer status.Refused refusal
+abbrev pub IsRunAnswer : Invocation → Judgement JudgedSession → ProgramAnswer → Type 0
+IsRunAnswer invocation (Ok judged) answer = HasRun invocation judged answer
+IsRunAnswer invocation (Err refusal) answer = answer ≡ refused_answer status.Refused refusal
 
 -- ---- make
 
@@ -96,7 +91,7 @@ made_answer number false = unbuilt_answer
 -- ---- the program
 
 abbrev pub IsModeAnswer : Invocation → List ℕ → Mode → ProgramAnswer → Type 0
-IsModeAnswer invocation input Run answer = IsRunAnswer invocation input (judged_session input) answer
+IsModeAnswer invocation input Run answer = IsRunAnswer invocation (judged_session input) answer
 IsModeAnswer invocation input Check answer = answer ≡ check_answer (judged_session input)
 IsModeAnswer invocation input (Make number text) answer = answer ≡ made_answer number text
 

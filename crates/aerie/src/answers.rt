@@ -1,19 +1,24 @@
 //! What the program writes, and the status that it ends with where all of it is written.
 
-ghost use Rattle.std.specs.Prelude.{◌≡◌, ◌≤◌, IfOk, codes, string_bytes};
+ghost use Rattle.std.specs.Prelude.{◌≡◌, ◌≤◌, ◌<◌, IfOk, codes, string_bytes};
+ghost use Rattle.command_line.specs.Invocations.{HasNumbersWithin};
 ghost use Rattle.session_judge.specs.Judging.{judged_session};
-ghost use Rattle.aerie.specs.Program.{IsRunAnswer, check_answer, made_answer, named_answer, is_thin, refused_answer, thin_answer};
+ghost use Rattle.session_run.specs.Ruled.{CanBePerformed};
+ghost use Rattle.aerie.specs.Program.{HasRun, IsRunAnswer, check_answer, made_answer, named_answer, refused_answer};
 
 use crate::exit_status::ExitStatus;
-use crate::thin;
-use aerie_base::OutOfMemory;
+use aerie_base::{OutOfMemory, Steps};
 use aerie_edge::Gate;
 use command_line::Invocation;
 use report_text::{Refusal, refusal_line};
-use session_judge::{JudgeError, accepted_line, judge, named_refusal};
+use session_judge::{JudgeError, JudgedSession, accepted_line, judge, named_refusal};
 use session_make::make;
+use session_run::laws::turns_fit;
+use session_run::perform_in_turn;
 use std::alloc::Global;
-use std::marker::Model;
+use std::marker::{Brand, Model};
+use std::sync::Wait;
+use std::sync::ledger::{Blank, Ledger};
 
 /// What is written, and the status where all of it is written.
 #[derive(Drop)]
@@ -96,45 +101,52 @@ pub fn made(alloc: Global, number: u32, text: bool) -> Result<Output, OutOfMemor
     })
 }
 
-/// Whether the thin session is performed as the words ask for it.
-fn is_thin(invocation: &Invocation) -> bool
-    ensures { result ≡ is_thin invocation.now }
-{
-    1_000 <= invocation.limit && !invocation.stats
-}
-
-/// A session that is good is performed where it is thin.
-fn performed_thin<G: Gate>(
+/// A good session is performed, its clients in turn.
+fn performed_good<R: Wait, G: Gate, L: Ledger, K: Ledger>(
     alloc: Global,
+    rt: &R,
     invocation: &Invocation,
-    input: &[u8],
+    judged: &JudgedSession,
     gate: &G,
+    steps: &mut Steps<L>,
+    blank: Blank,
 ) -> Result<Output, OutOfMemory>
-    ensures { IfOk result (λ output. output ≡ thin_answer (is_thin invocation.now) input.now) }
+    requires within { HasNumbersWithin invocation.now }
+    requires session { CanBePerformed judged.now }
+    requires name { blank.name ≡ K.name }
+    requires parts { blank.parts ≡ K.parts }
+    requires some { 0 < K.parts }
+    ensures performed { IfOk result (HasRun invocation.now judged.now) }
+    ensures steps { steps.old ≤ steps.new }
 {
-    if !is_thin(invocation) {
-        return named(alloc, ExitStatus::Refused, "Unbuilt");
-    }
-    match thin::answer(alloc, input, gate)? {
-        Some(text) => Ok(Output {
-            status: ExitStatus::Done,
-            text,
-        }),
-        None => named(alloc, ExitStatus::Refused, "Unbuilt"),
-    }
+    let (limit, stats) = (invocation.limit, invocation.stats);
+    let mut looks = Steps::<K>::open(blank);
+    let text = perform_in_turn(alloc, rt, gate, judged, limit, stats, steps, &mut looks)?;
+    turns_fit();
+    Ok(Output {
+        status: ExitStatus::Done,
+        text,
+    })
 }
 
 /// A session is judged, and performed where it is good.
-pub fn performed<G: Gate>(
+pub fn performed<R: Wait, G: Gate, L: Ledger>(
     alloc: Global,
+    rt: &R,
     invocation: &Invocation,
     input: &[u8],
     gate: &G,
+    steps: &mut Steps<L>,
 ) -> Result<Output, OutOfMemory>
-    ensures { IfOk result (IsRunAnswer invocation.now input.now (judged_session input.now)) }
+    requires within { HasNumbersWithin invocation.now }
+    ensures performed { IfOk result (IsRunAnswer invocation.now (judged_session input.now)) }
+    ensures steps { steps.old ≤ steps.new }
 {
     match judge(alloc, input) {
-        Ok(_) => performed_thin(alloc, invocation, input, gate),
+        Ok(judged) => {
+            let blank = Blank::new(1);
+            performed_good::<R, G, L, Brand>(alloc, rt, invocation, &judged, gate, steps, blank)
+        }
         Err(JudgeError::Refused(refusal)) => refused(alloc, ExitStatus::Refused, &refusal),
         Err(JudgeError::OutOfMemory) => Err(OutOfMemory),
     }

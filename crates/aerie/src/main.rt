@@ -8,8 +8,9 @@ mod input;
 mod output;
 mod program;
 #[cfg(test)]
+mod rows;
+#[cfg(test)]
 mod tests;
-mod thin;
 
 use aerie_base::OutOfMemory;
 use aerie_edge::{Open, StdSink, StdSource};

@@ -23,11 +23,13 @@ use std::sync::ledger::{Blank, Ledger};
 use std::thread::Threads;
 
 /// What is written for an invocation. Only a session that is performed or judged is read.
-fn output_for<S: Source, G: Gate>(
+fn output_for<R: Wait, S: Source, G: Gate, L: Ledger>(
     alloc: Global,
+    rt: &R,
     invocation: &Invocation,
     source: &mut S,
     gate: &G,
+    steps: &mut Steps<L>,
 ) -> Result<Output, InputError>
     requires within { HasNumbersWithin invocation.now }
     ensures answered { IfOk result (IsAnswerTo (Some invocation.now) (S.left source.old) (S.left source.new)) }
@@ -36,6 +38,7 @@ fn output_for<S: Source, G: Gate>(
     ensures reads { S.reads source.new ≤ S.reads source.old + 16_777_217 }
     ensures later { S.faults source.old ≤ S.faults source.new }
     ensures cause { IfErr result (λ e. e ≡ InputError.Failed → Rose (S.faults source.old) (S.faults source.new)) }
+    ensures steps { steps.old ≤ steps.new }
 {
     match invocation.mode {
         Mode::Make { number, text } => Ok(made(alloc, number, text)?),
@@ -45,17 +48,19 @@ fn output_for<S: Source, G: Gate>(
         }
         Mode::Run => {
             let input = read_input(alloc, source)?;
-            Ok(performed(alloc, invocation, &input, gate)?)
+            Ok(performed(alloc, rt, invocation, &input, gate, steps)?)
         }
     }
 }
 
 /// What is written for words.
-fn output<S: Source, G: Gate>(
+fn output<R: Wait, S: Source, G: Gate, L: Ledger>(
     alloc: Global,
+    rt: &R,
     words: &[String],
     source: &mut S,
     gate: &G,
+    steps: &mut Steps<L>,
 ) -> Result<Output, InputError>
     ensures answered { IfOk result (IsAnswerTo (invocation_of (texts_of words.now)) (S.left source.old) (S.left source.new)) }
     ensures unread { reads_input (invocation_of (texts_of words.now)) ≡ false → source.new ≡ source.old }
@@ -63,10 +68,11 @@ fn output<S: Source, G: Gate>(
     ensures reads { S.reads source.new ≤ S.reads source.old + 16_777_217 }
     ensures later { S.faults source.old ≤ S.faults source.new }
     ensures cause { IfErr result (λ e. e ≡ InputError.Failed → Rose (S.faults source.old) (S.faults source.new)) }
+    ensures steps { steps.old ≤ steps.new }
 {
     match read_words(alloc, words)? {
         None => Ok(named(alloc, ExitStatus::Words, "Words")?),
-        Some(invocation) => output_for(alloc, &invocation, source, gate),
+        Some(invocation) => output_for(alloc, rt, &invocation, source, gate, steps),
     }
 }
 
@@ -117,9 +123,9 @@ pub fn aerie<R: Threads + Wait + Sync, S: Source, K: Sink, G: Gate, L: Ledger>(
     ensures read { (input : List ℕ) × HasRead (S.left source.old) (S.left source.new) input }
     ensures reads { S.reads source.new ≤ S.reads source.old + 16_777_217 }
     ensures faults { (S.faults source.old ≤ S.faults source.new) × (K.faults sink.old ≤ K.faults sink.new) }
-    ensures steps { steps.new ≡ steps.old }
+    ensures steps { steps.old ≤ steps.new }
 {
-    match output(alloc, words, source, gate) {
+    match output(alloc, rt, words, source, gate, steps) {
         Ok(output) => match write_output(sink, output.bytes()) {
             Ok(()) => output.status().number(),
             Err(_) => ExitStatus::WriteFailed.number(),

@@ -19,7 +19,7 @@ client a { add main at 5us Bump(by = 3); simulate main; }
 
 const FIRST_TEXT: &str = r#"[[0,0,0],[0,1,0],[0,1,1]]
 {"client":"a","command":0,"ok":{"branch":"main","id":1,"revision":1}}
-{"client":"a","command":1,"ok":{"attached":true,"branch":"main","outcome":"completed","profiles":[{"name":"n","segments":[[0,0],[5,3],[15,6]]}],"reach":100,"revision":1,"spans":[{"arguments":{"by":3},"end":15,"path":"1","result":null,"start":5,"type":"Bump"}],"violations":[]}}
+{"client":"a","command":1,"ok":{"attached":true,"branch":"main","outcome":"completed","profiles":[{"name":"n","segments":[[0,0],[5,3],[15,6]]}],"reach":100,"revision":1,"spans":[{"arguments":{"by":3},"end":15,"path":"1","result":null,"start":5,"type":"Bump","utc":"2030-001T00:00:00.000005"}],"violations":[]}}
 "#;
 
 /// A word of 65 bytes is no token.
@@ -27,10 +27,12 @@ const LONG_NAME: &str = "{\"refused\":{\"column\":7,\"line\":1,\"name\":\"Syntax
 
 const TOO_LARGE: &str = "{\"refused\":{\"name\":\"TooLarge\"}}\n";
 
+const WORDS: &str = "{\"refused\":{\"name\":\"Words\"}}\n";
+
 const UNBUILT: &str = "{\"refused\":{\"name\":\"Unbuilt\"}}\n";
 
 /// The words of a text, which are parted by spaces.
-fn words_in(alloc: Global, text: &str) -> Result<Vec<String>, AllocError> {
+pub(crate) fn words_in(alloc: Global, text: &str) -> Result<Vec<String>, AllocError> {
     let mut words = Vec::new(alloc);
     for word in text.split(' ') {
         words.push(String::from_str(alloc, word)?)?;
@@ -78,6 +80,27 @@ fn check_with<R: Threads + Wait + Sync + Abort>(
     Ok(())
 }
 
+/// Two texts, one behind the other.
+pub(crate) fn joined(alloc: Global, one: &str, other: &str) -> Result<String, AllocError> {
+    format!(in alloc; "{one}{other}")
+}
+
+/// Calls the program with these words and this session, which it does, and gives what is written.
+pub(crate) fn is_done<R: Threads + Wait + Sync + Abort>(
+    rt: &R,
+    alloc: Global,
+    words: &str,
+    session: &str,
+) -> Result<String, AllocError> {
+    let bytes = Vec::from_slice(alloc, session.as_bytes())?;
+    let mut source = SureSource::new(bytes);
+    let mut sink = MemorySink::new(alloc, usize::MAX, Vec::new(alloc));
+    let got = status_with(rt, alloc, words, &mut source, &mut sink)?;
+    assert_eq!(rt; got, 0, "of {words}, {session}");
+    let text = str::from_utf8(sink.bytes()).expect(rt, "a text");
+    String::from_str(alloc, text)
+}
+
 /// Runs the session, and compares the status and what is written.
 fn check<R: Threads + Wait + Sync + Abort>(
     rt: &R,
@@ -111,7 +134,7 @@ client x{add p at 30sGo(pause=5ms,up=0010);simulate p;}"#;
 
 const ORDERS_TEXT: &str = r#"[[0,0,0],[0,1,0],[0,1,1]]
 {"client":"x","command":0,"ok":{"branch":"p","id":1,"revision":1}}
-{"client":"x","command":1,"ok":{"attached":true,"branch":"p","outcome":"completed","profiles":[{"name":"level","segments":[[0,-7],[30000000,1],[90000000,5001]]}],"reach":120000000,"revision":1,"spans":[{"arguments":{"pause":5000,"up":10},"end":90000000,"path":"1","result":null,"start":30000000,"type":"Go"}],"violations":[]}}
+{"client":"x","command":1,"ok":{"attached":true,"branch":"p","outcome":"completed","profiles":[{"name":"level","segments":[[0,-7],[30000000,1],[90000000,5001]]}],"reach":120000000,"revision":1,"spans":[{"arguments":{"pause":5000,"up":10},"end":90000000,"path":"1","result":null,"start":30000000,"type":"Go","utc":"2030-001T00:00:30.000000"}],"violations":[]}}
 "#;
 
 /// The second example: the plan ends before the activity does.
@@ -132,7 +155,7 @@ client ops { add day at 25min WarmUp(units = 2); simulate day; }
 
 const HEATER_TEXT: &str = r#"[[0,0,0],[0,1,0],[0,1,1]]
 {"client":"ops","command":0,"ok":{"branch":"day","id":1,"revision":1}}
-{"client":"ops","command":1,"ok":{"attached":true,"branch":"day","outcome":"completed","profiles":[{"name":"heaters","segments":[[0,0],[1500000000,2],[3300000000,1]]}],"reach":3600000000,"revision":1,"spans":[{"arguments":{"units":2},"end":null,"path":"1","result":null,"start":1500000000,"type":"WarmUp"}],"violations":[]}}
+{"client":"ops","command":1,"ok":{"attached":true,"branch":"day","outcome":"completed","profiles":[{"name":"heaters","segments":[[0,0],[1500000000,2],[3300000000,1]]}],"reach":3600000000,"revision":1,"spans":[{"arguments":{"units":2},"end":null,"path":"1","result":null,"start":1500000000,"type":"WarmUp","utc":"2030-001T00:25:00.000000"}],"violations":[]}}
 "#;
 
 /// Effects that cancel, and others as the plan ends, which do not happen.
@@ -141,11 +164,11 @@ const CUT_OFF: &str =
 
 const CUT_OFF_TEXT: &str = r#"[[0,0,0],[0,1,0],[0,1,1]]
 {"client":"c","command":0,"ok":{"branch":"main","id":1,"revision":1}}
-{"client":"c","command":1,"ok":{"attached":true,"branch":"main","outcome":"completed","profiles":[{"name":"r","segments":[[0,0]]}],"reach":10,"revision":1,"spans":[{"arguments":{},"end":null,"path":"1","result":null,"start":0,"type":"A"}],"violations":[]}}
+{"client":"c","command":1,"ok":{"attached":true,"branch":"main","outcome":"completed","profiles":[{"name":"r","segments":[[0,0]]}],"reach":10,"revision":1,"spans":[{"arguments":{},"end":null,"path":"1","result":null,"start":0,"type":"A","utc":"2030-001T00:00:00.000000"}],"violations":[]}}
 "#;
 
 #[test]
-fn thin_sessions_are_performed(rt: HostRuntime) -> Result<(), Fail> {
+fn sessions_are_performed(rt: HostRuntime) -> Result<(), Fail> {
     let sessions = [
         (FIRST, FIRST_TEXT),
         (HEATER, HEATER_TEXT),
@@ -158,53 +181,19 @@ fn thin_sessions_are_performed(rt: HostRuntime) -> Result<(), Fail> {
     Ok(())
 }
 
-/// Changes of the first session that leave it good, but not thin.
-const UNBUILT_CHANGES: [(&str, &str); 25] = [
-    ("counter n = 0;", "counter n = 0; counter k = 0;"),
-    ("counter n = 0;", "counter n = 1000000001;"),
-    ("discrete n = n;", "linear n = n;"),
-    ("by: int", "by: int = 3"),
-    ("n += by;", "require by > 0; n += by;"),
-    ("delay 10us;", "delay by;"),
-    ("delay 10us;", "delay 10;"),
-    ("delay 10us;", "// a comment\n delay 10us;"),
-    ("delay 10us;", "spawn Bump(by = 1);"),
-    ("T00:00:00Z", "T00:00:00"),
-    ("duration 100us;", "duration 5us;"),
-    ("duration 100us;", "duration 100us; at 1us Bump(by = 1);"),
-    ("at 5us", "at start of 1 + 5us"),
-    ("by = 3", "by = 1000000001"),
-    ("by = 3", "by = 3, by = 3"),
-    ("by = 3", "up = 3"),
-    ("by = 3", "by = true"),
-    ("by = 3", ""),
-    ("5us Bump", "5us Go"),
-    ("add main", "add other"),
-    ("simulate main;", "simulate main; simulate main;"),
-    ("simulate main;", "simulate other;"),
-    ("simulate main; }", "simulate main; } client b { }"),
-    ("client a {", "client a { show main;"),
-    ("client a {", "constraints { low: n < 9; } client a {"),
-];
-
 #[test]
-fn other_sessions_are_not_performed_yet(rt: HostRuntime) -> Result<(), Fail> {
+fn sessions_are_performed_in_turn(rt: HostRuntime) -> Result<(), Fail> {
     let alloc = rt.alloc();
-    for (part, by) in UNBUILT_CHANGES {
-        let session = changed(&rt, alloc, part, by)?;
-        check(&rt, alloc, &session, 3, UNBUILT)?;
+    for words in [
+        "run --serial",
+        "run --limit 3 --pieces 2",
+        "--stats=false run",
+    ] {
+        let wanted = if words.starts_with("--") { 2 } else { 0 };
+        let text = if wanted == 0 { FIRST_TEXT } else { WORDS };
+        check_with(&rt, alloc, words, FIRST, wanted, text)?;
     }
-    for words in ["run --stats", "run --limit 999", "make --number 5"] {
-        check_with(&rt, alloc, words, FIRST, 3, UNBUILT)?;
-    }
-    check_with(
-        &rt,
-        alloc,
-        "run --limit 1000 --serial --pieces 2",
-        FIRST,
-        0,
-        FIRST_TEXT,
-    )?;
+    check_with(&rt, alloc, "make --number 5", FIRST, 3, UNBUILT)?;
     Ok(())
 }
 
@@ -323,7 +312,7 @@ fn sessions_are_made(rt: HostRuntime) -> Result<(), Fail> {
     Ok(())
 }
 
-/// A name, a body and a list of parameters as long as they may be, and one more.
+/// A name as long as it may be, and one more.
 #[test]
 fn limits_are_kept(rt: HostRuntime) -> Result<(), Fail> {
     let alloc = rt.alloc();
@@ -332,21 +321,6 @@ fn limits_are_kept(rt: HostRuntime) -> Result<(), Fail> {
     check(&rt, alloc, &session, 0, FIRST_TEXT)?;
     let session = changed(&rt, alloc, "model m", &format!(in alloc; "model {long}x")?)?;
     check(&rt, alloc, &session, 3, LONG_NAME)?;
-    let body = repeated(alloc, " n += 0;", 61)?;
-    let session = changed(
-        &rt,
-        alloc,
-        "delay 10us;",
-        &format!(in alloc; "delay 10us;{body}")?,
-    )?;
-    check(&rt, alloc, &session, 0, FIRST_TEXT)?;
-    let session = changed(
-        &rt,
-        alloc,
-        "delay 10us;",
-        &format!(in alloc; "delay 10us;{body} n += 0;")?,
-    )?;
-    check(&rt, alloc, &session, 3, UNBUILT)?;
     Ok(())
 }
 

@@ -1,4 +1,0 @@
-pub mod Digits
-pub mod Lists
-pub mod Steps
-pub mod Words
