@@ -1,59 +1,139 @@
--- What the program was to write.
-use Rattle.std.proofs.Common.{◌≡◌, ℕ, ◌<◌, ◌≤◌, ◌↔◌, IsTrue, Bool, true, false, cond, leb, List, [], ◌∷◌, length, get_or, codes, String, Option, Some, None, refl, sym, ap, subst, ◌∙◌, inl, inr, arith}
-use Rattle.std.specs.Prelude.{option_map, string_bytes}
-use Rattle.std.specs.declared.alloc.Global.{Global}
+-- What the program answers: its statuses, and the input that was read for it.
+use Rattle.std.proofs.Common.{◌≡◌, ℕ, IsTrue, Bool, true, false, List, [], codes, length, Option, Some, None, Ok, Err, refl, sym, subst, ap, ◌∙◌, inl, inr, arith}
+use Rattle.std.proofs.lemmas.Bool.{lt-ltb}
 use Rattle.std.specs.Io.KnownBytes.{IsAtEnd}
-use Rattle.std.specs.Str.{bytes_eq}
-use Rattle.std.proofs.lemmas.Slice.Eq.{bytes_eq-Decides}
-use Rattle.std.proofs.lemmas.Bool.{leb-true}
+use Rattle.command_line.specs.declared.invocation.Invocation.{Invocation}
+use Rattle.command_line.specs.declared.invocation.Mode.{Mode}
+use Rattle.command_line.specs.declared.invocation.Mode.TheVariants.{Run, Check, Make}
+use Rattle.session_judge.specs.Judging.{Judgement, judged_session}
+use Rattle.session_judge.specs.Telling.{told_session}
+use Rattle.session_judge.specs.declared.judged.JudgedSession.{JudgedSession}
+use Rattle.session_reader.specs.declared.session_error.SessionError.TheVariants.{TooLarge}
 use Rattle.aerie.specs.Input.{HasReadAll}
-use Rattle.aerie.specs.Output.{WritesAll}
-use Rattle.aerie.specs.Program.{AreRunWords}
+use Rattle.aerie.specs.Program.{ProgramAnswer, IsAnswerTo, IsInputIf, IsModeAnswer, IsProgramAnswer, IsRunAnswer, check_answer, is_answered, is_thin, made_answer, mode_reads, named_answer, number_of_status, reads_input, refused_answer, thin_answer, thin_text_answer}
+use Rattle.aerie.specs.declared.exit_status.ExitStatus.TheVariants as status
 use Rattle.aerie.specs.declared.thin.session.Session.{Session}
-use Rattle.aerie.specs.declared.thin.syntax.Text.{Text}
-use Rattle.aerie.specs.thin.Checking.{session_of, session_in}
-use Rattle.aerie.specs.thin.Reading.{text_read}
-use Rattle.aerie.specs.thin.Size.{is_small}
-use Rattle.aerie.specs.thin.Words.{◌>>=◌}
-use Rattle.aerie.specs.thin.Lines.{text_of}
+use Rattle.aerie.specs.thin.Checking.{session_of}
 
--- one word is the words, and it is `run` where the bytes say so
-pub one_word : (words : List (String Global)) (word : String Global) (r : Bool) → 1 ≤ length words → length words < 2 → word ≡ get_or words 0 word
-    → r ≡ bytes_eq (string_bytes word) (codes "run") → IsTrue r ↔ AreRunWords words
-one_word [] word r some few is test = absurd (omega arith)
-one_word (w ∷ v ∷ ws) word r some few is test = absurd (omega (arith, few))
-one_word (w ∷ []) word r some few is test =
-    let same = bytes_eq-Decides (string_bytes word) (codes "run") in
-    (λ h. ap (λ (t : List ℕ). t ∷ []) (ap string_bytes (sym is) ∙ same.0 (sym test ∙ h)), λ good. test ∙ same.1 (ap string_bytes is ∙ head good))
+-- ---- statuses
+
+abbrev Tells : ProgramAnswer → Type 0
+Tells answer = IsTrue (is_answered (number_of_status answer.status))
+
+as_told : (answer wanted : ProgramAnswer) → answer ≡ wanted → Tells wanted → Tells answer
+as_told answer wanted is tells = subst Tells (sym is) tells
+
+check_tells : (judgement : Judgement JudgedSession) → Tells (check_answer judgement)
+check_tells (Ok judged) = refl
+check_tells (Err refusal) = refl
+
+thin_text_tells : (thin : Option Session) → Tells (thin_text_answer thin)
+thin_text_tells None = refl
+thin_text_tells (Some thin) = refl
+
+thin_tells : (may : Bool) (input : List ℕ) → Tells (thin_answer may input)
+thin_tells false input = refl
+thin_tells true input = thin_text_tells (session_of input)
+
+run_tells : (invocation : Invocation) (input : List ℕ) (judgement : Judgement JudgedSession) (answer : ProgramAnswer) → IsRunAnswer invocation input judgement answer → Tells answer
+run_tells invocation input (Ok judged) answer is = as_told answer (thin_answer (is_thin invocation) input) is (thin_tells (is_thin invocation) input)
+run_tells invocation input (Err refusal) answer is = as_told answer (refused_answer status.Refused refusal) is refl
+
+made_tells : (number : ℕ) (text : Bool) → Tells (made_answer number text)
+made_tells number true = refl
+made_tells number false = refl
+
+mode_tells : (invocation : Invocation) (input : List ℕ) (mode : Mode) (answer : ProgramAnswer) → IsModeAnswer invocation input mode answer → Tells answer
+mode_tells invocation input Run answer is = run_tells invocation input (judged_session input) answer is
+mode_tells invocation input Check answer is = as_told answer (check_answer (judged_session input)) is (check_tells (judged_session input))
+mode_tells invocation input (Make number text) answer is = as_told answer (made_answer number text) is (made_tells number text)
+
+program_tells : (invocation : Option Invocation) (input : List ℕ) (answer : ProgramAnswer) → IsProgramAnswer invocation input answer → Tells answer
+program_tells None input answer is = as_told answer (named_answer status.Words (codes "Words")) is refl
+program_tells (Some invocation) input answer is = mode_tells invocation input invocation.mode answer is
+
+-- the program's answers have one of the statuses with which all is written
+pub answer_tells : (invocation : Option Invocation) (before after : Option (List ℕ)) (answer : ProgramAnswer) → IsAnswerTo invocation before after answer
+    → IsTrue (is_answered (number_of_status answer.status))
+answer_tells invocation before after answer is = program_tells invocation is.input answer is.told
+
+false_is_true : false ≡ true → ⊥
+false_is_true e = cc
+
+-- those are not the statuses of what failed
+pub not_four : (n : ℕ) → IsTrue (is_answered n) → n ≡ 4 → ⊥
+not_four n tells is = false_is_true (subst (λ (m : ℕ). is_answered m ≡ true) is tells)
+
+pub not_five : (n : ℕ) → IsTrue (is_answered n) → n ≡ 5 → ⊥
+not_five n tells is = false_is_true (subst (λ (m : ℕ). is_answered m ≡ true) is tells)
+
+pub not_six : (n : ℕ) → IsTrue (is_answered n) → n ≡ 6 → ⊥
+not_six n tells is = false_is_true (subst (λ (m : ℕ). is_answered m ≡ true) is tells)
+
+-- ---- the whole input
+
+-- a session of too many bytes is refused
+too_long : (input : List ℕ) → length input ≡ 16_777_217 → judged_session input ≡ Err (told_session input [] TooLarge)
+unfolding judged_session
+too_long input is = rw (lt-ltb 16_777_216 (length input) (omega (arith, is))) refl
+
+refused_is_not_done : (answer : ProgramAnswer) (input : List ℕ) → answer ≡ refused_answer status.Refused (told_session input [] TooLarge) → number_of_status answer.status ≡ 0 → ⊥
+refused_is_not_done answer input is done = absurd (clash (subst (λ (one : ProgramAnswer). number_of_status one.status ≡ 0) is done))
   where
-    head : {a b : List ℕ} → ◌≡◌ {A = List (List ℕ)} (a ∷ []) (b ∷ []) → a ≡ b
-    head e = cc
+    clash : ◌≡◌ {A = ℕ} 3 0 → ⊥
+    clash e = omega (arith, e)
 
--- no text is written where there is no session
-pub no_session : (o : Option Session) → None ≡ option_map text_of o → o ≡ None
-no_session None e = refl
-no_session (Some s) e = absurd cc
+not_done : (invocation : Invocation) (input : List ℕ) (mode : Mode) (answer : ProgramAnswer) → IsModeAnswer invocation input mode answer
+    → mode_reads mode ≡ true → length input ≡ 16_777_217 → number_of_status answer.status ≡ 0 → ⊥
+not_done invocation input Run answer is reads long done =
+    refused_is_not_done answer input (subst (λ (j : Judgement JudgedSession). IsRunAnswer invocation input j answer) (too_long input long) is) done
+not_done invocation input Check answer is reads long done =
+    refused_is_not_done answer input (subst (λ (j : Judgement JudgedSession). answer ≡ check_answer j) (too_long input long) is) done
+not_done invocation input (Make number text) answer is reads long done = absurd cc
 
--- a text that is written is that of the session
-pub of_session : (o : Option Session) (text : List ℕ) → Some text ≡ option_map text_of o → (s : Session) × (o ≡ Some s) × (text ≡ text_of s)
-of_session None text e = absurd cc
-of_session (Some s) text e = (s, refl, cc)
+ended : (invocation : Option Invocation) (before after : Option (List ℕ)) (input : List ℕ) (answer : ProgramAnswer) → IsInputIf (reads_input invocation) before after input
+    → IsProgramAnswer invocation input answer → number_of_status answer.status ≡ 0 → reads_input invocation ≡ true → IsAtEnd after
+ended None before after input answer is told done reads = absurd cc
+ended (Some invocation) before after input answer is told done reads =
+    let all : HasReadAll before after input = subst (λ (t : Bool). IsInputIf t before after input) reads is in
+    elim all.ended [ inl end ↦ end | inr long ↦ absurd (not_done invocation input invocation.mode answer told reads long done) ]
 
-fits : (t : Bool) (read : Option Text) (s : Session) → ((cond t read None) >>= λ text. session_in text >>= λ session. cond (is_small session) (Some session) None) ≡ Some s → t ≡ true
-fits true read s e = refl
-fits false read s e = absurd cc
+-- where all is done, a source that was read was read to its end
+pub read_to_end : (invocation : Option Invocation) (before after : Option (List ℕ)) (answer : ProgramAnswer) → IsAnswerTo invocation before after answer
+    → number_of_status answer.status ≡ 0 → reads_input invocation ≡ true → IsAtEnd after
+read_to_end invocation before after answer is done reads = ended invocation before after is.input answer is.read is.told done reads
 
--- a session is shorter than the most that is read
-pub session_len : (input : List ℕ) (s : Session) → session_of input ≡ Some s → length input ≤ 16_777_216
-unfolding session_of
-session_len input s e = leb-true _ _ (fits (leb (length input) 16_777_216) (text_read input) s e)
+-- ---- answers by modes
 
--- the input of a session was read to its end
-pub read_to_end : (before after : Option (List ℕ)) (input : List ℕ) (s : Session) → HasReadAll before after input → session_of input ≡ Some s → IsAtEnd after
-read_to_end before after input s all is =
-    elim all.ended [ inl end ↦ end | inr long ↦ absurd (omega (arith, session_len input s is, long)) ]
+of_mode : (invocation : Invocation) (mode : Mode) (before after : Option (List ℕ)) (input : List ℕ) (answer : ProgramAnswer) → invocation.mode ≡ mode
+    → IsInputIf (mode_reads mode) before after input → IsModeAnswer invocation input mode answer → IsAnswerTo (Some invocation) before after answer
+of_mode invocation mode before after input answer is read told = record {
+  input = input;
+  read = subst (λ (m : Mode). IsInputIf (mode_reads m) before after input) (sym is) read;
+  told = subst (λ (m : Mode). IsModeAnswer invocation input m answer) (sym is) told;
+}
 
--- what was written, under another name of the text
-pub written_text : (before after : Option (List ℕ)) (pieces pieces' : Option (List (List ℕ))) (text other : List ℕ) → text ≡ other
-    → WritesAll before after pieces pieces' text → WritesAll before after pieces pieces' other
-written_text before after pieces pieces' text other is h = subst (WritesAll before after pieces pieces') is h
+pub of_check : (invocation : Invocation) (before after : Option (List ℕ)) (input : List ℕ) (answer : ProgramAnswer) → invocation.mode ≡ Check
+    → HasReadAll before after input → answer ≡ check_answer (judged_session input) → IsAnswerTo (Some invocation) before after answer
+of_check invocation before after input answer is read told = of_mode invocation Check before after input answer is read told
+
+pub of_run : (invocation : Invocation) (before after : Option (List ℕ)) (input : List ℕ) (answer : ProgramAnswer) → invocation.mode ≡ Run
+    → HasReadAll before after input → IsRunAnswer invocation input (judged_session input) answer → IsAnswerTo (Some invocation) before after answer
+of_run invocation before after input answer is read told = of_mode invocation Run before after input answer is read told
+
+pub of_make : (invocation : Invocation) (number : ℕ) (text : Bool) (before after : Option (List ℕ)) (answer : ProgramAnswer) → invocation.mode ≡ Make number text
+    → answer ≡ made_answer number text → IsAnswerTo (Some invocation) before after answer
+of_make invocation number text before after answer is told = of_mode invocation (Make number text) before after [] answer is tt told
+
+-- words that are no invocation
+pub of_no_words : (invocation : Option Invocation) (before after : Option (List ℕ)) (answer : ProgramAnswer) → invocation ≡ None
+    → answer ≡ named_answer status.Words (codes "Words") → IsAnswerTo invocation before after answer
+of_no_words invocation before after answer is told =
+    subst (λ (one : Option Invocation). IsAnswerTo one before after answer) (sym is) (record { input = []; read = tt; told = told })
+
+-- a mode that reads is none that does not
+pub reads_in : (invocation : Invocation) (mode : Mode) → invocation.mode ≡ mode → mode_reads mode ≡ true → reads_input (Some invocation) ≡ false → ⊥
+reads_in invocation mode is reads not = absurd (clash (sym reads ∙ ap mode_reads (sym is) ∙ not))
+  where
+    clash : true ≡ false → ⊥
+    clash e = cc

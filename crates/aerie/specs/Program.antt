@@ -1,32 +1,129 @@
--- What the program answers.
-use Rattle.std.specs.Prelude.{◌≡◌, ℕ, ◌==◌, Bool, ◌||◌, List, [], ◌∷◌, Option, String, string_bytes, codes, map, option_map, unwrap_or}
-use Rattle.std.specs.declared.alloc.Global.{Global}
+-- What the program answers to the words and to the input.
+use Rattle.std.specs.Prelude.{◌≡◌, ℕ, ◌==◌, Bool, true, false, not, ◌||◌, ◌&&◌, List, Option, Some, None, Ok, Err, codes, nat_le}
+use Rattle.aerie_text.specs.Json.{line_of}
+use Rattle.command_line.specs.declared.invocation.Invocation.{Invocation}
+use Rattle.command_line.specs.declared.invocation.Mode.{Mode}
+use Rattle.command_line.specs.declared.invocation.Mode.TheVariants.{Run, Check, Make}
+use Rattle.report_text.specs.Refusals.{refusal_data, refused_data}
+use Rattle.report_text.specs.declared.refusals.Refusal.{Refusal}
+use Rattle.session_judge.specs.Accepted.{accepted_data}
+use Rattle.session_judge.specs.Judging.{Judgement, judged_session}
+use Rattle.session_judge.specs.Telling.{told_name}
+use Rattle.session_judge.specs.declared.judged.JudgedSession.{JudgedSession}
+use Rattle.session_make.specs.Sessions.{session}
 use Rattle.aerie.specs.Input.{HasReadAll}
+use Rattle.aerie.specs.declared.exit_status.ExitStatus.{ExitStatus}
+use Rattle.aerie.specs.declared.exit_status.ExitStatus.TheVariants as status
 use Rattle.aerie.specs.thin.Checking.{session_of}
 use Rattle.aerie.specs.thin.Lines.{text_of}
+use Rattle.aerie.specs.declared.thin.session.Session.{Session}
 
--- the statuses: done, words that are not in the grammar, a session that is refused, a read that failed, a write that
--- failed, want of memory
+-- ---- statuses
+
+-- the number that a status is
+abbrev pub number_of_status : ExitStatus → ℕ
+number_of_status status.Done = 0
+number_of_status status.Words = 2
+number_of_status status.Refused = 3
+number_of_status status.ReadFailed = 4
+number_of_status status.WriteFailed = 5
+number_of_status status.OutOfMemory = 6
+
+-- the statuses with which the whole answer was written: done, words that are not in the grammar, a session that is refused
+abbrev pub is_answered : ℕ → Bool
+is_answered n = (n == 0) || (n == 2) || (n == 3)
+
+-- those, a read that failed, a write that failed, want of memory
 abbrev pub is_status : ℕ → Bool
-is_status n = (n == 0) || (n == 2) || (n == 3) || (n == 4) || (n == 5) || (n == 6)
+is_status n = is_answered n || (n == 4) || (n == 5) || (n == 6)
 
--- the words are the one word `run`
-abbrev pub AreRunWords : List (String Global) → Type 0
-AreRunWords words = map (λ word. string_bytes word) words ≡ codes "run" ∷ []
+-- ---- answers
 
--- the line for other words
-abbrev pub words_line : List ℕ
-words_line = codes "{\"refused\":{\"name\":\"Words\"}}\n"
+-- what is written, and the status where all of it is written
+pub record ProgramAnswer : Type 0 where
+  pub status : ExitStatus
+  pub text : List ℕ
 
--- the line for an input that is no thin session
-abbrev pub unbuilt_line : List ℕ
-unbuilt_line = codes "{\"refused\":{\"name\":\"Unbuilt\"}}\n"
+abbrev pub answer_with : ExitStatus → List ℕ → ProgramAnswer
+answer_with ending text = record { status = ending; text = text }
 
--- what is written for an input where the words are good
-abbrev pub output_of : List ℕ → List ℕ
-output_of input = unwrap_or (option_map text_of (session_of input)) unbuilt_line
+-- why something is refused
+abbrev pub refused_answer : ExitStatus → Refusal → ProgramAnswer
+refused_answer ending refusal = answer_with ending (line_of (refused_data (refusal_data refusal)))
 
--- what was to be written: the line for the words, or the output for the input that was read
-pub record IsOutput (words : List (String Global)) (before after : Option (List ℕ)) (text : List ℕ) : Type 0 where
-  pub for_words : ¬ (AreRunWords words) → text ≡ words_line
-  pub for_input : AreRunWords words → (input : List ℕ) × HasReadAll before after input × (text ≡ output_of input)
+-- by its name alone
+abbrev pub named_answer : ExitStatus → List ℕ → ProgramAnswer
+named_answer ending name = refused_answer ending (told_name name)
+
+-- what the program does not take yet
+abbrev pub unbuilt_answer : ProgramAnswer
+unbuilt_answer = named_answer status.Refused (codes "Unbuilt")
+
+-- ---- check
+
+-- a session is judged with all its rules, and the clients and commands of one that is good are counted
+abbrev pub check_answer : Judgement JudgedSession → ProgramAnswer
+check_answer (Ok judged) = answer_with status.Done (line_of (accepted_data judged.session))
+check_answer (Err refusal) = refused_answer status.Refused refusal
+
+-- ---- run
+
+-- a thin session runs to its end with so many statements, whose number is not told
+abbrev pub is_thin : Invocation → Bool
+is_thin invocation = nat_le 1_000 invocation.limit && not invocation.stats
+
+abbrev pub thin_text_answer : Option Session → ProgramAnswer
+thin_text_answer None = unbuilt_answer
+thin_text_answer (Some thin) = answer_with status.Done (text_of thin)
+
+-- of good sessions the thin ones are performed
+abbrev pub thin_answer : Bool → List ℕ → ProgramAnswer
+thin_answer false input = unbuilt_answer
+thin_answer true input = thin_text_answer (session_of input)
+
+-- a session is judged, and performed where it is good
+abbrev pub IsRunAnswer : Invocation → List ℕ → Judgement JudgedSession → ProgramAnswer → Type 0
+IsRunAnswer invocation input (Ok judged) answer = answer ≡ thin_answer (is_thin invocation) input
+IsRunAnswer invocation input (Err refusal) answer = answer ≡ refused_answer status.Refused refusal
+
+-- ---- make
+
+-- the text of a generated session
+abbrev pub made_answer : ℕ → Bool → ProgramAnswer
+made_answer number true = answer_with status.Done (session number)
+made_answer number false = unbuilt_answer
+
+-- ---- the program
+
+abbrev pub IsModeAnswer : Invocation → List ℕ → Mode → ProgramAnswer → Type 0
+IsModeAnswer invocation input Run answer = IsRunAnswer invocation input (judged_session input) answer
+IsModeAnswer invocation input Check answer = answer ≡ check_answer (judged_session input)
+IsModeAnswer invocation input (Make number text) answer = answer ≡ made_answer number text
+
+-- what the program may answer to an invocation, if the words are one, and to the bytes of the input
+abbrev pub IsProgramAnswer : Option Invocation → List ℕ → ProgramAnswer → Type 0
+IsProgramAnswer None input answer = answer ≡ named_answer status.Words (codes "Words")
+IsProgramAnswer (Some invocation) input answer = IsModeAnswer invocation input invocation.mode answer
+
+-- ---- the input
+
+abbrev pub mode_reads : Mode → Bool
+mode_reads Run = true
+mode_reads Check = true
+mode_reads (Make number text) = false
+
+-- a session that is performed or judged is read, and nothing else
+abbrev pub reads_input : Option Invocation → Bool
+reads_input None = false
+reads_input (Some invocation) = mode_reads invocation.mode
+
+-- the input was read to its end or as far as is read, where it is read
+abbrev pub IsInputIf : Bool → Option (List ℕ) → Option (List ℕ) → List ℕ → Type 0
+IsInputIf true before after input = HasReadAll before after input
+IsInputIf false before after input = Unit {0}
+
+-- the answer is one to the input that was read
+pub record IsAnswerTo (invocation : Option Invocation) (before after : Option (List ℕ)) (answer : ProgramAnswer) : Type 0 where
+  pub input : List ℕ
+  pub read : IsInputIf (reads_input invocation) before after input
+  pub told : IsProgramAnswer invocation input answer

@@ -1,7 +1,9 @@
 ghost use Rattle.std.specs.Prelude.{◌≡◌, ◌≤◌, ◌+◌, ℕ, List, length, IfOk, IfErr};
+ghost use Rattle.aerie.specs.declared.input.InputError.TheVariants.{OutOfMemory as NoMemory};
 ghost use Rattle.aerie_edge.specs.Faults.{Rose};
 ghost use Rattle.aerie.specs.Input.{HasRead, HasReadAll, ReadsMore};
 
+use aerie_base::OutOfMemory;
 use aerie_edge::Source;
 use std::alloc::Global;
 
@@ -17,6 +19,14 @@ pub enum InputError {
     /// The source failed.
     Failed,
     OutOfMemory,
+}
+
+impl From<OutOfMemory> for InputError {
+    ghost from_gives = { λ _ e. e ≡ NoMemory };
+
+    fn from(_error: OutOfMemory) -> InputError {
+        InputError::OutOfMemory
+    }
 }
 
 /// One read, to the end of the bytes; how many bytes it gave.

@@ -2,6 +2,8 @@
 //! standard input, and writes the journal and the replies to the standard output.
 #![tactic(auto)]
 
+mod answers;
+mod exit_status;
 mod input;
 mod output;
 mod program;
@@ -11,7 +13,8 @@ mod thin;
 
 use aerie_base::OutOfMemory;
 use aerie_edge::{Open, StdSink, StdSource};
-use program::{ExitStatus, with_own_counter};
+use exit_status::ExitStatus;
+use program::with_own_counter;
 use std::env;
 use std::io::ErrorKind;
 use std::process::ExitCode;
@@ -35,7 +38,7 @@ fn words<R: Env + AllocGlobal>(rt: &R) -> Result<Vec<String>, OutOfMemory> {
 fn main(rt: HostRuntime) -> ExitCode {
     let words = match words(&rt) {
         Ok(words) => words,
-        Err(OutOfMemory) => return ExitCode::from(ExitStatus::OutOfMemory as u8),
+        Err(OutOfMemory) => return ExitCode::from(ExitStatus::OutOfMemory.number()),
     };
     let mut source = StdSource::new(rt.stdin());
     let mut sink = StdSink::new(rt.stdout());

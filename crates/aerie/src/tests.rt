@@ -3,6 +3,7 @@ use crate::program::with_own_counter;
 use aerie_edge::{
     Gate, HoldUntil, MemorySink, MemorySource, Open, Point, Sink, Source, SureSource,
 };
+use session_make::make;
 use std::alloc::{AllocError, Global};
 use std::process::Abort;
 use std::sync::Wait;
@@ -21,24 +22,60 @@ const FIRST_TEXT: &str = r#"[[0,0,0],[0,1,0],[0,1,1]]
 {"client":"a","command":1,"ok":{"attached":true,"branch":"main","outcome":"completed","profiles":[{"name":"n","segments":[[0,0],[5,3],[15,6]]}],"reach":100,"revision":1,"spans":[{"arguments":{"by":3},"end":15,"path":"1","result":null,"start":5,"type":"Bump"}],"violations":[]}}
 "#;
 
+/// A word of 65 bytes is no token.
+const LONG_NAME: &str = "{\"refused\":{\"column\":7,\"line\":1,\"name\":\"Syntax\"}}\n";
+
+const TOO_LARGE: &str = "{\"refused\":{\"name\":\"TooLarge\"}}\n";
+
 const UNBUILT: &str = "{\"refused\":{\"name\":\"Unbuilt\"}}\n";
 
-/// The one good list of words.
-fn run_words(alloc: Global) -> Result<Vec<String>, AllocError> {
+/// The words of a text, which are parted by spaces.
+fn words_in(alloc: Global, text: &str) -> Result<Vec<String>, AllocError> {
     let mut words = Vec::new(alloc);
-    words.push(String::from_str(alloc, "run")?)?;
+    for word in text.split(' ') {
+        words.push(String::from_str(alloc, word)?)?;
+    }
     Ok(words)
 }
 
-/// The status of the program over this source and this sink.
+/// The status of the program with these words over this source and this sink.
+fn status_with<R: Threads + Wait + Sync, S: Source, K: Sink>(
+    rt: &R,
+    alloc: Global,
+    words: &str,
+    source: &mut S,
+    sink: &mut K,
+) -> Result<u8, AllocError> {
+    let words = words_in(alloc, words)?;
+    Ok(with_own_counter(rt, alloc, &words, source, sink, &Open))
+}
+
+/// The status of the program where it performs the session of this source.
 fn status_of<R: Threads + Wait + Sync, S: Source, K: Sink>(
     rt: &R,
     alloc: Global,
     source: &mut S,
     sink: &mut K,
 ) -> Result<u8, AllocError> {
-    let words = run_words(alloc)?;
-    Ok(with_own_counter(rt, alloc, &words, source, sink, &Open))
+    status_with(rt, alloc, "run", source, sink)
+}
+
+/// Calls the program with these words and this session, and compares the status and what is written.
+fn check_with<R: Threads + Wait + Sync + Abort>(
+    rt: &R,
+    alloc: Global,
+    words: &str,
+    session: &str,
+    status: u8,
+    text: &str,
+) -> Result<(), AllocError> {
+    let bytes = Vec::from_slice(alloc, session.as_bytes())?;
+    let mut source = MemorySource::new(bytes, 4096, Vec::new(alloc));
+    let mut sink = MemorySink::new(alloc, usize::MAX, Vec::new(alloc));
+    let got = status_with(rt, alloc, words, &mut source, &mut sink)?;
+    assert_eq!(rt; got, status, "of {words}, {session}");
+    assert_eq!(rt; sink.bytes(), text.as_bytes(), "of {words}, {session}");
+    Ok(())
 }
 
 /// Runs the session, and compares the status and what is written.
@@ -49,12 +86,7 @@ fn check<R: Threads + Wait + Sync + Abort>(
     status: u8,
     text: &str,
 ) -> Result<(), AllocError> {
-    let mut source = SureSource::new(Vec::from_slice(alloc, session.as_bytes())?);
-    let mut sink = MemorySink::new(alloc, usize::MAX, Vec::new(alloc));
-    let got = status_of(rt, alloc, &mut source, &mut sink)?;
-    assert_eq!(rt; got, status, "of {session}");
-    assert_eq!(rt; sink.bytes(), text.as_bytes(), "of {session}");
-    Ok(())
+    check_with(rt, alloc, "run", session, status, text)
 }
 
 /// The first session with one of its parts changed.
@@ -126,58 +158,168 @@ fn thin_sessions_are_performed(rt: HostRuntime) -> Result<(), Fail> {
     Ok(())
 }
 
+/// Changes of the first session that leave it good, but not thin.
+const UNBUILT_CHANGES: [(&str, &str); 25] = [
+    ("counter n = 0;", "counter n = 0; counter k = 0;"),
+    ("counter n = 0;", "counter n = 1000000001;"),
+    ("discrete n = n;", "linear n = n;"),
+    ("by: int", "by: int = 3"),
+    ("n += by;", "require by > 0; n += by;"),
+    ("delay 10us;", "delay by;"),
+    ("delay 10us;", "delay 10;"),
+    ("delay 10us;", "// a comment\n delay 10us;"),
+    ("delay 10us;", "spawn Bump(by = 1);"),
+    ("T00:00:00Z", "T00:00:00"),
+    ("duration 100us;", "duration 5us;"),
+    ("duration 100us;", "duration 100us; at 1us Bump(by = 1);"),
+    ("at 5us", "at start of 1 + 5us"),
+    ("by = 3", "by = 1000000001"),
+    ("by = 3", "by = 3, by = 3"),
+    ("by = 3", "up = 3"),
+    ("by = 3", "by = true"),
+    ("by = 3", ""),
+    ("5us Bump", "5us Go"),
+    ("add main", "add other"),
+    ("simulate main;", "simulate main; simulate main;"),
+    ("simulate main;", "simulate other;"),
+    ("simulate main; }", "simulate main; } client b { }"),
+    ("client a {", "client a { show main;"),
+    ("client a {", "constraints { low: n < 9; } client a {"),
+];
+
 #[test]
-fn other_sessions_are_refused(rt: HostRuntime) -> Result<(), Fail> {
-    let changes = [
-        (FIRST, ""),
-        ("counter n = 0;", "counter n = 0; counter k = 0;"),
-        ("counter n = 0;", "counter n = 1000000001;"),
-        ("counter n = 0;", "counter n = 00000000000000000000;"),
-        ("counter n = 0;", "counter n = 0x;"),
-        ("counter n = 0;", ""),
-        ("discrete n = n;", "discrete n = k;"),
-        ("discrete n = n;", "linear n = n;"),
-        ("by: int", "by: truth"),
-        ("by: int", "by: int = 3"),
-        ("by: int", "by: int, by: int"),
-        ("by: int", "n: int"),
-        ("Bump(by: int)", "Bump(by: int) -> int"),
-        ("activity Bump", "activity n"),
-        ("n += by;", "n + = by;"),
-        ("n += by;", "k += by;"),
-        ("n += by;", "n += up;"),
-        ("n += by;", "n := by;"),
-        ("n += by;", "require by > 0; n += by;"),
-        ("delay 10us;", "delay by;"),
-        ("delay 10us;", "delay 10;"),
-        ("delay 10us;", "// a comment\n delay 10us;"),
-        ("delay 10us;", "spawn Bump(by = 1);"),
-        ("T00:00:00Z", "T00:00:00"),
-        ("duration 100us;", "duration 0us;"),
-        ("duration 100us;", "duration 1000000000000001us;"),
-        ("duration 100us;", "duration 5us;"),
-        ("duration 100us;", "duration 100us; at 1us Bump(by = 1);"),
-        ("plan main {", "plan plan {"),
-        ("at 5us", "at 5"),
-        ("at 5us", "at start of 1 + 5us"),
-        ("by = 3", "by = 1000000001"),
-        ("by = 3", "by = 3, by = 3"),
-        ("by = 3", "up = 3"),
-        ("by = 3", "by = true"),
-        ("by = 3", ""),
-        ("5us Bump", "5us Go"),
-        ("add main", "add other"),
-        ("simulate main;", "simulate main; simulate main;"),
-        ("simulate main;", "simulate other;"),
-        ("simulate main; }", "simulate main; } }"),
-        ("simulate main; }", "simulate main; } client b { }"),
-        ("client a {", "client a { show main;"),
-        ("client a {", "client \u{e9} {"),
-    ];
-    for (part, by) in changes {
-        let session = changed(&rt, rt.alloc(), part, by)?;
-        check(&rt, rt.alloc(), &session, 3, UNBUILT)?;
+fn other_sessions_are_not_performed_yet(rt: HostRuntime) -> Result<(), Fail> {
+    let alloc = rt.alloc();
+    for (part, by) in UNBUILT_CHANGES {
+        let session = changed(&rt, alloc, part, by)?;
+        check(&rt, alloc, &session, 3, UNBUILT)?;
     }
+    for words in ["run --stats", "run --limit 999", "make --number 5"] {
+        check_with(&rt, alloc, words, FIRST, 3, UNBUILT)?;
+    }
+    check_with(
+        &rt,
+        alloc,
+        "run --limit 1000 --serial --pieces 2",
+        FIRST,
+        0,
+        FIRST_TEXT,
+    )?;
+    Ok(())
+}
+
+/// Changes of the first session that are refused, each with the line that tells it.
+const REFUSED_CHANGES: [(&str, &str, &str); 14] = [
+    (
+        FIRST,
+        "",
+        "{\"refused\":{\"column\":1,\"line\":1,\"name\":\"Syntax\"}}\n",
+    ),
+    (
+        "counter n = 0;",
+        "counter n = 0x;",
+        "{\"refused\":{\"column\":23,\"line\":1,\"name\":\"Syntax\"}}\n",
+    ),
+    (
+        "counter n = 0;",
+        "counter n = 0; counter n = 1;",
+        "{\"refused\":{\"column\":34,\"line\":1,\"name\":\"Duplicate\",\"word\":\"n\"}}\n",
+    ),
+    (
+        "discrete n = n;",
+        "discrete n = k;",
+        "{\"refused\":{\"column\":39,\"line\":1,\"name\":\"Unknown\",\"word\":\"k\"}}\n",
+    ),
+    (
+        "by: int",
+        "by: truth",
+        "{\"refused\":{\"column\":35,\"line\":2,\"name\":\"WrongType\",\"word\":\"by\"}}\n",
+    ),
+    (
+        "n += by;",
+        "n := by;",
+        "{\"refused\":{\"column\":28,\"line\":2,\"name\":\"WrongType\",\"word\":\"n\"}}\n",
+    ),
+    (
+        "delay 10us;",
+        "delay 10us * true;",
+        "{\"refused\":{\"column\":51,\"line\":2,\"name\":\"WrongType\",\"word\":\"true\"}}\n",
+    ),
+    (
+        "T00:00:00Z",
+        "T24:00:00Z",
+        "{\"refused\":{\"column\":19,\"line\":3,\"name\":\"Start\"}}\n",
+    ),
+    (
+        "duration 100us;",
+        "duration 0us;",
+        "{\"refused\":{\"column\":52,\"line\":3,\"name\":\"Syntax\"}}\n",
+    ),
+    (
+        "duration 100us;",
+        "duration 100us; at 1us Bump();",
+        "{\"refused\":{\"edit\":{\"name\":\"BadArgument\",\"parameter\":\"by\"},\"name\":\"Directive\",\"number\":0}}\n",
+    ),
+    (
+        "simulate main; }",
+        "simulate main; } client a { }",
+        "{\"refused\":{\"column\":66,\"line\":4,\"name\":\"Client\"}}\n",
+    ),
+    (
+        "client a {",
+        "load a `[]`; client a {",
+        "{\"refused\":{\"fault\":{\"name\":\"NotADataset\"},\"name\":\"Dataset\",\"number\":0}}\n",
+    ),
+    (
+        "client a {",
+        "constraints {\n a: k > 0; } client a {",
+        "{\"refused\":{\"column\":5,\"line\":5,\"name\":\"Unknown\",\"word\":\"k\"}}\n",
+    ),
+    (
+        "client a {",
+        "client \u{e9} {",
+        "{\"refused\":{\"column\":8,\"line\":4,\"name\":\"Syntax\"}}\n",
+    ),
+];
+
+/// Whether a session is performed or judged, its first refusal is told.
+#[test]
+fn sessions_are_refused(rt: HostRuntime) -> Result<(), Fail> {
+    let alloc = rt.alloc();
+    for (part, by, text) in REFUSED_CHANGES {
+        let session = changed(&rt, alloc, part, by)?;
+        check_with(&rt, alloc, "run", &session, 3, text)?;
+        check_with(&rt, alloc, "check --stats", &session, 3, text)?;
+    }
+    check_with(
+        &rt,
+        alloc,
+        "check",
+        FIRST,
+        0,
+        "{\"clients\":1,\"commands\":2,\"session\":\"ok\"}\n",
+    )?;
+    Ok(())
+}
+
+/// A session is made and nothing is read, so that the source's fault is not met. What is made is good.
+#[test]
+fn sessions_are_made(rt: HostRuntime) -> Result<(), Fail> {
+    let alloc = rt.alloc();
+    let mut source = MemorySource::new(Vec::new(alloc), 64, Vec::from_slice(alloc, &[1u64])?);
+    let mut sink = MemorySink::new(alloc, 1000, Vec::new(alloc));
+    let words = "make --text --number 13";
+    assert_eq!(rt; status_with(&rt, alloc, words, &mut source, &mut sink)?, 0);
+    assert_eq!(rt; sink.bytes(), make(alloc, 13)?.as_bytes());
+    let text = make(alloc, 300)?;
+    check_with(
+        &rt,
+        alloc,
+        "check",
+        &text,
+        0,
+        "{\"clients\":3,\"commands\":10,\"session\":\"ok\"}\n",
+    )?;
     Ok(())
 }
 
@@ -189,7 +331,7 @@ fn limits_are_kept(rt: HostRuntime) -> Result<(), Fail> {
     let session = changed(&rt, alloc, "model m", &format!(in alloc; "model {long}")?)?;
     check(&rt, alloc, &session, 0, FIRST_TEXT)?;
     let session = changed(&rt, alloc, "model m", &format!(in alloc; "model {long}x")?)?;
-    check(&rt, alloc, &session, 3, UNBUILT)?;
+    check(&rt, alloc, &session, 3, LONG_NAME)?;
     let body = repeated(alloc, " n += 0;", 61)?;
     let session = changed(
         &rt,
@@ -221,17 +363,24 @@ fn padded(alloc: Global, len: usize) -> Result<Vec<u8>, AllocError> {
 #[test]
 fn a_session_has_a_longest_length(rt: HostRuntime) -> Result<(), Fail> {
     let alloc = rt.alloc();
-    for (len, status, text) in [(16_777_216, 0, FIRST_TEXT), (16_777_217, 3, UNBUILT)] {
+    for (len, status, text) in [(16_777_216, 0, FIRST_TEXT), (16_777_217, 3, TOO_LARGE)] {
         let mut source = SureSource::new(padded(alloc, len)?);
         let mut sink = MemorySink::new(alloc, usize::MAX, Vec::new(alloc));
         let got = status_of(&rt, alloc, &mut source, &mut sink)?;
         assert_eq!(rt; got, status);
         assert_eq!(rt; sink.bytes(), text.as_bytes());
     }
-    let spaces = vec![in alloc; b' '; 16_777_217]?;
+    let spaces = vec![in alloc; b' '; 16_777_216]?;
     let mut source = SureSource::new(spaces);
     let mut sink = MemorySink::new(alloc, usize::MAX, Vec::new(alloc));
-    assert_eq!(rt; status_of(&rt, alloc, &mut source, &mut sink)?, 3);
+    assert_eq!(rt;
+        status_with(&rt, alloc, "check", &mut source, &mut sink)?,
+        3
+    );
+    assert_eq!(rt;
+        sink.bytes(),
+        b"{\"refused\":{\"column\":16777217,\"line\":1,\"name\":\"Syntax\"}}\n".as_slice()
+    );
     Ok(())
 }
 
@@ -278,21 +427,65 @@ fn a_write_that_fails_leaves_a_front(rt: HostRuntime) -> Result<(), Fail> {
     Ok(())
 }
 
+/// Words that are in no grammar.
+const OTHER_WORDS: [&str; 45] = [
+    "--limit= 9 run",
+    "",
+    "Run",
+    "walk",
+    "run run",
+    "run check",
+    "run --help",
+    "--help",
+    "-h",
+    "--version",
+    "-V",
+    "run -s",
+    "run --serial --serial",
+    "run --stats --stats",
+    "run --limit 1 --limit 1",
+    "run --pieces 1 --pieces 2",
+    "make --number 1 --number 1",
+    "make --number 1 --text --text",
+    "run --limit",
+    "run --limit 0",
+    "run --limit 100000001",
+    "run --limit=",
+    "run --limit -1",
+    "run --limit 1x",
+    "run --limit 0x10",
+    "run --limit 1.0",
+    "run --limit 1_000",
+    "run --limit ++1",
+    "run --limit 18446744073709551617",
+    "run --pieces 0",
+    "run --pieces 65",
+    "run --lim 1",
+    "run --ser",
+    "run --serial=true",
+    "run --number 5",
+    "check --number 5",
+    "run --text",
+    "check --text",
+    "make",
+    "make --text",
+    "make --number 0",
+    "make --number 20001",
+    "make --number five",
+    "run -- --serial",
+    "run --unknown",
+];
+
 /// Nothing is read for other words, so that the source's fault is not met.
 #[test]
 fn other_words_are_refused(rt: HostRuntime) -> Result<(), Fail> {
     let alloc = rt.alloc();
-    let lists: [&[&str]; 5] = [&[], &["check"], &["Run"], &["run", "run"], &["run "]];
-    for list in lists {
-        let mut words = Vec::new(alloc);
-        for word in list {
-            words.push(String::from_str(alloc, *word)?)?;
-        }
+    for words in OTHER_WORDS {
         let bytes = Vec::from_slice(alloc, FIRST.as_bytes())?;
         let mut source = MemorySource::new(bytes, 64, Vec::from_slice(alloc, &[1u64])?);
         let mut sink = MemorySink::new(alloc, usize::MAX, Vec::new(alloc));
-        let status = with_own_counter(&rt, alloc, &words, &mut source, &mut sink, &Open);
-        assert_eq!(rt; status, 2);
+        let status = status_with(&rt, alloc, words, &mut source, &mut sink)?;
+        assert_eq!(rt; status, 2, "of {words}");
         assert_eq!(rt;
             sink.bytes(),
             b"{\"refused\":{\"name\":\"Words\"}}\n".as_slice()
@@ -305,7 +498,7 @@ fn other_words_are_refused(rt: HostRuntime) -> Result<(), Fail> {
 #[test]
 fn the_gate_sees_the_simulation(rt: HostRuntime) -> Result<(), Fail> {
     let alloc = rt.alloc();
-    let words = run_words(alloc)?;
+    let words = words_in(alloc, "run")?;
     let holds = HoldUntil::new(0, 1, 5);
     let waits = HoldUntil::new(1, 0, 5);
     for gate in [&holds, &waits] {

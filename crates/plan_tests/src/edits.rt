@@ -3,7 +3,7 @@
 ghost use Rattle.aerie_base.specs.plans.OfModel.{IsPlanOf};
 
 use crate::models::{bump_model, list_of_one, name, no_directives};
-use crate::words::{is_told, word};
+use crate::words::{is_told, word, word_of_copy};
 use aerie_base::{
     Anchor, Edge, List, Model, Name, Number, Plan, RawArgument, RawValue, Time, When,
 };
@@ -76,7 +76,10 @@ pub fn add_one(
     requires { IsPlanOf model.now plan.old }
     ensures { IsPlanOf model.now plan.new }
 {
-    word(add(alloc, model, plan, at, &kind, arguments.as_slice()))
+    match add(alloc, model, plan, at, &kind, arguments.as_slice()) {
+        Ok(_) => ("ok", 0),
+        Err(error) => word_of_copy(alloc, &error),
+    }
 }
 
 /// What setting an argument of a directive answers.

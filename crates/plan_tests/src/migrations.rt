@@ -57,7 +57,7 @@ fn a_bump_becomes_a_step(rt: HostRuntime) {
     let old = bump_model(&rt, alloc);
     let new = wide_step_model(&rt, alloc);
     let mut plan = one_bump(&rt, alloc, &old, BUMP);
-    let mapping = bump_to_step(&rt, alloc);
+    let mapping = bump_to_step(&rt, alloc).copy(alloc).expect(&rt, "memory");
     assert!(&rt; takes(alloc, &old, &new, &mapping, &mut plan, ("ok", 0, 0)));
     let size = Value::Int(Number::new(3).expect(&rt, "a number"));
     assert!(&rt; plan.model == 1 && is_step(&plan, size));

@@ -1,12 +1,21 @@
 //! The words for what edits answer.
 
 use plan_edit::{EditError, MigrateError};
+use std::alloc::Global;
 
 /// The word for an answer, with the number or the id that it tells.
 pub fn word<T: Drop>(answer: Result<T, EditError>) -> (&'static str, u32) {
     match answer {
         Ok(_) => ("ok", 0),
         Err(error) => refusal(&error),
+    }
+}
+
+/// The word for a copy of a refusal, with the number or the id that it tells.
+pub fn word_of_copy(alloc: Global, error: &EditError) -> (&'static str, u32) {
+    match error.copy(alloc) {
+        Ok(copy) => refusal(&copy),
+        Err(_) => ("no copy", 0),
     }
 }
 

@@ -9,3 +9,7 @@ pub mod Fits
 pub mod DifferentNames
 pub mod SectionRanges
 pub mod GoodSessions
+pub mod FrontsAreCut
+pub mod Meanings
+pub mod SessionVerdicts
+pub mod FewClients

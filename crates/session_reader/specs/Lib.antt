@@ -16,4 +16,6 @@ pub mod ClientCommands
 pub mod DatasetAnswers
 pub mod Sessions
 pub mod WellFormed
+pub mod FewClients
 pub mod SessionTexts
+pub mod SessionVerdicts

@@ -2,11 +2,13 @@
 #![tactic(auto)]
 
 mod clients;
+mod cut_sessions;
 mod dataset_names;
 mod datasets;
 mod diagnostics;
 mod feeds;
 mod known_parts;
+pub mod laws;
 mod literals;
 mod mappings;
 mod meant_mappings;
@@ -21,6 +23,7 @@ mod session_error;
 mod sessions;
 mod starts;
 
+pub use cut_sessions::read_cut_session;
 pub use reading::read_session;
 pub use session::{Client, ModelPart, Session};
 pub use session_error::SessionError;

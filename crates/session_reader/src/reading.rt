@@ -7,6 +7,7 @@ ghost use Rattle.aerie_text.specs.Tokens.{tokens_of};
 ghost use Rattle.session_grammar.specs.SessionLimits.{IsLimitedSession};
 ghost use Rattle.session_reader.specs.declared.session_error.SessionError.TheVariants.{TooLarge};
 ghost use Rattle.session_reader.specs.Answers.{IsMade, IsRefusal};
+ghost use Rattle.session_reader.specs.FewClients.{HasFewClients};
 ghost use Rattle.session_reader.specs.SessionTexts.{byte_limit, cut_answer, form_answer, not_text, raw_answer, text_answer};
 ghost use Rattle.session_reader.specs.WellFormed.{HasSectionsIn, IsLimited, IsLimitedIn, IsSession};
 
@@ -22,7 +23,7 @@ use std::alloc::Global;
 const MOST_BYTES: usize = 16_777_216;
 
 /// The session as it is written in a text of these tokens.
-fn form(alloc: Global, text: &str, tokens: &[Token]) -> Result<RawSession, SessionError>
+pub(crate) fn form(alloc: Global, text: &str, tokens: &[Token]) -> Result<RawSession, SessionError>
     requires short { length text.now ≤ byte_limit }
     requires tokens { AreTokensWithin text.now tokens.now }
     ensures made { IsMade (form_answer text.now tokens.now) result }
@@ -79,6 +80,7 @@ fn text_session(alloc: Global, text: &str) -> Result<Session, SessionError>
     requires short { length text.now ≤ byte_limit }
     ensures exact { IsMade (text_answer text.now) result }
     ensures session { IfOk result IsSession }
+    ensures few { IfOk result HasFewClients }
     ensures sections { IfOk result (HasSectionsIn text.now) }
 {
     let raw = raw(alloc, text)?;
@@ -95,6 +97,7 @@ pub fn read_session(alloc: Global, bytes: &[u8]) -> Result<Session, SessionError
     ensures not_text { length bytes.now ≤ byte_limit → ¬ (IsUtf8 bytes.now) → result ≡ Err (not_text bytes.now) }
     ensures exact { length bytes.now ≤ byte_limit → IsUtf8 bytes.now → IsMade (text_answer bytes.now) result }
     ensures session { IfOk result IsSession }
+    ensures few { IfOk result HasFewClients }
     ensures sections { IfOk result (HasSectionsIn bytes.now) }
 {
     if MOST_BYTES < bytes.len() {

@@ -6,6 +6,7 @@ ghost use Rattle.session_reader.specs.Answers.{IsMade, check_error, then_made_of
 ghost use Rattle.session_reader.specs.CheckedModels.{AreValid, models_answer};
 ghost use Rattle.session_reader.specs.DatasetAnswers.{datasets_answer};
 ghost use Rattle.session_reader.specs.Diagnostics.{noted};
+ghost use Rattle.session_reader.specs.FewClients.{HasFewClients};
 ghost use Rattle.session_reader.specs.Sections.{section_of as section_of_by};
 ghost use Rattle.session_reader.specs.Sessions.{all_sections as all_sections_by, MakesAllSections, JudgesNames, model_part as model_part_by, model_parts as model_parts_by, session_made, session_planned, session_started, session_over as session_over_by, session_answer};
 ghost use Rattle.session_reader.specs.Starts.{start_answer};
@@ -258,6 +259,7 @@ pub(crate) fn session(alloc: Global, raw: &RawSession) -> Result<Session, Sessio
     requires limits { IsLimited raw.now }
     ensures exact { IsMade (session_answer raw.now) result }
     ensures session { IfOk result IsSession }
+    ensures few { IfOk result HasFewClients }
     ensures ranges { IfOk result (HasRangesOf raw.now) }
 {
     let models = models(alloc, raw.models.as_slice())?;

@@ -1,0 +1,6 @@
+pub mod Meanings
+pub mod Told
+pub mod Lines
+pub mod Working
+pub mod Fetching
+pub mod laws

@@ -1,0 +1,2 @@
+-- Laws of what clients do and of what is told of it.
+pub mod ClientsWork

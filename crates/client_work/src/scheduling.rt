@@ -1,0 +1,121 @@
+//! Schedules of branches.
+
+ghost use Rattle.std.specs.Prelude.{◌≡◌, ◌≤◌, [], ◌∷◌, IfOk};
+ghost use Rattle.aerie_base.specs.Ranges.{step_limit};
+ghost use Rattle.hangar_core.specs.declared.commands.Command.TheVariants as command;
+ghost use Rattle.scheduler.specs.Told.{IsLikePlan};
+ghost use Rattle.aerie_base.specs.plans.OfModel.{IsPlanOf};
+ghost use Rattle.client_work.specs.Fetching.{IsPlanOfMission, reply_with};
+ghost use Rattle.client_work.specs.Meanings.{ruled_by, scheduled as scheduled_by};
+ghost use Rattle.client_work.specs.Told.{schedule_told as told_by};
+ghost use Rattle.client_work.specs.Working.{IsAtWork, IsCarriedOn, IsPlanAt, IsReplyAt};
+
+use crate::acting::act;
+use crate::fetching::{FetchedBranch, fetched};
+use crate::missions::Mission;
+use crate::turns::{ClientCommand, Workplace};
+use aerie_base::{List, Name, OutOfMemory, Plan, Steps};
+use aerie_edge::Gate;
+use bench::Bench;
+use goals::GoalStatus;
+use hangar_core::{Action, Reply};
+use hangar_lock::Pass;
+use report_text::Answer;
+use scheduler::{Schedule, schedule};
+use std::alloc::Global;
+use std::sync::Wait;
+use std::sync::ledger::Ledger;
+
+/// The schedule of a plan by the goals and the constraints of its model.
+fn schedule_of<L: Ledger, K: Ledger>(
+    alloc: Global,
+    mission: &Mission,
+    plan: &Plan,
+    steps: &mut Steps<L>,
+    looks: &mut Steps<K>,
+) -> Result<Schedule, OutOfMemory>
+    requires plan { IsPlanOfMission mission.now plan.now }
+    requires bound { mission.now.bound ≤ step_limit }
+    ensures made { IfOk result (λ made. made ≡ scheduled_by mission.now.models mission.now.bound plan.now) }
+    ensures of_model { IfOk result (λ made. IsPlanOf (ruled_by mission.now.models plan.now).model made.plan) }
+    ensures same_place { IfOk result (λ made. IsLikePlan plan.now made.plan) }
+    ensures steps { steps.old ≤ steps.new }
+{
+    let ruled = mission.ruled(plan);
+    let mut bench = Bench::new(&ruled.model, mission.bound);
+    let made = schedule(
+        alloc,
+        ruled.model.model().get(),
+        plan,
+        ruled.goals.get().as_slice(),
+        ruled.constraints.get().as_slice(),
+        &mut bench,
+        steps,
+        looks,
+    )?;
+    Ok(made)
+}
+
+/// What is told of what was made of goals, by the reply to the Place.
+fn schedule_told(goals: List<GoalStatus>, trials: u32, reply: Reply) -> Answer
+    ensures { result ≡ told_by goals trials reply }
+{
+    match reply {
+        Reply::Placed { revision } => Answer::Schedule {
+            revision,
+            goals,
+            trials,
+        },
+        refusal => Answer::Reply(refusal),
+    }
+}
+
+/// Schedules a fetched branch: the plan is placed where no other change came between.
+fn schedule_fetched<R: Wait, G: Gate, L: Ledger, K: Ledger>(
+    alloc: Global,
+    place: &Workplace<R, G>,
+    turn: ClientCommand,
+    branch: &Name,
+    found: &FetchedBranch,
+    pass: &mut Pass,
+    steps: &mut Steps<L>,
+    looks: &mut Steps<K>,
+) -> Result<Answer, OutOfMemory>
+    requires place { IsAtWork place.now.mission.now place.now.lock.now pass.old }
+    requires found { IsPlanAt place.now.lock.now found.now.plan }
+    ensures done { IfOk result (IsCarriedOn place.now.mission.now turn (command.Schedule branch.now) (reply_with found.now ∷ []) pass.old pass.new steps.old steps.new) }
+    ensures steps { steps.old ≤ steps.new }
+{
+    let made = schedule_of(alloc, place.mission, found.plan.get(), steps, looks)?;
+    let seen = found.revision;
+    let branch = branch.copy(alloc)?;
+    let placing = Action::Place {
+        branch,
+        seen,
+        plan: made.plan,
+    };
+    let reply = act(alloc, place, turn, 1, placing, pass)?;
+    Ok(schedule_told(made.goals, made.trials, reply))
+}
+
+/// What becomes of a schedule of a branch, by the reply to its Fetch.
+pub(crate) fn scheduled<R: Wait, G: Gate, L: Ledger, K: Ledger>(
+    alloc: Global,
+    place: &Workplace<R, G>,
+    turn: ClientCommand,
+    branch: &Name,
+    first: Reply,
+    pass: &mut Pass,
+    steps: &mut Steps<L>,
+    looks: &mut Steps<K>,
+) -> Result<Answer, OutOfMemory>
+    requires place { IsAtWork place.now.mission.now place.now.lock.now pass.old }
+    requires first { IsReplyAt place.now.lock.now first }
+    ensures done { IfOk result (IsCarriedOn place.now.mission.now turn (command.Schedule branch.now) (first ∷ []) pass.old pass.new steps.old steps.new) }
+    ensures steps { steps.old ≤ steps.new }
+{
+    match fetched(first) {
+        Ok(found) => schedule_fetched(alloc, place, turn, branch, &found, pass, steps, looks),
+        Err(refusal) => Ok(Answer::Reply(refusal)),
+    }
+}

@@ -1,0 +1,218 @@
+//! Simulations of branches: reports and sequences.
+
+ghost use Rattle.std.specs.Prelude.{◌≡◌, ◌≤◌, [], ◌∷◌, IfOk};
+ghost use Rattle.aerie_base.specs.Ranges.{step_limit};
+ghost use Rattle.run_data.specs.Waves.{RoseAlike};
+ghost use Rattle.hangar_core.specs.Standing.{IsKeptIn};
+ghost use Rattle.hangar_core.specs.declared.actions.Action.TheVariants as action;
+ghost use Rattle.hangar_core.specs.declared.commands.Command.TheVariants as command;
+ghost use Rattle.client_work.specs.Fetching.{IsPlanOfMission, reply_with};
+ghost use Rattle.client_work.specs.Meanings.{simulated};
+ghost use Rattle.client_work.specs.Told.{is_attached as is_run_kept, sequence_told};
+ghost use Rattle.client_work.specs.Working.{entry_of, HasOneMore, IsAtWork, IsCarriedOn, IsPlanAt, IsReplyAt};
+
+use crate::acting::act;
+use crate::fetching::{FetchedBranch, fetched};
+use crate::missions::Mission;
+use crate::turns::{ClientCommand, Workplace};
+use aerie_base::{Name, OutOfMemory, Plan, Shared, Steps};
+use aerie_edge::{Gate, Point};
+use bench::Bench;
+use hangar_core::{Action, Reply};
+use hangar_lock::Pass;
+use report_text::{Answer, Report, SequenceReport};
+use run_data::Kept;
+use scheduler::laws::fresh_runs_are_given;
+use seq_expand::expand;
+use std::alloc::Global;
+use std::sync::Wait;
+use std::sync::ledger::Ledger;
+
+/// A run, and how many statements were simulated for it.
+#[derive(Drop)]
+pub(crate) struct Simulated {
+    /// The kept run.
+    pub(crate) run: Shared<Kept>,
+    /// The count.
+    pub(crate) statements: u64,
+}
+
+/// The fresh run of a plan for its model. A kept run is given back where it is that one.
+fn simulate<L: Ledger, K: Ledger>(
+    alloc: Global,
+    mission: &Mission,
+    plan: &Plan,
+    kept: Option<&Shared<Kept>>,
+    steps: &mut Steps<L>,
+    looks: &mut Steps<K>,
+) -> Result<Simulated, OutOfMemory>
+    requires plan { IsPlanOfMission mission.now plan.now }
+    requires bound { mission.now.bound ≤ step_limit }
+    ensures run { IfOk result (λ made. made.run ≡ simulated mission.now.models mission.now.bound plan.now) }
+    ensures counted { IfOk result (λ made. RoseAlike 0 steps.old made.statements steps.new) }
+    ensures steps { steps.old ≤ steps.new }
+{
+    fresh_runs_are_given();
+    let ruled = mission.ruled(plan);
+    let mut bench = Bench::new(&ruled.model, mission.bound);
+    let run = bench.simulate(alloc, plan, kept, steps, looks)?;
+    Ok(Simulated {
+        run,
+        statements: bench.statements(),
+    })
+}
+
+/// Whether the reply to an Attach tells that the run is kept.
+fn is_attached(reply: &Reply) -> bool
+    ensures { result ≡ is_run_kept reply.now }
+{
+    matches!(reply, Reply::Attached)
+}
+
+/// Keeps the run on the branch, and answers the reply.
+fn attach<R: Wait, G: Gate>(
+    alloc: Global,
+    place: &Workplace<R, G>,
+    turn: ClientCommand,
+    branch: &Name,
+    run: &Shared<Kept>,
+    pass: &mut Pass,
+) -> Result<Reply, OutOfMemory>
+    requires own { pass.old.lock ≡ place.now.lock.now }
+    requires run { IsKeptIn place.now.lock.now.opened.workspace.models run.now }
+    ensures { IfOk result (HasOneMore pass.old pass.new (entry_of turn 1 (action.Attach branch.now run.now))) }
+{
+    let branch = branch.copy(alloc)?;
+    let kept = run.share()?;
+    let attaching = Action::Attach { branch, kept };
+    let reply = act(alloc, place, turn, 1, attaching, pass)?;
+    Ok(reply)
+}
+
+/// The report of a fetched branch, whose run is kept on the branch. The gate is told when its simulation starts and ends, outside
+/// any turn of the lock.
+fn report_of<R: Wait, G: Gate, L: Ledger, K: Ledger>(
+    alloc: Global,
+    place: &Workplace<R, G>,
+    turn: ClientCommand,
+    branch: &Name,
+    found: &FetchedBranch,
+    pass: &mut Pass,
+    steps: &mut Steps<L>,
+    looks: &mut Steps<K>,
+) -> Result<Answer, OutOfMemory>
+    requires place { IsAtWork place.now.mission.now place.now.lock.now pass.old }
+    requires found { IsPlanAt place.now.lock.now found.now.plan }
+    ensures done { IfOk result (IsCarriedOn place.now.mission.now turn (command.Simulate branch.now) (reply_with found.now ∷ []) pass.old pass.new steps.old steps.new) }
+    ensures steps { steps.old ≤ steps.new }
+{
+    let mission = place.mission;
+    let plan = found.plan.get();
+    place.gate.at(turn.client, turn.command, Point::Starts);
+    let made = simulate(alloc, mission, plan, found.kept.as_ref(), steps, looks)?;
+    place.gate.at(turn.client, turn.command, Point::Ends);
+    let reply = attach(alloc, place, turn, branch, &made.run, pass)?;
+    let report = Report {
+        start: mission.start,
+        run: made.run,
+        constraints: mission.ruled(plan).constraints.share()?,
+        revision: found.revision,
+        attached: is_attached(&reply),
+        statements: mission.count(made.statements),
+    };
+    Ok(Answer::Report(report))
+}
+
+/// The report of a branch by the reply to its Fetch.
+pub(crate) fn reported<R: Wait, G: Gate, L: Ledger, K: Ledger>(
+    alloc: Global,
+    place: &Workplace<R, G>,
+    turn: ClientCommand,
+    branch: &Name,
+    first: Reply,
+    pass: &mut Pass,
+    steps: &mut Steps<L>,
+    looks: &mut Steps<K>,
+) -> Result<Answer, OutOfMemory>
+    requires place { IsAtWork place.now.mission.now place.now.lock.now pass.old }
+    requires first { IsReplyAt place.now.lock.now first }
+    ensures done { IfOk result (IsCarriedOn place.now.mission.now turn (command.Simulate branch.now) (first ∷ []) pass.old pass.new steps.old steps.new) }
+    ensures steps { steps.old ≤ steps.new }
+{
+    match fetched(first) {
+        Ok(found) => report_of(alloc, place, turn, branch, &found, pass, steps, looks),
+        Err(refusal) => Ok(Answer::Reply(refusal)),
+    }
+}
+
+/// The commands that a run gives by the rules of its model.
+fn sequence_of<'a>(
+    alloc: Global,
+    mission: &Mission,
+    found: &FetchedBranch,
+    run: Shared<Kept>,
+) -> Result<Answer, OutOfMemory>
+    requires plan { IsPlanOfMission mission.now found.now.plan }
+    requires run { run ≡ simulated mission.now.models mission.now.bound found.now.plan }
+    ensures { IfOk result (λ answer. answer ≡ sequence_told mission.now found.now.revision found.now.plan) }
+{
+    let ruled = mission.ruled(found.plan.get());
+    let sequence = expand(
+        alloc,
+        ruled.model.model().get(),
+        ruled.sequence.get(),
+        run.get().run(),
+    )?;
+    Ok(Answer::Expanded(SequenceReport {
+        start: mission.start,
+        run,
+        sequence,
+        revision: found.revision,
+    }))
+}
+
+/// The commands that the run of a fetched branch gives; the run is kept on the branch.
+fn expansion_of<R: Wait, G: Gate, L: Ledger, K: Ledger>(
+    alloc: Global,
+    place: &Workplace<R, G>,
+    turn: ClientCommand,
+    branch: &Name,
+    found: &FetchedBranch,
+    pass: &mut Pass,
+    steps: &mut Steps<L>,
+    looks: &mut Steps<K>,
+) -> Result<Answer, OutOfMemory>
+    requires place { IsAtWork place.now.mission.now place.now.lock.now pass.old }
+    requires found { IsPlanAt place.now.lock.now found.now.plan }
+    ensures done { IfOk result (IsCarriedOn place.now.mission.now turn (command.Expand branch.now) (reply_with found.now ∷ []) pass.old pass.new steps.old steps.new) }
+    ensures steps { steps.old ≤ steps.new }
+{
+    let mission = place.mission;
+    let kept = found.kept.as_ref();
+    let made = simulate(alloc, mission, found.plan.get(), kept, steps, looks)?;
+    attach(alloc, place, turn, branch, &made.run, pass)?;
+    let answer = sequence_of(alloc, mission, found, made.run)?;
+    Ok(answer)
+}
+
+/// The commands that the run of a branch gives, by the reply to its Fetch.
+pub(crate) fn expanded<R: Wait, G: Gate, L: Ledger, K: Ledger>(
+    alloc: Global,
+    place: &Workplace<R, G>,
+    turn: ClientCommand,
+    branch: &Name,
+    first: Reply,
+    pass: &mut Pass,
+    steps: &mut Steps<L>,
+    looks: &mut Steps<K>,
+) -> Result<Answer, OutOfMemory>
+    requires place { IsAtWork place.now.mission.now place.now.lock.now pass.old }
+    requires first { IsReplyAt place.now.lock.now first }
+    ensures done { IfOk result (IsCarriedOn place.now.mission.now turn (command.Expand branch.now) (first ∷ []) pass.old pass.new steps.old steps.new) }
+    ensures steps { steps.old ≤ steps.new }
+{
+    match fetched(first) {
+        Ok(found) => expansion_of(alloc, place, turn, branch, &found, pass, steps, looks),
+        Err(refusal) => Ok(Answer::Reply(refusal)),
+    }
+}

@@ -1,0 +1,10 @@
+pub mod Beginning
+pub mod Counting
+pub mod Cut
+pub mod FirstOfBoth
+pub mod Gathering
+pub mod GoodSeries
+pub mod RuledParts
+pub mod Told
+pub mod Uncut
+pub mod Whole
