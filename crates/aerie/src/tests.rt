@@ -232,7 +232,7 @@ const REFUSED_CHANGES: [(&str, &str, &str); 14] = [
     (
         "delay 10us;",
         "delay 10us * true;",
-        "{\"refused\":{\"column\":51,\"line\":2,\"name\":\"WrongType\",\"word\":\"true\"}}\n",
+        "{\"refused\":{\"column\":50,\"line\":2,\"name\":\"WrongType\",\"word\":\"true\"}}\n",
     ),
     (
         "T00:00:00Z",
