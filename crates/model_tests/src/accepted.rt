@@ -1,6 +1,7 @@
 //! Models that are accepted.
 
 use crate::answers::answer;
+use session_make::make;
 use std::alloc::Global;
 
 /// A model with each kind of item, as the language's guide shows it.
@@ -35,42 +36,6 @@ model lander {
 }
 ";
 
-/// A model as the sessions have it that are made for measurements.
-const ORBITER: &str = "\
-model orbiter {
-  enum Mode { SAFE, NOMINAL }
-  register mode: Mode = Mode.NOMINAL;
-  register pointing: int = 0;
-  counter images = 0;
-  counter heaters = 0;
-  counter passes = 0;
-  accumulator storage = 0 rate 0;
-  accumulator energy = 20000000000000 rate -20;
-  counter alarms = 0;
-  counter power = 20;
-  discrete mode = mode;
-  discrete pointing = pointing;
-  discrete torn = pointing.conflicted;
-  discrete images = images;
-  discrete heaters = heaters;
-  discrete power = power;
-  linear storage = storage.volume;
-  linear energy = energy.volume;
-  activity Slew(target: int = 0) { power += 30; delay 2min; pointing := target; power += -30; }
-  activity Image(size: int = 5) { power += 15; storage.rate += size; delay 1min; storage.rate += -size; power += -15; images += 1; }
-  activity ImageSet(shots: int = 3) { let k = 0; while k < shots { call Image(); k = k + 1; } }
-  activity HeaterOn() { heaters += 1; power += 10; }
-  activity HeaterOff() { if heaters > 0 { heaters += -1; power += -10; } }
-  activity Downlink() { storage.rate += -10; delay 1min; storage.rate += 10; passes += 1; }
-  activity Charge() { energy.rate += 50; delay 10min; energy.rate += -50; }
-  activity Calibrate() -> int { delay 30s; return pointing; }
-  activity SafeCheck() { let p = call Calibrate(); if p < 0 { mode := Mode.SAFE; alarms += 1; } }
-  activity Track(level: int = 0) { wait until images >= level; passes += 1; }
-  activity Burst() { spawn Image(size = 1); spawn Image(size = 2); delay 1s; }
-  activity Mark() { }
-}
-";
-
 /// The model of the first example.
 const FIRST: &str = "\
 model m { counter n = 0; discrete n = n;
@@ -92,6 +57,12 @@ model rover {
 }
 ";
 
+/// The models of a session, as the language's guide shows it.
+const SMALL: &str =
+    "model lander { counter images = 0; activity Image(size: int = 5) { images += size; } }";
+
+const OTHER: &str = "model rover { activity Snap(size: int, wide: truth = true) { delay 1s; } }";
+
 /// Whether exactly this is said of a text.
 fn is_answer(alloc: Global, text: &str, expected: &str) -> bool {
     match answer(alloc, text) {
@@ -105,11 +76,19 @@ fn accepts_models_with_all_their_parts(rt: HostRuntime) {
     let cases = [
         ("model m { }", "m: 0 0 0 0 0"),
         (LANDER, "lander: 1 3 3 2 1"),
-        (ORBITER, "orbiter: 1 9 8 12 0"),
+        (SMALL, "lander: 0 1 0 1 0"),
+        (OTHER, "rover: 0 0 0 1 0"),
         (FIRST, "m: 0 1 1 1 0"),
         (HEATER, "rover: 0 1 1 1 0"),
     ];
     for (text, expected) in cases {
         assert!(&rt; is_answer(rt.alloc(), text, expected), "of {text}");
     }
+}
+
+/// The model in front of the session that is made for measurements.
+#[test]
+fn accepts_the_model_that_is_made(rt: HostRuntime) {
+    let made = make(rt.alloc(), 1).expect(&rt, "memory");
+    assert!(&rt; is_answer(rt.alloc(), made.as_str(), "orbiter: 1 9 8 12 0"));
 }

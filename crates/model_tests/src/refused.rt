@@ -4,7 +4,7 @@ use crate::answers::{is_accepted, is_refused};
 use std::alloc::Global;
 
 /// A name of nothing that may stand there.
-const UNKNOWN: [(&str, u32, u32); 13] = [
+const UNKNOWN: [(&str, u32, u32); 15] = [
     ("model m { daemon { n += 1; } }", 1, 20),
     ("model m { daemon { n = 1; } }", 1, 20),
     ("model m { counter n = 0; daemon { n = 1; } }", 1, 35),
@@ -29,11 +29,13 @@ const UNKNOWN: [(&str, u32, u32); 13] = [
         49,
     ),
     ("model m { discrete d = n; }", 1, 24),
+    ("model m { activity A(p: int) { p += 1; } }", 1, 32),
+    ("model m { counter n = 0; daemon { spawn n(); } }", 1, 41),
     ("model m { daemon { let x = y + z * true; } }", 1, 28),
 ];
 
 /// A name that stands for something else already: the later of the two.
-const DUPLICATE: [(&str, u32, u32); 10] = [
+const DUPLICATE: [(&str, u32, u32); 12] = [
     ("model m { counter n = 0; counter n = 1; }", 1, 34),
     ("model m { activity E() { } enum E { V } }", 1, 33),
     (
@@ -45,6 +47,8 @@ const DUPLICATE: [(&str, u32, u32); 10] = [
     ("model m { activity A(p: int, p: int) { } }", 1, 30),
     ("model m { activity A(p: int) { let p = 1; } }", 1, 36),
     ("model m { counter n = 0; daemon { let n = 1; } }", 1, 39),
+    ("model m { enum n { V } daemon { let n = 1; } }", 1, 37),
+    ("model m { activity A(n: int) { } counter n = 0; }", 1, 42),
     ("model m { daemon { let n = 1; } counter n = 0; }", 1, 41),
     (
         "model m { daemon { if true { let x = 1; } let x = 2; } }",

@@ -103,11 +103,15 @@ const TAILS: [(&str, &str); 9] = [
 ];
 
 /// Whole sessions, with what is refused. Of several causes the one that is judged first is told.
-const SESSIONS: [(&str, &str); 17] = [
+const SESSIONS: [(&str, &str); 18] = [
     ("syntax", "model m { counter n = 0;\nactivity A() { n +=@"),
     (
         "check: name used before",
         "model m { counter n = 0; counter @n = 1; } plan p { start \"x\"; duration 1us; at 1us Nope(); }",
+    ),
+    (
+        "check: name used before",
+        "model m { counter n = 0; counter @n = 1;\n  activity Bump(by: int) { n += by; } }\nplan main { start \"2030-01-01T00:00:00Z\"; duration 100us; }\nclient a { simulate main; }",
     ),
     ("syntax", "@"),
     ("syntax", "   @"),
