@@ -1,0 +1,3 @@
+pub mod EmptyPlans
+pub mod FirstActions
+pub mod OneModel

@@ -1,0 +1,85 @@
+//! The workspace that is tried.
+
+ghost use Rattle.std.specs.Prelude.{◌≡◌, ◌≤◌, ◌∷◌, [], IfSome};
+ghost use Rattle.aerie_base.specs.declared.models.model.Parts.{Parts};
+ghost use Rattle.aerie_base.specs.plans.OfModel.{IsPlanOf};
+ghost use Rattle.hangar_core.specs.Standing.{AreModels, IsPlanAmong};
+
+use aerie_base::{List, Model, Name, Plan, Shared, Time};
+use aerie_text::tokens;
+use hangar_core::Hangar;
+use model_check::check;
+use model_reader::read_model;
+use std::alloc::Global;
+
+/// A model of one activity type, whose parameter has to be above 0.
+const MODEL: &str = "\
+model m {
+  counter n = 0;
+  discrete n = n;
+  activity Bump(by: int) { require by > 0; n += by; delay 10us; n += by; }
+}
+";
+
+/// The name that a text is.
+pub(crate) fn named(alloc: Global, text: &str) -> Option<Name> {
+    Name::new(alloc, text).ok()?
+}
+
+/// The model of a text.
+fn model_in(alloc: Global, text: &str) -> Option<Model> {
+    if text.len() >= 4_294_967_295 {
+        return None;
+    }
+    let tokens = tokens(alloc, text).ok()?;
+    let (raw, _) = read_model(alloc, text, tokens.as_slice(), 0).ok()?;
+    check(alloc, &raw).ok()
+}
+
+/// One model, alone.
+fn alone(alloc: Global, model: Model) -> Option<List<Shared<Model>>>
+    ensures { IfSome result (λ models. models ≡ model ∷ []) }
+{
+    let mut models = List::new(alloc);
+    models.push(Shared::new(alloc, model).ok()?).ok()?;
+    Some(models)
+}
+
+/// A plan without directives.
+fn empty(alloc: Global, duration: Time) -> Plan
+    requires { 1 ≤ duration }
+    ensures model { result.model ≡ 0 }
+    ensures plan { (model : Parts) → IsPlanOf model result }
+{
+    Plan {
+        model: 0,
+        duration,
+        next_id: 1,
+        directives: List::new(alloc),
+    }
+}
+
+/// The workspace of one model, with this branch and a plan without directives.
+#[tactic(auto, using(crate::proofs::OneModel::models_are, crate::proofs::OneModel::plan_is_among))]
+fn opened(alloc: Global, model: Model, branch: Name, plan: Plan) -> Option<Hangar>
+    requires first { plan.model ≡ 0 }
+    requires plan { IsPlanOf model plan }
+    ensures { IfSome result (λ hangar. hangar.accepted ≡ 0) }
+{
+    let models = alone(alloc, model)?;
+    Hangar::new(alloc, models, List::new(alloc), branch, plan).ok()
+}
+
+/// A workspace with an empty branch `main` of 100 microseconds.
+pub(crate) fn hangar(alloc: Global) -> Option<Hangar>
+    ensures { IfSome result (λ hangar. hangar.accepted ≡ 0) }
+{
+    let model = model_in(alloc, MODEL)?;
+    let branch = named(alloc, "main")?;
+    let duration = Time::new(100)?;
+    if duration.get() < 1 {
+        return None;
+    }
+    let plan = empty(alloc, duration);
+    opened(alloc, model, branch, plan)
+}

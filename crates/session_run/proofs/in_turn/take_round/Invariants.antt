@@ -1,0 +1,9 @@
+use Rattle.std.proofs.Common.{map, ◌≤◌}
+use Rattle.std.specs.String.{string_bytes}
+use Rattle.session_run.proofs.Rounds.{IsInRound}
+use Rattle.session_run.proofs.in_turn.take_round.Given as goal
+
+abbrev pub invariant-loop-which : goal.invariant-loop-which
+invariant-loop-which g l =
+    IsInRound l.place.mission.now l.place.lock.now l.clients l.number l.which l.fn.pass l.pass (map string_bytes l.fn.texts.items) (map string_bytes l.texts.items)
+    × (l.fn.steps ≤ l.steps)

@@ -1,0 +1,49 @@
+-- What the clients of a session work on, and what they do with it.
+use Rattle.std.specs.Prelude.{ℕ, ◌+◌, Bool, List, [], ◌∷◌, get_or, map}
+use Rattle.hangar_core.specs.declared.commands.Command.{Command}
+use Rattle.hangar_core.specs.declared.workspaces.Workspace.{Workspace}
+use Rattle.hangar_core.specs.Fits.{Meanings}
+use Rattle.hangar_core.specs.Standing.{first_workspace}
+use Rattle.session_reader.specs.declared.session.Client.{Client}
+use Rattle.session_reader.specs.declared.session.ModelPart.{ModelPart}
+use Rattle.session_reader.specs.declared.session.Session.{Session}
+use Rattle.session_reader.specs.WellFormed.{models_in}
+use Rattle.session_judge.specs.declared.judged.JudgedSession.{JudgedSession}
+use Rattle.client_work.specs.declared.missions.Mission.{Mission}
+use Rattle.client_work.specs.declared.missions.RuledModel.{RuledModel}
+use Rattle.client_work.specs.Meanings.{meanings_of}
+
+-- a model with the rules that stand at its number
+abbrev pub ruled_part : JudgedSession → ℕ → ModelPart → RuledModel
+ruled_part judged number part = record {
+  model = part.model;
+  constraints = get_or judged.constraints number [];
+  goals = get_or judged.goals number [];
+  sequence = get_or judged.sequences number (record { rules = []; spacings = [] });
+}
+
+-- models with their rules, counted from a number
+abbrev pub ruled_parts : JudgedSession → ℕ → List ModelPart → List RuledModel
+ruled_parts judged number [] = []
+ruled_parts judged number (part ∷ parts) = ruled_part judged number part ∷ ruled_parts judged (number + 1) parts
+
+-- what the clients work on: the models with their rules, the start, the bound of simulations and whether their statements are counted
+abbrev pub mission_of : JudgedSession → ℕ → Bool → Mission
+mission_of judged bound counts = record {
+  models = ruled_parts judged 0 judged.session.models;
+  start = judged.session.start;
+  bound = bound;
+  counts = counts;
+}
+
+-- what their commands make of the plans that they fetch
+abbrev pub session_meanings : JudgedSession → ℕ → Meanings
+session_meanings judged bound = meanings_of (ruled_parts judged 0 judged.session.models) bound
+
+-- the workspace with which a session begins
+abbrev pub opening_of : Session → Workspace
+opening_of session = first_workspace (models_in session) session.mappings session.branch session.plan
+
+-- the commands of the clients, client by client
+abbrev pub all_commands : List Client → List (List Command)
+all_commands clients = map (λ client. client.commands) clients

@@ -1,0 +1,30 @@
+-- A session that is performed.
+use Rattle.std.specs.Prelude.{◌≡◌, ℕ, Bool, List}
+use Rattle.hangar_core.specs.Fits.{Fits}
+use Rattle.hangar_core.specs.Journals.{Entries}
+use Rattle.hangar_core.specs.Serial.{serial}
+use Rattle.session_judge.specs.declared.judged.JudgedSession.{JudgedSession}
+use Rattle.session_run.specs.Missions.{all_commands, opening_of, session_meanings}
+use Rattle.session_run.specs.Texts.{session_text}
+
+-- a journal that fits the commands of all clients
+abbrev pub FitsSession : JudgedSession → ℕ → Entries → Type 0
+FitsSession judged bound journal =
+    Fits (session_meanings judged bound) (opening_of judged.session) (all_commands judged.session.clients) journal
+
+-- the journal of clients who take turns: the first command of each, then the second of each, and so on, each whole
+abbrev pub serial_journal : JudgedSession → ℕ → Entries
+serial_journal judged bound =
+    serial (session_meanings judged bound) (opening_of judged.session) (all_commands judged.session.clients)
+
+-- a text is that of a session along a journal that fits it
+pub record IsPerformed (judged : JudgedSession) (bound : ℕ) (counted : Bool) (text : List ℕ) : Type 0 where
+  pub journal : Entries
+  pub fits : FitsSession judged bound journal
+  pub counts : ℕ → ℕ → ℕ
+  pub told : text ≡ session_text judged bound counted counts journal
+
+-- along the one of clients who take turns
+pub record IsPerformedInTurn (judged : JudgedSession) (bound : ℕ) (counted : Bool) (text : List ℕ) : Type 0 where
+  pub counts : ℕ → ℕ → ℕ
+  pub told : text ≡ session_text judged bound counted counts (serial_journal judged bound)

@@ -1,0 +1,2 @@
+-- Laws of performed sessions.
+pub mod Journals

@@ -1,0 +1,130 @@
+//! The clients' commands in turn: the first of each client, then the second of each, and so on, each whole.
+
+ghost use Rattle.std.specs.Prelude.{◌≡◌, ◌≤◌, IfOk, length, map};
+ghost use Rattle.std.specs.String.{string_bytes};
+ghost use Rattle.hangar_core.specs.Serial.{longest};
+ghost use Rattle.session_reader.specs.FewClients.{AreFewClients};
+ghost use Rattle.client_work.specs.Working.{IsAtWork};
+ghost use Rattle.session_run.specs.Missions.{all_commands};
+ghost use Rattle.session_run.specs.Turning.{HasTurned, TakesRound, TakesTurn, texts_without};
+
+use aerie_base::{OutOfMemory, Steps};
+use aerie_edge::Gate;
+use client_work::{NumberedClient, Workplace, work_on};
+use hangar_core::Command;
+use hangar_lock::Pass;
+use session_reader::Client as SessionClient;
+use std::alloc::Global;
+use std::sync::Wait;
+use std::sync::ledger::Ledger;
+
+/// The most commands of a client.
+fn longest_of(clients: &[SessionClient]) -> usize
+    ensures { result ≡ longest (all_commands clients.now) }
+{
+    let mut most = 0;
+    for client in clients {
+        most = most.max(client.commands.len());
+    }
+    most
+}
+
+/// So many empty texts.
+#[tactic(auto, using(crate::proofs::Rounds::pushed_text))]
+fn empty_texts(alloc: Global, count: usize) -> Result<Vec<String>, OutOfMemory>
+    ensures { IfOk result (λ texts. map string_bytes texts.items ≡ texts_without count) }
+{
+    let mut texts = Vec::with_capacity(alloc, count)?;
+    for number in 0..count {
+        texts.push(String::new(alloc))?;
+    }
+    Ok(texts)
+}
+
+/// A client's turn: its command with a number is carried out, and the line that is told of it goes to the end of its text.
+fn take_turn<R: Wait, G: Gate, L: Ledger, K: Ledger>(
+    alloc: Global,
+    place: &Workplace<R, G>,
+    client: &SessionClient,
+    which: u32,
+    number: u32,
+    command: &Command,
+    pass: &mut Pass,
+    text: &mut String,
+    steps: &mut Steps<L>,
+    looks: &mut Steps<K>,
+) -> Result<(), OutOfMemory>
+    requires place { IsAtWork place.now.mission.now place.now.lock.now pass.old }
+    ensures taken { IfOk result (λ _. TakesTurn place.now.mission.now which client.now number command.now pass.old pass.new (string_bytes text.old) (string_bytes text.new)) }
+    ensures steps { steps.old ≤ steps.new }
+{
+    let told = NumberedClient {
+        name: &client.name,
+        number: which,
+    };
+    let line = work_on(alloc, place, told, number, command, pass, steps, looks)?;
+    text.push_str(line.as_str())?;
+    Ok(())
+}
+
+/// A round: the command with a number of each client that has one.
+fn take_round<R: Wait, G: Gate, L: Ledger, K: Ledger>(
+    alloc: Global,
+    place: &Workplace<R, G>,
+    clients: &[SessionClient],
+    number: usize,
+    pass: &mut Pass,
+    texts: &mut Vec<String>,
+    steps: &mut Steps<L>,
+    looks: &mut Steps<K>,
+) -> Result<(), OutOfMemory>
+    requires place { IsAtWork place.now.mission.now place.now.lock.now pass.old }
+    requires few { AreFewClients clients.now }
+    requires texts { length texts.old.items ≡ length clients.now }
+    ensures taken { IfOk result (λ _. TakesRound place.now.mission.now clients.now number pass.old pass.new (map string_bytes texts.old.items) (map string_bytes texts.new.items)) }
+    ensures steps { steps.old ≤ steps.new }
+{
+    for which in 0..clients.len() {
+        if number < clients[which].commands.len() {
+            let client = &clients[which];
+            let command = &client.commands.as_slice()[number];
+            let text = &mut texts[which];
+            take_turn(
+                alloc,
+                place,
+                client,
+                which as u32,
+                number as u32,
+                command,
+                pass,
+                text,
+                steps,
+                looks,
+            )?;
+        }
+    }
+    Ok(())
+}
+
+/// All rounds, with a pass that has done nothing; the texts are those of the clients.
+pub(crate) fn take_turns<R: Wait, G: Gate, L: Ledger, K: Ledger>(
+    alloc: Global,
+    place: &Workplace<R, G>,
+    clients: &[SessionClient],
+    pass: &mut Pass,
+    steps: &mut Steps<L>,
+    looks: &mut Steps<K>,
+) -> Result<Vec<String>, OutOfMemory>
+    requires place { IsAtWork place.now.mission.now place.now.lock.now pass.old }
+    requires few { AreFewClients clients.now }
+    ensures taken { IfOk result (λ texts. HasTurned place.now.mission.now clients.now pass.old pass.new (map string_bytes texts.items)) }
+    ensures steps { steps.old ≤ steps.new }
+{
+    let mut texts = empty_texts(alloc, clients.len())?;
+    for number in 0..longest_of(clients) {
+        take_round(
+            alloc, place, clients, number, pass, &mut texts, steps, looks,
+        )?;
+    }
+    Ok(texts)
+}

@@ -1,0 +1,54 @@
+//! A session is performed.
+
+ghost use Rattle.std.specs.Prelude.{◌≡◌, ◌≤◌, IfOk};
+ghost use Rattle.std.specs.String.{string_bytes};
+ghost use Rattle.aerie_base.specs.Ranges.{step_limit};
+ghost use Rattle.session_run.specs.Performed.{IsPerformedInTurn};
+ghost use Rattle.session_run.specs.Ruled.{CanBePerformed};
+
+use crate::in_turn::take_turns;
+use crate::missions::{hangar, mission};
+use crate::texts::whole_text;
+use aerie_base::{OutOfMemory, Steps};
+use aerie_edge::Gate;
+use client_work::Workplace;
+use hangar_lock::HangarLock;
+use hangar_lock::laws::commands_are_done;
+use session_judge::JudgedSession;
+use std::alloc::Global;
+use std::sync::Wait;
+use std::sync::ledger::Ledger;
+
+/// Performs a session, its clients in turn: the first command of each, then the second of each, and so on, each whole. Answers
+/// the text that is printed: the line of the journal, and what is told of each client's commands, client by client. A
+/// simulation ends where its cost would pass the bound, at most 100,000,000; with `counts`, reports tell how many statements
+/// their simulations ran. The gate is told when each command's simulation starts and ends; statements and looks are counted.
+pub fn perform_in_turn<R: Wait, G: Gate, L: Ledger, K: Ledger>(
+    alloc: Global,
+    rt: &R,
+    gate: &G,
+    judged: &JudgedSession,
+    bound: u64,
+    counts: bool,
+    steps: &mut Steps<L>,
+    looks: &mut Steps<K>,
+) -> Result<String, OutOfMemory>
+    requires session { CanBePerformed judged.now }
+    requires bound { bound ≤ step_limit }
+    ensures performed { IfOk result (λ text. IsPerformedInTurn judged.now bound counts (string_bytes text)) }
+    ensures steps { steps.old ≤ steps.new }
+{
+    commands_are_done();
+    let mission = mission(alloc, judged, bound, counts)?;
+    let (lock, mut pass) = HangarLock::open(alloc, hangar(alloc, &judged.session)?)?;
+    let place = Workplace {
+        rt,
+        mission: &mission,
+        lock: &lock,
+        gate,
+    };
+    let clients = judged.session.clients.as_slice();
+    let texts = take_turns(alloc, &place, clients, &mut pass, steps, looks)?;
+    let (_, journal) = lock.close(pass);
+    whole_text(alloc, &journal, texts.as_slice())
+}
