@@ -139,7 +139,7 @@ const SIMULATIONS: [Row; 19] = [
         "at 500ms Bump(by = 1); at 2s Bump(by = 1);",
         "",
         "",
-        "\"outcome\":{\"failed\":{\"cell\":\"v\",\"fault\":\"Range\",\"time\":2000000}}\n\"reach\":500010\n{\"name\":\"v\",\"segments\":[[0,\"0\",\"1000000000000\"]]}\n{\"name\":\"n\",\"segments\":[[0,0],[500000,1],[500010,2]]}\n\"end\":500010,\"path\":\"1\"",
+        "\"outcome\":{\"failed\":{\"cell\":\"v\",\"fault\":\"Range\",\"time\":2000000}}\n\"reach\":500010\n{\"name\":\"v\",\"segments\":[[0,\"0\",\"1000000000000\"]]}\n{\"name\":\"n\",\"segments\":[[0,0],[500000,1]]}\n\"end\":500010,\"path\":\"1\"",
     ),
     (
         "run",
@@ -210,11 +210,11 @@ const COMMANDS: [Row; 22] = [
     ),
     (
         "run",
-        "activity Go(to: int) { require to > 0; }",
+        "activity Go(up: int) { require up > 0; }",
         "100us",
         "",
         "",
-        "client a { add main at 5us Nope(); add main at 100us Bump(by = 3); add main at 5us Bump(); add main at 5us Go(to = 0); remove main 9; add lost at 5us Bump(by = 3); new main; load main `[]`; show main; }",
+        "client a { add main at 5us Nope(); add main at 100us Bump(by = 3); add main at 5us Bump(); add main at 5us Go(up = 0); remove main 9; add lost at 5us Bump(by = 3); new main; load main `[]`; show main; }",
         "\"command\":0,\"refused\":{\"name\":\"UnknownType\"}\n\"command\":1,\"refused\":{\"name\":\"OutsidePlan\"}\n\"command\":2,\"refused\":{\"name\":\"BadArgument\",\"parameter\":\"by\"}\n\"command\":3,\"refused\":{\"name\":\"Invalid\",\"number\":0}\n\"command\":4,\"refused\":{\"name\":\"NoDirective\"}\n\"command\":5,\"refused\":{\"name\":\"NoBranch\"}\n\"command\":6,\"refused\":{\"name\":\"BranchExists\"}\n\"command\":7,\"refused\":{\"name\":\"NotAPlan\"}\n\"ok\":{\"branch\":\"main\",\"plan\":{\"directives\":[]},\"revision\":0}",
     ),
     (
