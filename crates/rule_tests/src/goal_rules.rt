@@ -3,7 +3,7 @@
 ghost use Rattle.std.specs.Prelude.{◌<◌, length};
 ghost use Rattle.aerie_text.specs.Marks.{AreTokensWithin};
 
-use crate::refusals::model_in;
+use crate::models::model_in;
 use aerie_base::{List, Model, Time};
 use aerie_text::{Token, tokens};
 use constraints::{Constraint, RuleError, read_constraints};

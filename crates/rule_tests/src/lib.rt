@@ -2,10 +2,20 @@
 #![tactic(auto)]
 
 #[cfg(test)]
+mod commands;
+#[cfg(test)]
 mod goal_rules;
+#[cfg(test)]
+mod models;
 #[cfg(test)]
 mod raw_rules;
 #[cfg(test)]
+mod readings;
+#[cfg(test)]
 mod refusals;
 #[cfg(test)]
+mod runs;
+#[cfg(test)]
 mod sequences;
+#[cfg(test)]
+mod violated;

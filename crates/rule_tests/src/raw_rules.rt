@@ -136,7 +136,7 @@ fn reads_sections_whole(rt: HostRuntime) {
 }
 
 /// A window that opens so many levels.
-fn deep(alloc: Global, levels: usize) -> Option<String> {
+pub(crate) fn deep(alloc: Global, levels: usize) -> Option<String> {
     let mut text = String::new(alloc);
     text.push_str("a:").ok()?;
     for _ in 0..levels {

@@ -1,6 +1,6 @@
 //! Rules of sequences that are read for a model, and those that are refused.
 
-use crate::refusals::model_in;
+use crate::models::model_in;
 use aerie_base::Model;
 use aerie_text::tokens;
 use constraints::RuleError;
