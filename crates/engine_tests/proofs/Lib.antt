@@ -1,2 +1,3 @@
 pub mod EmptyPlans
 pub mod MissionIsValid
+pub mod OnePut

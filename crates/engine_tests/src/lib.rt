@@ -9,4 +9,6 @@ mod plans;
 #[cfg(test)]
 mod runs;
 #[cfg(test)]
+mod taking_over;
+#[cfg(test)]
 mod telling;

@@ -7,10 +7,10 @@ ghost use Rattle.profiles.specs.Samples.{CanBeSampled};
 use crate::mission::mission;
 use crate::plans::{Planned, Type, bare, bump_after, plan, simulated, with};
 use crate::telling;
-use aerie_base::{Edge, Model, Time};
+use aerie_base::{Edge, Model, OutOfMemory, Time};
 use profiles::{Profile, profile};
 use run_data::Run;
-use span_table::spans;
+use span_table::{Span, spans};
 use std::alloc::Global;
 use std::marker::Brand;
 use std::process::Abort;
@@ -37,7 +37,7 @@ fn put_profile(
 ) -> Option<()>
     requires fresh { IsFresh model.now run.now.plan run.now.bound run.now }
 {
-    let profile = profile_of(alloc, model, run, resource)?;
+    let profile = profile_of(alloc, model, run, resource)?.copy(alloc).ok()?;
     let last = run.reach.get() - 1;
     if last < 0 {
         return None;
@@ -49,11 +49,20 @@ fn put_profile(
     text.push_str(more.as_str()).ok()
 }
 
+/// Copies of spans.
+fn copies(alloc: Global, spans: &[Span]) -> Result<Vec<Span>, OutOfMemory> {
+    let mut all = Vec::new(alloc);
+    for span in spans {
+        all.push(span.copy(alloc)?)?;
+    }
+    Ok(all)
+}
+
 /// What is found of a run: how it ends, its instants and its spans.
 fn beginning(alloc: Global, model: &Model, run: &Run) -> Option<String> {
     let outcome = telling::outcome(alloc, run).ok()?;
     let instants = telling::instants(alloc, run).ok()?;
-    let spans = spans(alloc, model, run).ok()?;
+    let spans = copies(alloc, &spans(alloc, model, run).ok()?).ok()?;
     let spans = telling::spans(alloc, &spans).ok()?;
     format!(in alloc;
         "{}; {}; {}",
