@@ -8,9 +8,10 @@ use Rattle.command_line.specs.declared.invocation.Mode.TheVariants.{Run, Check, 
 use Rattle.session_judge.specs.Judging.{Judgement, judged_session}
 use Rattle.session_judge.specs.Telling.{told_session}
 use Rattle.session_judge.specs.declared.judged.JudgedSession.{JudgedSession}
+use Rattle.session_make.specs.Sessions.{session}
 use Rattle.session_reader.specs.declared.session_error.SessionError.TheVariants.{TooLarge}
 use Rattle.aerie.specs.Input.{HasReadAll}
-use Rattle.aerie.specs.Program.{ProgramAnswer, IsAnswerTo, IsInputIf, IsModeAnswer, IsProgramAnswer, IsRunAnswer, check_answer, is_answered, made_answer, mode_reads, named_answer, number_of_status, reads_input, refused_answer}
+use Rattle.aerie.specs.Program.{ProgramAnswer, IsAnswerTo, IsInputIf, IsModeAnswer, IsMadeAnswer, IsProgramAnswer, IsRunAnswer, IsSummarized, answer_with, check_answer, is_answered, mode_reads, named_answer, number_of_status, reads_input, refused_answer, summary_text}
 use Rattle.aerie.specs.declared.exit_status.ExitStatus.{ExitStatus}
 use Rattle.aerie.specs.declared.exit_status.ExitStatus.TheVariants as status
 
@@ -30,14 +31,18 @@ run_tells : (invocation : Invocation) (judgement : Judgement JudgedSession) (ans
 run_tells invocation (Ok judged) answer is = subst (λ (ending : ExitStatus). IsTrue (is_answered (number_of_status ending))) (sym is.done) refl
 run_tells invocation (Err refusal) answer is = as_told answer (refused_answer status.Refused refusal) is refl
 
-made_tells : (number : ℕ) (text : Bool) → Tells (made_answer number text)
-made_tells number true = refl
-made_tells number false = refl
+summarized_tells : (number limit : ℕ) (judgement : Judgement JudgedSession) (answer : ProgramAnswer) → IsSummarized number limit judgement answer → Tells answer
+summarized_tells number limit (Ok judged) answer is = as_told answer (answer_with status.Done (summary_text number limit judged)) is refl
+summarized_tells number limit (Err refusal) answer is = absurd is
+
+made_tells : (number : ℕ) (text : Bool) (limit : ℕ) (answer : ProgramAnswer) → IsMadeAnswer number text limit answer → Tells answer
+made_tells number true limit answer is = as_told answer (answer_with status.Done (session number)) is refl
+made_tells number false limit answer is = summarized_tells number limit (judged_session (session number)) answer is
 
 mode_tells : (invocation : Invocation) (input : List ℕ) (mode : Mode) (answer : ProgramAnswer) → IsModeAnswer invocation input mode answer → Tells answer
 mode_tells invocation input Run answer is = run_tells invocation (judged_session input) answer is
 mode_tells invocation input Check answer is = as_told answer (check_answer (judged_session input)) is (check_tells (judged_session input))
-mode_tells invocation input (Make number text) answer is = as_told answer (made_answer number text) is (made_tells number text)
+mode_tells invocation input (Make number text) answer is = made_tells number text invocation.limit answer is
 
 program_tells : (invocation : Option Invocation) (input : List ℕ) (answer : ProgramAnswer) → IsProgramAnswer invocation input answer → Tells answer
 program_tells None input answer is = as_told answer (named_answer status.Words (codes "Words")) is refl
@@ -113,7 +118,7 @@ pub of_run : (invocation : Invocation) (before after : Option (List ℕ)) (input
 of_run invocation before after input answer is read told = of_mode invocation Run before after input answer is read told
 
 pub of_make : (invocation : Invocation) (number : ℕ) (text : Bool) (before after : Option (List ℕ)) (answer : ProgramAnswer) → invocation.mode ≡ Make number text
-    → answer ≡ made_answer number text → IsAnswerTo (Some invocation) before after answer
+    → IsMadeAnswer number text invocation.limit answer → IsAnswerTo (Some invocation) before after answer
 of_make invocation number text before after answer is told = of_mode invocation (Make number text) before after [] answer is tt told
 
 -- words that are no invocation

@@ -1,5 +1,5 @@
 -- What the program answers to the words and to the input.
-use Rattle.std.specs.Prelude.{◌≡◌, ℕ, ◌==◌, Bool, true, false, ◌||◌, List, Option, Some, None, Ok, Err, codes}
+use Rattle.std.specs.Prelude.{◌≡◌, ℕ, ◌==◌, Bool, true, false, ◌||◌, List, length, Option, Some, None, Ok, Err, codes}
 use Rattle.aerie_text.specs.Json.{line_of}
 use Rattle.command_line.specs.declared.invocation.Invocation.{Invocation}
 use Rattle.command_line.specs.declared.invocation.Mode.{Mode}
@@ -11,7 +11,10 @@ use Rattle.session_judge.specs.Judging.{Judgement, judged_session}
 use Rattle.session_judge.specs.Telling.{told_name}
 use Rattle.session_judge.specs.declared.judged.JudgedSession.{JudgedSession}
 use Rattle.session_make.specs.Sessions.{session}
+use Rattle.session_run.specs.Answers.{serial_answers}
 use Rattle.session_run.specs.Performed.{IsPerformed, IsPerformedInTurn}
+use Rattle.session_summary.specs.Summaries.{summary_of}
+use Rattle.session_summary.specs.SummaryLines.{summary_data}
 use Rattle.aerie.specs.Input.{HasReadAll}
 use Rattle.aerie.specs.declared.exit_status.ExitStatus.{ExitStatus}
 use Rattle.aerie.specs.declared.exit_status.ExitStatus.TheVariants as status
@@ -53,10 +56,6 @@ refused_answer ending refusal = answer_with ending (line_of (refused_data (refus
 abbrev pub named_answer : ExitStatus → List ℕ → ProgramAnswer
 named_answer ending name = refused_answer ending (told_name name)
 
--- what the program does not do yet
-abbrev pub unbuilt_answer : ProgramAnswer
-unbuilt_answer = named_answer status.Refused (codes "Unbuilt")
-
 -- ---- check
 
 -- a session is judged with all its rules, and the clients and commands of one that is good are counted
@@ -83,17 +82,27 @@ IsRunAnswer invocation (Err refusal) answer = answer ≡ refused_answer status.R
 
 -- ---- make
 
--- the text of a generated session
-abbrev pub made_answer : ℕ → Bool → ProgramAnswer
-made_answer number true = answer_with status.Done (session number)
-made_answer number false = unbuilt_answer
+-- the line that tells what is counted of a generated session with so many directives, whose clients take turns
+abbrev pub summary_text : ℕ → ℕ → JudgedSession → List ℕ
+summary_text number limit judged =
+    line_of (summary_data number (length judged.session.clients) (summary_of (serial_answers judged limit)))
+
+-- a generated session is good, it is performed, and the line tells of it
+abbrev pub IsSummarized : ℕ → ℕ → Judgement JudgedSession → ProgramAnswer → Type 0
+IsSummarized number limit (Ok judged) answer = answer ≡ answer_with status.Done (summary_text number limit judged)
+IsSummarized number limit (Err refusal) answer = ⊥
+
+-- the text of a generated session where that is asked for, or else what comes of it
+abbrev pub IsMadeAnswer : ℕ → Bool → ℕ → ProgramAnswer → Type 0
+IsMadeAnswer number true limit answer = answer ≡ answer_with status.Done (session number)
+IsMadeAnswer number false limit answer = IsSummarized number limit (judged_session (session number)) answer
 
 -- ---- the program
 
 abbrev pub IsModeAnswer : Invocation → List ℕ → Mode → ProgramAnswer → Type 0
 IsModeAnswer invocation input Run answer = IsRunAnswer invocation (judged_session input) answer
 IsModeAnswer invocation input Check answer = answer ≡ check_answer (judged_session input)
-IsModeAnswer invocation input (Make number text) answer = answer ≡ made_answer number text
+IsModeAnswer invocation input (Make number text) answer = IsMadeAnswer number text invocation.limit answer
 
 -- what the program may answer to an invocation, if the words are one, and to the bytes of the input
 abbrev pub IsProgramAnswer : Option Invocation → List ℕ → ProgramAnswer → Type 0

@@ -1,10 +1,12 @@
 //! What the program writes, and the status that it ends with where all of it is written.
 
-ghost use Rattle.std.specs.Prelude.{◌≡◌, ◌≤◌, ◌<◌, IfOk, codes, string_bytes};
+ghost use Rattle.std.specs.Prelude.{◌≡◌, ◌≤◌, ◌<◌, IfOk, string_bytes};
+ghost use Rattle.aerie_base.specs.Ranges.{step_limit};
 ghost use Rattle.command_line.specs.Invocations.{HasNumbersWithin};
 ghost use Rattle.session_judge.specs.Judging.{judged_session};
 ghost use Rattle.session_run.specs.Ruled.{CanBePerformed};
-ghost use Rattle.aerie.specs.Program.{HasRun, IsRunAnswer, check_answer, made_answer, named_answer, refused_answer};
+ghost use Rattle.aerie.specs.Program.{HasRun, IsMadeAnswer, IsRunAnswer, answer_with, check_answer, named_answer, refused_answer, summary_text};
+ghost use Rattle.aerie.specs.declared.exit_status.ExitStatus.TheVariants.{Done};
 
 use crate::exit_status::ExitStatus;
 use aerie_base::{OutOfMemory, Steps};
@@ -13,12 +15,13 @@ use command_line::Invocation;
 use report_text::{Refusal, refusal_line};
 use session_judge::{JudgeError, JudgedSession, accepted_line, judge, named_refusal};
 use session_make::make;
-use session_run::laws::turns_fit;
-use session_run::perform_in_turn;
+use session_run::{perform, perform_in_turn, summarize_in_turn};
+use session_summary::summary_line;
 use std::alloc::Global;
 use std::marker::{Brand, Model};
 use std::sync::Wait;
 use std::sync::ledger::{Blank, Ledger};
+use std::thread::Threads;
 
 /// What is written, and the status where all of it is written.
 #[derive(Drop)]
@@ -85,24 +88,69 @@ pub fn checked(alloc: Global, input: &[u8]) -> Result<Output, OutOfMemory>
     }
 }
 
-/// A session is made.
-pub fn made(alloc: Global, number: u32, text: bool) -> Result<Output, OutOfMemory>
-    requires some { 1 ≤ number }
-    requires most { number ≤ 20_000 }
-    ensures { IfOk result (λ output. output ≡ made_answer number text) }
+/// A generated session with so many directives is performed, its clients in turn, and summarized.
+fn summarized<R: Wait, G: Gate, L: Ledger, K: Ledger>(
+    alloc: Global,
+    rt: &R,
+    number: u32,
+    limit: u64,
+    judged: &JudgedSession,
+    gate: &G,
+    steps: &mut Steps<L>,
+    blank: Blank,
+) -> Result<Output, OutOfMemory>
+    requires limit { limit ≤ step_limit }
+    requires session { CanBePerformed judged.now }
+    requires name { blank.name ≡ K.name }
+    requires parts { blank.parts ≡ K.parts }
+    requires some { 0 < K.parts }
+    ensures summarized { IfOk result (λ output. output ≡ answer_with Done (summary_text number limit judged.now)) }
+    ensures steps { steps.old ≤ steps.new }
 {
-    if !text {
-        return named(alloc, ExitStatus::Refused, "Unbuilt");
-    }
-    let text = make(alloc, number)?;
+    let mut looks = Steps::<K>::open(blank);
+    let summary = summarize_in_turn(alloc, rt, gate, judged, limit, steps, &mut looks)?;
+    let text = summary_line(alloc, number, judged.session.clients.len(), summary)?;
     Ok(Output {
         status: ExitStatus::Done,
         text,
     })
 }
 
-/// A good session is performed, its clients in turn.
-fn performed_good<R: Wait, G: Gate, L: Ledger, K: Ledger>(
+/// A session is made. Where its text is not what is asked for, it is judged and performed as any session is.
+pub fn made<R: Wait, G: Gate, L: Ledger>(
+    alloc: Global,
+    rt: &R,
+    number: u32,
+    text: bool,
+    limit: u64,
+    gate: &G,
+    steps: &mut Steps<L>,
+) -> Result<Output, OutOfMemory>
+    requires some { 1 ≤ number }
+    requires most { number ≤ 20_000 }
+    requires limit { limit ≤ step_limit }
+    ensures made { IfOk result (IsMadeAnswer number text limit) }
+    ensures steps { steps.old ≤ steps.new }
+{
+    let session = make(alloc, number)?;
+    if text {
+        return Ok(Output {
+            status: ExitStatus::Done,
+            text: session,
+        });
+    }
+    match judge(alloc, session.as_bytes()) {
+        Ok(judged) => {
+            let blank = Blank::new(1);
+            summarized::<R, G, L, Brand>(alloc, rt, number, limit, &judged, gate, steps, blank)
+        }
+        // A generated session is good. No status tells that one is refused, so nothing would be written.
+        Err(_) => Err(OutOfMemory),
+    }
+}
+
+/// A good session is performed: its clients in turn where that is asked for, or else each on a thread of its own.
+fn performed_good<R: Threads + Wait + Sync, G: Gate, L: Ledger, K: Ledger>(
     alloc: Global,
     rt: &R,
     invocation: &Invocation,
@@ -120,9 +168,15 @@ fn performed_good<R: Wait, G: Gate, L: Ledger, K: Ledger>(
     ensures steps { steps.old ≤ steps.new }
 {
     let (limit, stats) = (invocation.limit, invocation.stats);
-    let mut looks = Steps::<K>::open(blank);
-    let text = perform_in_turn(alloc, rt, gate, judged, limit, stats, steps, &mut looks)?;
-    turns_fit();
+    if invocation.serial {
+        let mut looks = Steps::<K>::open(blank);
+        let text = perform_in_turn(alloc, rt, gate, judged, limit, stats, steps, &mut looks)?;
+        return Ok(Output {
+            status: ExitStatus::Done,
+            text,
+        });
+    }
+    let text = perform(alloc, rt, gate, judged, limit, stats)?;
     Ok(Output {
         status: ExitStatus::Done,
         text,
@@ -130,7 +184,7 @@ fn performed_good<R: Wait, G: Gate, L: Ledger, K: Ledger>(
 }
 
 /// A session is judged, and performed where it is good.
-pub fn performed<R: Wait, G: Gate, L: Ledger>(
+pub fn performed<R: Threads + Wait + Sync, G: Gate, L: Ledger>(
     alloc: Global,
     rt: &R,
     invocation: &Invocation,

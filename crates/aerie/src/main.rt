@@ -4,13 +4,23 @@
 
 mod answers;
 mod exit_status;
+#[cfg(test)]
+mod hostile;
 mod input;
+#[cfg(test)]
+mod made;
 mod output;
 mod program;
 #[cfg(test)]
+mod refused;
+#[cfg(test)]
 mod rows;
 #[cfg(test)]
+mod simulations_overlap;
+#[cfg(test)]
 mod tests;
+#[cfg(test)]
+mod turns_of_clients;
 
 use aerie_base::OutOfMemory;
 use aerie_edge::{Open, StdSink, StdSource};

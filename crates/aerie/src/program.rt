@@ -23,7 +23,7 @@ use std::sync::ledger::{Blank, Ledger};
 use std::thread::Threads;
 
 /// What is written for an invocation. Only a session that is performed or judged is read.
-fn output_for<R: Wait, S: Source, G: Gate, L: Ledger>(
+fn output_for<R: Threads + Wait + Sync, S: Source, G: Gate, L: Ledger>(
     alloc: Global,
     rt: &R,
     invocation: &Invocation,
@@ -41,7 +41,10 @@ fn output_for<R: Wait, S: Source, G: Gate, L: Ledger>(
     ensures steps { steps.old ≤ steps.new }
 {
     match invocation.mode {
-        Mode::Make { number, text } => Ok(made(alloc, number, text)?),
+        Mode::Make { number, text } => {
+            let limit = invocation.limit;
+            Ok(made(alloc, rt, number, text, limit, gate, steps)?)
+        }
         Mode::Check => {
             let input = read_input(alloc, source)?;
             Ok(checked(alloc, &input)?)
@@ -54,7 +57,7 @@ fn output_for<R: Wait, S: Source, G: Gate, L: Ledger>(
 }
 
 /// What is written for words.
-fn output<R: Wait, S: Source, G: Gate, L: Ledger>(
+fn output<R: Threads + Wait + Sync, S: Source, G: Gate, L: Ledger>(
     alloc: Global,
     rt: &R,
     words: &[String],

@@ -23,7 +23,16 @@ const CELLS: &str =
     "register r: int = 0; discrete r = r; discrete hit = r.conflicted; counter seen = 0; discrete seen = seen;";
 
 /// Spans, profiles and outcomes.
-const SIMULATIONS: [Row; 19] = [
+const SIMULATIONS: [Row; 20] = [
+    (
+        "run --pieces 64",
+        "activity Loop() { while true { n += 1; } } activity Div(d: int) { n += 10 / d; }",
+        "100us",
+        "at 5us Loop(); at 5us Div(d = 0);",
+        "",
+        "",
+        "\"outcome\":{\"steplimit\":{\"time\":5}}",
+    ),
     (
         "run",
         "",
@@ -124,7 +133,7 @@ const SIMULATIONS: [Row; 19] = [
         "\"outcome\":{\"failed\":{\"fault\":\"Divide\",\"task\":\"2\",\"time\":5}}\n\"segments\":[[0,0]]\n\"reach\":5,\"revision\":0,\"spans\":[]",
     ),
     (
-        "run",
+        "run --pieces 1",
         "activity Loop() { while true { n += 1; } } activity Div(d: int) { n += 10 / d; }",
         "100us",
         "at 5us Loop(); at 5us Div(d = 0);",
@@ -198,7 +207,25 @@ const SIMULATIONS: [Row; 19] = [
 ];
 
 /// Edits, branches, merges, schedules, violations and expansions.
-const COMMANDS: [Row; 22] = [
+const COMMANDS: [Row; 24] = [
+    (
+        "run --stats",
+        "counter copy = 0; discrete copy = copy; activity Echo() { let x = n; copy += x; }",
+        "100us",
+        "",
+        "",
+        "client a { add main at 5us Bump(by = 3); add main at 50us Echo(); simulate main; move main 1 to 60us; simulate main; simulate main; }",
+        "\"statements\":5\n{\"name\":\"copy\",\"segments\":[[0,0],[50,6]]}\n{\"name\":\"n\",\"segments\":[[0,0],[60,3],[70,6]]}\n{\"name\":\"copy\",\"segments\":[[0,0]]}\n\"statements\":0",
+    ),
+    (
+        "run",
+        "counter t = 0; discrete t = t; activity Tick() { t += 1; }",
+        "4h",
+        "at 30min Tick();",
+        "goals { g: recurrence Tick() every 1h in [0us, 4h); }",
+        "client a { schedule main; show main; }",
+        "\"id\":2,\"start\":5400000000\n\"id\":3,\"start\":9000000000\n\"id\":4,\"start\":12600000000",
+    ),
     (
         "run --serial",
         "",

@@ -11,13 +11,13 @@ use std::test::Fail;
 use std::thread::Threads;
 
 /// The first example.
-const FIRST: &str = r#"model m { counter n = 0; discrete n = n;
+pub(crate) const FIRST: &str = r#"model m { counter n = 0; discrete n = n;
   activity Bump(by: int) { n += by; delay 10us; n += by; } }
 plan main { start "2030-01-01T00:00:00Z"; duration 100us; }
 client a { add main at 5us Bump(by = 3); simulate main; }
 "#;
 
-const FIRST_TEXT: &str = r#"[[0,0,0],[0,1,0],[0,1,1]]
+pub(crate) const FIRST_TEXT: &str = r#"[[0,0,0],[0,1,0],[0,1,1]]
 {"client":"a","command":0,"ok":{"branch":"main","id":1,"revision":1}}
 {"client":"a","command":1,"ok":{"attached":true,"branch":"main","outcome":"completed","profiles":[{"name":"n","segments":[[0,0],[5,3],[15,6]]}],"reach":100,"revision":1,"spans":[{"arguments":{"by":3},"end":15,"path":"1","result":null,"start":5,"type":"Bump","utc":"2030-001T00:00:00.000005"}],"violations":[]}}
 "#;
@@ -29,8 +29,6 @@ const TOO_LARGE: &str = "{\"refused\":{\"name\":\"TooLarge\"}}\n";
 
 const WORDS: &str = "{\"refused\":{\"name\":\"Words\"}}\n";
 
-const UNBUILT: &str = "{\"refused\":{\"name\":\"Unbuilt\"}}\n";
-
 /// The words of a text, which are parted by spaces.
 pub(crate) fn words_in(alloc: Global, text: &str) -> Result<Vec<String>, AllocError> {
     let mut words = Vec::new(alloc);
@@ -41,7 +39,7 @@ pub(crate) fn words_in(alloc: Global, text: &str) -> Result<Vec<String>, AllocEr
 }
 
 /// The status of the program with these words over this source and this sink.
-fn status_with<R: Threads + Wait + Sync, S: Source, K: Sink>(
+pub(crate) fn status_with<R: Threads + Wait + Sync, S: Source, K: Sink>(
     rt: &R,
     alloc: Global,
     words: &str,
@@ -63,7 +61,7 @@ fn status_of<R: Threads + Wait + Sync, S: Source, K: Sink>(
 }
 
 /// Calls the program with these words and this session, and compares the status and what is written.
-fn check_with<R: Threads + Wait + Sync + Abort>(
+pub(crate) fn check_with<R: Threads + Wait + Sync + Abort>(
     rt: &R,
     alloc: Global,
     words: &str,
@@ -85,6 +83,20 @@ pub(crate) fn joined(alloc: Global, one: &str, other: &str) -> Result<String, Al
     format!(in alloc; "{one}{other}")
 }
 
+/// Calls the program with these words and these bytes, and gives the status and what is written.
+pub(crate) fn status_and_text<R: Threads + Wait + Sync + Abort>(
+    rt: &R,
+    alloc: Global,
+    words: &str,
+    bytes: &[u8],
+) -> Result<(u8, String), AllocError> {
+    let mut source = SureSource::new(Vec::from_slice(alloc, bytes)?);
+    let mut sink = MemorySink::new(alloc, usize::MAX, Vec::new(alloc));
+    let status = status_with(rt, alloc, words, &mut source, &mut sink)?;
+    let text = str::from_utf8(sink.bytes()).expect(rt, "a text");
+    Ok((status, String::from_str(alloc, text)?))
+}
+
 /// Calls the program with these words and this session, which it does, and gives what is written.
 pub(crate) fn is_done<R: Threads + Wait + Sync + Abort>(
     rt: &R,
@@ -92,13 +104,9 @@ pub(crate) fn is_done<R: Threads + Wait + Sync + Abort>(
     words: &str,
     session: &str,
 ) -> Result<String, AllocError> {
-    let bytes = Vec::from_slice(alloc, session.as_bytes())?;
-    let mut source = SureSource::new(bytes);
-    let mut sink = MemorySink::new(alloc, usize::MAX, Vec::new(alloc));
-    let got = status_with(rt, alloc, words, &mut source, &mut sink)?;
-    assert_eq!(rt; got, 0, "of {words}, {session}");
-    let text = str::from_utf8(sink.bytes()).expect(rt, "a text");
-    String::from_str(alloc, text)
+    let (status, text) = status_and_text(rt, alloc, words, session.as_bytes())?;
+    assert_eq!(rt; status, 0, "of {words}, {session}");
+    Ok(text)
 }
 
 /// Runs the session, and compares the status and what is written.
@@ -113,13 +121,18 @@ fn check<R: Threads + Wait + Sync + Abort>(
 }
 
 /// The first session with one of its parts changed.
-fn changed<R: Abort>(rt: &R, alloc: Global, part: &str, by: &str) -> Result<String, AllocError> {
+pub(crate) fn changed<R: Abort>(
+    rt: &R,
+    alloc: Global,
+    part: &str,
+    by: &str,
+) -> Result<String, AllocError> {
     let (before, behind) = FIRST.split_once(part).expect(rt, "a part of the session");
     format!(in alloc; "{before}{by}{behind}")
 }
 
 /// The text so many times over.
-fn repeated(alloc: Global, text: &str, times: usize) -> Result<String, AllocError> {
+pub(crate) fn repeated(alloc: Global, text: &str, times: usize) -> Result<String, AllocError> {
     let mut all = String::new(alloc);
     for _ in 0..times {
         all.push_str(text)?;
@@ -193,7 +206,6 @@ fn sessions_are_performed_in_turn(rt: HostRuntime) -> Result<(), Fail> {
         let text = if wanted == 0 { FIRST_TEXT } else { WORDS };
         check_with(&rt, alloc, words, FIRST, wanted, text)?;
     }
-    check_with(&rt, alloc, "make --number 5", FIRST, 3, UNBUILT)?;
     Ok(())
 }
 
@@ -358,40 +370,10 @@ fn a_session_has_a_longest_length(rt: HostRuntime) -> Result<(), Fail> {
     Ok(())
 }
 
+/// A sink that takes nothing.
 #[test]
-fn a_read_that_fails_ends_the_program(rt: HostRuntime) -> Result<(), Fail> {
+fn nothing_may_be_taken(rt: HostRuntime) -> Result<(), Fail> {
     let alloc = rt.alloc();
-    for call in 1..=5u64 {
-        let bytes = Vec::from_slice(alloc, FIRST.as_bytes())?;
-        let mut source = MemorySource::new(bytes, 64, Vec::from_slice(alloc, &[call])?);
-        let mut sink = MemorySink::new(alloc, usize::MAX, Vec::new(alloc));
-        assert_eq!(rt;
-            status_of(&rt, alloc, &mut source, &mut sink)?,
-            4,
-            "at {call}"
-        );
-        assert_eq!(rt; sink.bytes().len(), 0);
-    }
-    Ok(())
-}
-
-#[test]
-fn a_write_that_fails_leaves_a_front(rt: HostRuntime) -> Result<(), Fail> {
-    let alloc = rt.alloc();
-    for call in 1..=8usize {
-        let bytes = Vec::from_slice(alloc, FIRST.as_bytes())?;
-        let mut source = MemorySource::new(bytes, 64, Vec::new(alloc));
-        let mut sink = MemorySink::new(alloc, 50, Vec::from_slice(alloc, &[call as u64])?);
-        assert_eq!(rt;
-            status_of(&rt, alloc, &mut source, &mut sink)?,
-            5,
-            "at {call}"
-        );
-        assert_eq!(rt;
-            Some(sink.bytes()),
-            FIRST_TEXT.as_bytes().get(..50 * (call - 1))
-        );
-    }
     for session in [FIRST, "no session"] {
         let mut source = SureSource::new(Vec::from_slice(alloc, session.as_bytes())?);
         let mut sink = MemorySink::new(alloc, 0, Vec::new(alloc));

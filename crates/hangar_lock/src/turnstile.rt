@@ -14,6 +14,7 @@ use aerie_base::OutOfMemory;
 use hangar_core::Entry;
 use std::alloc::Global;
 use std::sync::Wait;
+use std::thread;
 
 /// The word that counts the tickets that were drawn.
 const TICKETS: usize = 0;
@@ -49,7 +50,7 @@ impl Turnstile {
         self.table.shared.load::<LookAtTurn>(seat, TURNS) == ticket
     }
 
-    /// Waits for the turn of a ticket.
+    /// Waits for the turn of a ticket, and lets other threads run in the meantime.
     fn wait_turn<R: Wait>(&self, rt: &R, seat: &mut PassSeat, ticket: u64)
         requires own { seat.old.table_id ≡ self.now.table.shared.table_id }
         requires waits { IsWaiting ticket seat.old.me }
@@ -60,6 +61,7 @@ impl Turnstile {
             if self.look(seat, ticket) {
                 return;
             }
+            thread::yield_now();
         }
         unreachable!()
     }

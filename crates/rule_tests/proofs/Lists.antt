@@ -1,5 +1,5 @@
 -- What holds of all of a list.
-use Rattle.std.proofs.Common.{◌≡◌, ℕ, zero, suc, ◌<◌, Bool, true, false, ◌&&◌, IsTrue, List, [], ◌∷◌, ◌++◌, length, get_or, refl, sym, arith, true≢false}
+use Rattle.std.proofs.Common.{ℕ, zero, suc, ◌<◌, Bool, true, false, ◌&&◌, IsTrue, List, [], ◌∷◌, ◌++◌, length, get_or, refl, sym, arith, true≢false}
 use Rattle.std.specs.List.{list_all}
 
 pub left_of : (a b : Bool) → IsTrue (a && b) → IsTrue a

@@ -4,9 +4,13 @@
 #[cfg(test)]
 mod commands;
 #[cfg(test)]
+mod dice;
+#[cfg(test)]
 mod goal_rules;
 #[cfg(test)]
 mod models;
+#[cfg(test)]
+mod plain;
 #[cfg(test)]
 mod raw_rules;
 #[cfg(test)]
@@ -19,3 +23,5 @@ mod runs;
 mod sequences;
 #[cfg(test)]
 mod violated;
+#[cfg(test)]
+mod windows_by_chance;

@@ -37,7 +37,7 @@ const DATASETS: [(&str, &str); 3] = [
 ];
 
 /// Texts of constraints, each with what is answered: how many there are, or the error.
-const CASES: [(&str, &str); 24] = [
+const CASES: [(&str, &str); 25] = [
     (
         "a: n >= 0; b: forbid A, B; c: for x in A: not during(x) or mode == E.B; d: lit;",
         "4 constraints",
@@ -56,6 +56,7 @@ const CASES: [(&str, &str); 24] = [
     ("a: mode == G.A;", "unknown name at line 1, column 12"),
     ("a: mode == E.C;", "unknown name at line 1, column 14"),
     ("a: n == E.A;", "wrong type at line 1, column 4"),
+    ("a: n == G.A;", "wrong type at line 1, column 4"),
     ("a: mode == F.C;", "wrong type at line 1, column 4"),
     ("a: n;", "wrong type at line 1, column 4"),
     ("a: mode == true;", "wrong type at line 1, column 4"),

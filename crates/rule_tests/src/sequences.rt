@@ -20,7 +20,7 @@ model m {
 ";
 
 /// Texts of sequences, each with what is answered: how many rules and spacings there are, or the error.
-const CASES: [(&str, &str); 20] = [
+const CASES: [(&str, &str); 21] = [
     ("", "0 and 0"),
     (
         "for Bump: start - 2us WARM(), start SET(by, true), end STOP(7); longer(SET, 100us);",
@@ -73,6 +73,10 @@ const CASES: [(&str, &str); 20] = [
     (
         "for Probe: start S() if mode == F.C;",
         "wrong type at line 1, column 33",
+    ),
+    (
+        "for Probe: start S() if mode == E.C;",
+        "unknown name at line 1, column 35",
     ),
     (
         "for Probe: start S() if on != 1;",

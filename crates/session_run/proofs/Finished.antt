@@ -40,11 +40,11 @@ longest_enough (first ∷ clients) (suc which) client at = let h = longest_enoug
 -- ---- the texts of all clients
 
 module _ (mission : Mission) (journal : Entries) where
-  abbrev AreTold : ℕ → List Client → List (List ℕ) → Type 0
+  abbrev pub AreTold : ℕ → List Client → List (List ℕ) → Type 0
   AreTold base clients texts = (which : ℕ) (client : Client) (text : List ℕ) → slice_get clients which ≡ Some client → slice_get texts which ≡ Some text →
       IsWorkTold mission (client_numbered (base + which) client) 0 client.commands (filter (is_of_client (base + which)) journal) text
 
-  joined : (base : ℕ) (clients : List Client) (texts : List (List ℕ)) → length texts ≡ length clients → AreTold base clients texts →
+  pub joined : (base : ℕ) (clients : List Client) (texts : List (List ℕ)) → length texts ≡ length clients → AreTold base clients texts →
       (counts : ℕ → ℕ → ℕ) × (joined_texts texts ≡ clients_text mission counts journal base clients)
   unfolding first_then
   joined base [] [] count told = ((λ which number. 0), refl)
@@ -62,7 +62,7 @@ module _ (mission : Mission) (journal : Entries) where
 
 -- ---- together
 
-serial_is : (judged : JudgedSession) (bound : ℕ) → one_by_one (session_meanings judged bound) (opening_of judged.session)
+pub serial_is : (judged : JudgedSession) (bound : ℕ) → one_by_one (session_meanings judged bound) (opening_of judged.session)
     (turns (longest (all_commands judged.session.clients)) 0 (all_commands judged.session.clients)) ≡ serial_journal judged bound
 unfolding serial
 serial_is judged bound = refl

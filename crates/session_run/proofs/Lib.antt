@@ -5,3 +5,9 @@ pub mod Rounds
 pub mod Finished
 pub mod Rules
 pub mod Joining
+pub mod Threaded
+mod sharing
+pub mod Reports
+pub mod Along
+pub mod Counted
+pub mod Apart

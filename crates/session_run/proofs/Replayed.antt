@@ -11,11 +11,11 @@ use Rattle.hangar_core.specs.Steps.{step}
 use Rattle.hangar_lock.specs.laws.ClientsWork.{CommandsHaveFewParts}
 use Rattle.session_run.specs.Turning.{AreTurns}
 
-replay_front : (w : Workspace) (own rest : Entries) → IsReplay w (own ++ rest) → IsReplay w own
+pub replay_front : (w : Workspace) (own rest : Entries) → IsReplay w (own ++ rest) → IsReplay w own
 replay_front w [] rest h = tt
 replay_front w (x ∷ own) rest h = (h.0, replay_front (step w x.0.action).1 own rest h.1)
 
-replay_behind : (w : Workspace) (own rest : Entries) → IsReplay w (own ++ rest) → IsReplay (after_entries w own) rest
+pub replay_behind : (w : Workspace) (own rest : Entries) → IsReplay w (own ++ rest) → IsReplay (after_entries w own) rest
 replay_behind w [] rest h = h
 replay_behind w (x ∷ own) rest h = replay_behind (step w x.0.action).1 own rest h.1
 

@@ -72,7 +72,7 @@ pub mapped_length : {A B : Type 0} (f : A → B) (xs : List A) → length (map f
 mapped_length f [] = refl
 mapped_length f (x ∷ xs) = ap suc (mapped_length f xs)
 
-mapped_append : {A B : Type 0} (f : A → B) (xs ys : List A) → map f (xs ++ ys) ≡ map f xs ++ map f ys
+pub mapped_append : {A B : Type 0} (f : A → B) (xs ys : List A) → map f (xs ++ ys) ≡ map f xs ++ map f ys
 mapped_append f [] ys = refl
 mapped_append f (x ∷ xs) ys = ap (λ l. f x ∷ l) (mapped_append f xs ys)
 
@@ -160,7 +160,7 @@ rises_both : (low middle high : ℕ) (gained later : Places) → RisesTo low mid
 rises_both low middle high [] later first second = rises_on low middle high later first second
 rises_both low middle high (place ∷ rest) later first second = (first.0, rises_both (place.0 + 1) middle high rest later first.1 second)
 
-gained_both : (before middle after : PassView) (gained later : Places) → HasGained before middle gained → HasGained middle after later → HasGained before after (gained ++ later)
+pub gained_both : (before middle after : PassView) (gained later : Places) → HasGained before middle gained → HasGained middle after later → HasGained before after (gained ++ later)
 gained_both before middle after gained later one two = record {
   mine = two.mine ∙ ap (λ (mine : Places). mine ++ later) one.mine ∙ append_assoc before.mine gained later;
   rises = rises_both (length before.seen) (length middle.seen) (length after.seen) gained later one.rises two.rises;
@@ -199,7 +199,7 @@ with_there (suc which) (suc other) new (first ∷ texts) text differ e = with_th
 
 -- ---- the entries of a client
 
-all_by : (meanings : Meanings) (client number : ℕ) (command : Command) (replies : List Reply) (own : Entries) → IsCommand meanings client number command replies own →
+pub all_by : (meanings : Meanings) (client number : ℕ) (command : Command) (replies : List Reply) (own : Entries) → IsCommand meanings client number command replies own →
     filter (is_of_client client) own ≡ own
 all_by meanings client number command replies [] done = refl
 all_by meanings client number command replies (x ∷ own) done =
@@ -212,7 +212,7 @@ not_equal client other differ = decide (eqb_tells client other)
     decide (inl k) = absurd (differ k.1)
     decide (inr k) = k.0
 
-none_by : (meanings : Meanings) (client other number : ℕ) (command : Command) (replies : List Reply) (own : Entries) → other ≢ client → IsCommand meanings client number command replies own →
+pub none_by : (meanings : Meanings) (client other number : ℕ) (command : Command) (replies : List Reply) (own : Entries) → other ≢ client → IsCommand meanings client number command replies own →
     filter (is_of_client other) own ≡ []
 none_by meanings client other number command replies [] differ done = refl
 none_by meanings client other number command replies (x ∷ own) differ done =
@@ -255,7 +255,7 @@ module _ (mission : Mission) (clients : List Client) (number which : ℕ) (clien
   same_client x there = same_some client x (sym at ∙ there)
 
   module _ (command : Command) (has : slice_get client.commands number ≡ Some command) where
-    turns_taken : turns_until number (suc which) (all_commands clients) ≡
+    pub turns_taken : turns_until number (suc which) (all_commands clients) ≡
         turns_until number which (all_commands clients) ++ (record { client = which; number = number; command = command } ∷ [])
     turns_taken =
         ap (λ (l : List ClientTurn). turns number 0 (all_commands clients) ++ l)
@@ -338,18 +338,18 @@ module _ (mission : Mission) (clients : List Client) (number which : ℕ) (clien
         }
 
   -- a client without such a command
+  pub turns_skipped : length client.commands ≤ number → turns_until number (suc which) (all_commands clients) ≡ turns_until number which (all_commands clients)
+  turns_skipped less = ap (λ (l : List ClientTurn). turns number 0 (all_commands clients) ++ l) (heads_skipped number 0 which behind (behind_at ∙ ap Some (drop_all client.commands number less)))
+
   pub turn_skipped : length client.commands ≤ number → (first after : PassView) (texts : List (List ℕ)) → HasTurnedUntil mission clients number which first after texts →
       HasTurnedUntil mission clients number (suc which) first after texts
   turn_skipped less first after texts until = record {
     gained = until.gained;
     gains = until.gains;
-    turned = subst (λ (l : List ClientTurn). AreTurns meanings l (own_entries until.gained)) (sym same) until.turned;
+    turned = subst (λ (l : List ClientTurn). AreTurns meanings l (own_entries until.gained)) (sym (turns_skipped less)) until.turned;
     told = record { count = until.told.count; each = each };
   }
     where
-      same : turns_until number (suc which) (all_commands clients) ≡ turns_until number which (all_commands clients)
-      same = ap (λ (l : List ClientTurn). turns number 0 (all_commands clients) ++ l) (heads_skipped number 0 which behind (behind_at ∙ ap Some (drop_all client.commands number less)))
-
       here : (text : List ℕ) → Told mission until.gained which client (done_until number which which) text → Told mission until.gained which client (done_until number (suc which) which) text
       here text was =
           let a : take (done_until number which which) client.commands ≡ take (done_until number (suc which) which) client.commands =
@@ -371,6 +371,19 @@ module _ (mission : Mission) (clients : List Client) (number which : ℕ) (clien
 
 -- ---- a round
 
+-- all turns of a round are those before the next one
+pub round_turns : (clients : List Client) (number : ℕ) → turns_until number (length clients) (all_commands clients) ≡ turns_until (number + 1) 0 (all_commands clients)
+round_turns clients number =
+    ap (λ (l : List (List Command)). turns number 0 (all_commands clients) ++ heads number 0 l)
+    (take_all (commands_behind number (all_commands clients)) (length clients) (let k = behind_length in omega (arith, k)))
+    ∙ ap (λ (n : ℕ). turns number 0 (all_commands clients) ++ heads n 0 (commands_behind number (all_commands clients))) {x = number} {y = 0 + number} (omega arith)
+    ∙ sym (turns_more number 0 (all_commands clients))
+    ∙ ap (λ (n : ℕ). turns n 0 (all_commands clients)) {x = suc number} {y = number + 1} (omega arith)
+    ∙ sym (append-nil (turns (number + 1) 0 (all_commands clients)))
+  where
+    behind_length : length (commands_behind number (all_commands clients)) ≡ length clients
+    behind_length = mapped_length (drop number) (all_commands clients) ∙ mapped_length (λ (x : Client). x.commands) clients
+
 module _ (mission : Mission) (clients : List Client) where
   -- a round is over behind the last client
   pub round_done : (number : ℕ) (first after : PassView) (texts : List (List ℕ)) → HasTurnedUntil mission clients number (length clients) first after texts →
@@ -378,7 +391,7 @@ module _ (mission : Mission) (clients : List Client) where
   round_done number first after texts until = record {
     gained = until.gained;
     gains = until.gains;
-    turned = subst (λ (l : List ClientTurn). AreTurns (meanings_of mission.models mission.bound) l (own_entries until.gained)) same until.turned;
+    turned = subst (λ (l : List ClientTurn). AreTurns (meanings_of mission.models mission.bound) l (own_entries until.gained)) (round_turns clients number) until.turned;
     told = record {
       count = until.told.count;
       each = λ which x text place there.
@@ -387,18 +400,6 @@ module _ (mission : Mission) (clients : List Client) where
           (until.told.each which x text place there);
     };
   }
-    where
-      behind_length : length (commands_behind number (all_commands clients)) ≡ length clients
-      behind_length = mapped_length (drop number) (all_commands clients) ∙ mapped_length (λ (x : Client). x.commands) clients
-
-      same : turns_until number (length clients) (all_commands clients) ≡ turns_until (number + 1) 0 (all_commands clients)
-      same =
-          ap (λ (l : List (List Command)). turns number 0 (all_commands clients) ++ heads number 0 l)
-          (take_all (commands_behind number (all_commands clients)) (length clients) (let k = behind_length in omega (arith, k)))
-          ∙ ap (λ (n : ℕ). turns number 0 (all_commands clients) ++ heads n 0 (commands_behind number (all_commands clients))) {x = number} {y = 0 + number} (omega arith)
-          ∙ sym (turns_more number 0 (all_commands clients))
-          ∙ ap (λ (n : ℕ). turns n 0 (all_commands clients)) {x = suc number} {y = number + 1} (omega arith)
-          ∙ sym (append-nil (turns (number + 1) 0 (all_commands clients)))
 
   no_text : (count at : ℕ) (text : List ℕ) → HasText (texts_without count) at text → text ≡ []
   no_text zero at text e = absurd (none_some text e)
@@ -436,7 +437,7 @@ pub round_begun : (mission : Mission) (lock : LockView) (clients : List Client) 
     IsInRound mission lock clients number 0 pass pass texts texts
 round_begun mission lock clients number pass texts at many = record { at = at; own = at.own; many = many; goes_on = λ first until. until }
 
-still_at : (mission : Mission) (lock : LockView) (before after : PassView) (gained : Places) → IsAtWork mission lock before → HasGained before after gained → IsAtWork mission lock after
+pub still_at : (mission : Mission) (lock : LockView) (before after : PassView) (gained : Places) → IsAtWork mission lock before → HasGained before after gained → IsAtWork mission lock after
 still_at mission lock before after gained at gains = record { own = gains.lock ∙ at.own; some_model = at.some_model; models = at.models; ruled = at.ruled; bound = at.bound }
 
 pub round_taken : (mission : Mission) (lock : LockView) (clients : List Client) (number which : ℕ) (before now after : PassView) (texts_before texts_now : List (List ℕ))

@@ -57,11 +57,11 @@ module _ (mission : Mission) (client : ClientOf) (command : Command) (own : Entr
 -- ---- whose entries they are
 
 -- each entry is of a command with a number that meets a condition
-abbrev AreOf : (ℕ → Type 0) → Entries → Type 0
+abbrev pub AreOf : (ℕ → Type 0) → Entries → Type 0
 AreOf P [] = Unit {0}
 AreOf P (x ∷ entries) = P x.0.command × AreOf P entries
 
-of_weaker : (P Q : ℕ → Type 0) → ((n : ℕ) → P n → Q n) → (entries : Entries) → AreOf P entries → AreOf Q entries
+pub of_weaker : (P Q : ℕ → Type 0) → ((n : ℕ) → P n → Q n) → (entries : Entries) → AreOf P entries → AreOf Q entries
 of_weaker P Q weaker [] h = tt
 of_weaker P Q weaker (x ∷ entries) h = (weaker x.0.command h.0, of_weaker P Q weaker entries h.1)
 
@@ -69,7 +69,7 @@ of_both : (P : ℕ → Type 0) (entries later : Entries) → AreOf P entries →
 of_both P [] later h k = k
 of_both P (x ∷ entries) later h k = (h.0, of_both P entries later h.1 k)
 
-of_command : (meanings : Meanings) (client number : ℕ) (command : Command) (replies : List Reply) (own : Entries) →
+pub of_command : (meanings : Meanings) (client number : ℕ) (command : Command) (replies : List Reply) (own : Entries) →
     IsCommand meanings client number command replies own → AreOf (λ n. n ≡ number) own
 of_command meanings client number command replies [] h = tt
 of_command meanings client number command replies (x ∷ own) h =
@@ -88,10 +88,10 @@ of_later mission client number (command ∷ commands) entries text told =
 
 -- ---- the entries of a command among all
 
-abbrev of_number : ℕ → Entry × Reply → Rattle.std.specs.Prelude.Bool
+abbrev pub of_number : ℕ → Entry × Reply → Rattle.std.specs.Prelude.Bool
 of_number number x = nat_eq x.0.command number
 
-none_of : (number : ℕ) (entries : Entries) → AreOf (λ n. n ≢ number) entries → filter (of_number number) entries ≡ []
+pub none_of : (number : ℕ) (entries : Entries) → AreOf (λ n. n ≢ number) entries → filter (of_number number) entries ≡ []
 none_of number [] h = refl
 none_of number (x ∷ entries) h = decide (eqb_tells x.0.command number) (none_of number entries h.1)
   where
@@ -100,7 +100,7 @@ none_of number (x ∷ entries) h = decide (eqb_tells x.0.command number) (none_o
     decide (inl k) none = absurd (h.0 k.1)
     decide (inr k) none = rw k.0 none
 
-all_of : (number : ℕ) (entries : Entries) → AreOf (λ n. n ≡ number) entries → filter (of_number number) entries ≡ entries
+pub all_of : (number : ℕ) (entries : Entries) → AreOf (λ n. n ≡ number) entries → filter (of_number number) entries ≡ entries
 all_of number [] h = refl
 all_of number (x ∷ entries) h = rw (eq-eqb x.0.command number h.0) (ap (λ (l : Entries). x ∷ l) (all_of number entries h.1))
 

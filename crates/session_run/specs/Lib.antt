@@ -2,6 +2,8 @@ pub mod Missions
 pub mod Ruled
 pub mod Texts
 pub mod Turning
+pub mod Answers
 pub mod Performed
 pub mod Joined
 pub mod laws
+pub mod Works

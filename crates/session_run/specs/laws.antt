@@ -1,2 +1,3 @@
 -- Laws of performed sessions.
 pub mod Journals
+pub mod BranchesApart

@@ -19,7 +19,7 @@ use std::sync::Wait;
 use std::sync::ledger::Ledger;
 
 /// The most commands of a client.
-fn longest_of(clients: &[SessionClient]) -> usize
+pub(crate) fn longest_of(clients: &[SessionClient]) -> usize
     ensures { result ≡ longest (all_commands clients.now) }
 {
     let mut most = 0;

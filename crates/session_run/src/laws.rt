@@ -1,12 +1,22 @@
 //! Laws, each the promise of a function.
 
+ghost use Rattle.session_run.specs.laws.BranchesApart.{BranchesStandApart, ReportsTellOfPlans};
 ghost use Rattle.session_run.specs.laws.Journals.{TurnsFit};
 
-use hangar_core::laws::serial_journals_fit;
+use hangar_core::laws::{branches_are_isolated, serial_journals_fit};
 
 /// What clients do in turn is a journal that fits, and so is its text one of the session.
 pub fn turns_fit()
     ensures { TurnsFit }
 {
     serial_journals_fit();
+}
+
+/// Clients on branches of their own do not see each other: behind any beginning of a journal, what is done on a branch is answered
+/// as if nothing were done on the others. And the report of a simulation is a function of the plan that was fetched.
+pub fn branches_stand_apart()
+    ensures apart { BranchesStandApart }
+    ensures reports { ReportsTellOfPlans }
+{
+    branches_are_isolated();
 }

@@ -3,21 +3,24 @@
 ghost use Rattle.std.specs.Prelude.{◌≡◌, ◌≤◌, IfOk};
 ghost use Rattle.std.specs.String.{string_bytes};
 ghost use Rattle.aerie_base.specs.Ranges.{step_limit};
-ghost use Rattle.session_run.specs.Performed.{IsPerformedInTurn};
+ghost use Rattle.session_run.specs.Performed.{IsPerformed, IsPerformedInTurn};
 ghost use Rattle.session_run.specs.Ruled.{CanBePerformed};
 
 use crate::in_turn::take_turns;
 use crate::missions::{hangar, mission};
+use crate::on_threads::{do_works, gather, split_works};
 use crate::texts::whole_text;
 use aerie_base::{OutOfMemory, Steps};
 use aerie_edge::Gate;
 use client_work::Workplace;
+use client_work::laws::{passes_have_their_entries, told_works_are_done};
 use hangar_lock::HangarLock;
-use hangar_lock::laws::commands_are_done;
+use hangar_lock::laws::{commands_are_done, joined_passes_are_whole, joined_passes_fit};
 use session_judge::JudgedSession;
 use std::alloc::Global;
 use std::sync::Wait;
 use std::sync::ledger::Ledger;
+use std::thread::Threads;
 
 /// Performs a session, its clients in turn: the first command of each, then the second of each, and so on, each whole. Answers
 /// the text that is printed: the line of the journal, and what is told of each client's commands, client by client. A
@@ -49,6 +52,41 @@ pub fn perform_in_turn<R: Wait, G: Gate, L: Ledger, K: Ledger>(
     };
     let clients = judged.session.clients.as_slice();
     let texts = take_turns(alloc, &place, clients, &mut pass, steps, looks)?;
+    let (_, journal) = lock.close(pass);
+    whole_text(alloc, &journal, texts.as_slice())
+}
+
+/// Performs a session, each client's commands on a thread of its own, where one can be made. Answers the text that is printed,
+/// as `perform_in_turn` does: whatever the order in which the threads took turns, it is the session's along a journal that
+/// fits, in which each client's actions stand once and in order. Statements and looks are counted by nobody else.
+pub fn perform<R: Threads + Wait + Sync, G: Gate>(
+    alloc: Global,
+    rt: &R,
+    gate: &G,
+    judged: &JudgedSession,
+    bound: u64,
+    counts: bool,
+) -> Result<String, OutOfMemory>
+    requires session { CanBePerformed judged.now }
+    requires bound { bound ≤ step_limit }
+    ensures { IfOk result (λ text. IsPerformed judged.now bound counts (string_bytes text)) }
+{
+    told_works_are_done();
+    passes_have_their_entries();
+    joined_passes_fit();
+    joined_passes_are_whole();
+    let mission = mission(alloc, judged, bound, counts)?;
+    let (lock, mut pass) = HangarLock::open(alloc, hangar(alloc, &judged.session)?)?;
+    let place = Workplace {
+        rt,
+        mission: &mission,
+        lock: &lock,
+        gate,
+    };
+    let clients = judged.session.clients.as_slice();
+    let works = split_works(alloc, &lock, &mut pass, clients.len())?;
+    let dones = do_works(alloc, &place, clients, works)?;
+    let texts = gather(alloc, &lock, &mut pass, dones)?;
     let (_, journal) = lock.close(pass);
     whole_text(alloc, &journal, texts.as_slice())
 }

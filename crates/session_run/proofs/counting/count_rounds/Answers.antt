@@ -1,0 +1,10 @@
+use Rattle.std.proofs.Common.{arith}
+use Rattle.session_run.proofs.Counted.{nothing_counted}
+use Rattle.session_run.proofs.counting.count_rounds.Goals as goal
+
+pub loop-number-init : goal.loop-number-init
+loop-number-init g c = (
+  nothing_counted c.args.place.now.mission.now c.args.clients.now c.args.pass.now c.new-summary.result c.new-summary.ensures,
+  c.requires.place,
+  omega arith,
+)

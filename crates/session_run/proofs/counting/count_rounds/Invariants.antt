@@ -1,0 +1,10 @@
+use Rattle.std.proofs.Common.{◌≤◌}
+use Rattle.session_run.specs.Answers.{HasCountedUntil}
+use Rattle.client_work.specs.Working.{IsAtWork}
+use Rattle.session_run.proofs.counting.count_rounds.Given as goal
+
+abbrev pub invariant-loop-number : goal.invariant-loop-number
+invariant-loop-number g l =
+    HasCountedUntil l.place.mission.now l.clients l.number 0 l.fn.pass l.pass l.summary
+    × IsAtWork l.place.mission.now l.place.lock.now l.pass
+    × (l.fn.steps ≤ l.steps)

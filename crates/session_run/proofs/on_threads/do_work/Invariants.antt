@@ -1,0 +1,7 @@
+use Rattle.session_run.proofs.on_threads.do_work.Given as goal
+
+abbrev pub ghosts-counted-L-Ledger : goal.ghosts-counted-L-Ledger
+ghosts-counted-L-Ledger g a = record { name = a.steps.name; parts = a.steps.parts }
+
+abbrev pub ghosts-counted-K-Ledger : goal.ghosts-counted-K-Ledger
+ghosts-counted-K-Ledger g a = record { name = a.looks.name; parts = a.looks.parts }

@@ -1,0 +1,85 @@
+-- Workspaces and their journals may be sent to threads.
+use denote.Param.Send.{IsSend, view_send}
+use denote.Param.SendFields.{as_row_send, declared_send, variants_send}
+use denote.Struct.Field
+use Rattle.aerie_base.proofs.arguments.RawArgument.TheSendSync as RawArgumentSent
+use Rattle.aerie_base.proofs.arguments.RawValue.TheSendSync as RawValueSent
+use Rattle.aerie_base.proofs.containers.list.List.TheSendSync as ListSent
+use Rattle.aerie_base.proofs.containers.shared.Shared.TheSendSync as SharedSent
+use Rattle.aerie_base.proofs.names.Name.TheSendSync as NameSent
+use Rattle.aerie_base.proofs.numbers.time.Time.TheSendSync as TimeSent
+use Rattle.aerie_base.proofs.plans.Plan.TheSendSync as PlanSent
+use Rattle.aerie_base.proofs.plans.When.TheSendSync as WhenSent
+use Rattle.aerie_base.proofs.texts.Text.TheSendSync as TextSent
+use Rattle.hangar_core.specs.contracts.actions.Action as ActionRow
+use Rattle.hangar_core.specs.contracts.branches.Branch as BranchRow
+use Rattle.hangar_core.specs.contracts.entries.Entry as EntryRow
+use Rattle.hangar_core.specs.contracts.hangar.Hangar as HangarRow
+use Rattle.hangar_core.specs.contracts.hangar.Hangar.TheInside as HangarInside
+use Rattle.hangar_core.specs.contracts.journal.Journal as JournalRow
+use Rattle.hangar_core.specs.contracts.journal.Journal.TheInside as JournalInside
+use Rattle.hangar_core.specs.contracts.replies.Reply as ReplyRow
+use Rattle.hangar_core.specs.contracts.workspaces.Workspace as WorkspaceRow
+use Rattle.plan_edit.proofs.errors.EditError.TheSendSync as EditErrorSent
+use Rattle.hangar_core.proofs.held_plans.HeldPlan.TheSendSync as HeldPlanSent
+use Rattle.hangar_core.proofs.last_revisions.LastRevisions.TheSendSync as LastRevisionsSent
+use Rattle.plan_edit.proofs.mappings.Mapping.TheSendSync as MappingSent
+use Rattle.std.proofs.option.Option.TheSendSync as OptionSent
+use Rattle.session_run.proofs.sharing.Models.{model_send, model_sync}
+use Rattle.session_run.proofs.sharing.Runs.{kept_send, kept_sync}
+use Rattle.session_run.proofs.sharing.Tuples.{pair_send, u32_send, u64_send}
+
+pub branch_send : IsSend BranchRow.the_row
+branch_send = declared_send BranchRow.the_type (NameSent.the_send, (as_row_send denote.Struct.Field.u64-field u64_send, (HeldPlanSent.the_send, (OptionSent.the_send _ (SharedSent.the_send _ kept_send kept_sync), tt))))
+
+pub workspace_send : IsSend WorkspaceRow.the_row
+workspace_send = declared_send WorkspaceRow.the_type (ListSent.the_send _ (SharedSent.the_send _ model_send model_sync), (ListSent.the_send _ MappingSent.the_send, (TimeSent.the_send, (ListSent.the_send _ branch_send, (LastRevisionsSent.the_send, tt)))))
+
+hangar_inside_send : IsSend HangarInside.the_row
+hangar_inside_send = declared_send HangarInside.the_type (workspace_send, (as_row_send denote.Struct.Field.u64-field u64_send, tt))
+
+pub hangar_send : IsSend HangarRow.the_row
+hangar_send = view_send HangarInside.the_row _ _ _ _ hangar_inside_send
+
+pub action_send : IsSend ActionRow.the_row
+action_send = variants_send ActionRow.enum ((NameSent.the_send, tt),
+    ((NameSent.the_send, (NameSent.the_send, tt)),
+    ((NameSent.the_send, tt),
+    ((NameSent.the_send, (WhenSent.the_send, (NameSent.the_send, (ListSent.the_send _ RawArgumentSent.the_send, tt)))),
+    ((NameSent.the_send, (as_row_send denote.Struct.Field.u32-field u32_send, tt)),
+    ((NameSent.the_send, (as_row_send denote.Struct.Field.u32-field u32_send, (WhenSent.the_send, tt))),
+    ((NameSent.the_send, (as_row_send denote.Struct.Field.u32-field u32_send, (NameSent.the_send, (RawValueSent.the_send, tt)))),
+    ((NameSent.the_send, (TextSent.the_send, tt)),
+    ((NameSent.the_send, (NameSent.the_send, tt)),
+    ((NameSent.the_send, tt),
+    ((NameSent.the_send, (SharedSent.the_send _ kept_send kept_sync, tt)),
+    ((NameSent.the_send, (as_row_send denote.Struct.Field.u64-field u64_send, (PlanSent.the_send, tt))),
+    tt))))))))))))
+
+pub entry_send : IsSend EntryRow.the_row
+entry_send = declared_send EntryRow.the_type (as_row_send denote.Struct.Field.u32-field u32_send, (as_row_send denote.Struct.Field.u32-field u32_send, (as_row_send denote.Struct.Field.u32-field u32_send, (action_send, tt))))
+
+pub reply_send : IsSend ReplyRow.the_row
+reply_send = variants_send ReplyRow.enum ((as_row_send denote.Struct.Field.u64-field u64_send, tt),
+    (tt,
+    ((as_row_send denote.Struct.Field.u32-field u32_send, (as_row_send denote.Struct.Field.u64-field u64_send, tt)),
+    ((as_row_send denote.Struct.Field.u64-field u64_send, tt),
+    ((as_row_send denote.Struct.Field.u32-field u32_send, (as_row_send denote.Struct.Field.u32-field u32_send, (as_row_send denote.Struct.Field.u64-field u64_send, tt))),
+    ((as_row_send denote.Struct.Field.u64-field u64_send, (SharedSent.the_send _ PlanSent.the_send PlanSent.the_sync, (OptionSent.the_send _ (SharedSent.the_send _ kept_send kept_sync), tt))),
+    (tt,
+    ((as_row_send denote.Struct.Field.u64-field u64_send, tt),
+    (tt,
+    (tt,
+    (tt,
+    (tt,
+    ((as_row_send denote.Struct.Field.u32-field u32_send, tt),
+    ((as_row_send denote.Struct.Field.u32-field u32_send, (as_row_send denote.Struct.Field.u32-field u32_send, tt)),
+    ((EditErrorSent.the_send, tt),
+    ((as_row_send denote.Struct.Field.u64-field u64_send, (as_row_send denote.Struct.Field.u64-field u64_send, tt)),
+    tt))))))))))))))))
+
+journal_inside_send : IsSend JournalInside.the_row
+journal_inside_send = declared_send JournalInside.the_type (OptionSent.the_send _ (ListSent.the_send _ (pair_send EntryRow.the_row ReplyRow.the_row entry_send reply_send)), tt)
+
+pub journal_send : IsSend JournalRow.the_row
+journal_send = view_send JournalInside.the_row _ _ _ _ journal_inside_send

@@ -1,0 +1,51 @@
+//! A session is performed and summarized.
+
+ghost use Rattle.std.specs.Prelude.{◌≡◌, ◌≤◌, IfOk};
+ghost use Rattle.aerie_base.specs.Ranges.{step_limit};
+ghost use Rattle.session_run.specs.Answers.{serial_answers};
+ghost use Rattle.session_run.specs.Ruled.{CanBePerformed};
+ghost use Rattle.session_summary.specs.Summaries.{summary_of};
+
+use crate::counting::count_rounds;
+use crate::missions::{hangar, mission};
+use aerie_base::{OutOfMemory, Steps};
+use aerie_edge::Gate;
+use client_work::Workplace;
+use hangar_lock::HangarLock;
+use hangar_lock::laws::commands_are_done;
+use session_judge::JudgedSession;
+use session_summary::Summary;
+use std::alloc::Global;
+use std::sync::Wait;
+use std::sync::ledger::Ledger;
+
+/// Performs a session as `perform_in_turn` does, and answers what is counted of the answers to all commands in place of their
+/// text.
+pub fn summarize_in_turn<R: Wait, G: Gate, L: Ledger, K: Ledger>(
+    alloc: Global,
+    rt: &R,
+    gate: &G,
+    judged: &JudgedSession,
+    bound: u64,
+    steps: &mut Steps<L>,
+    looks: &mut Steps<K>,
+) -> Result<Summary, OutOfMemory>
+    requires session { CanBePerformed judged.now }
+    requires bound { bound ≤ step_limit }
+    ensures summarized { IfOk result (λ summary. summary ≡ summary_of (serial_answers judged.now bound)) }
+    ensures steps { steps.old ≤ steps.new }
+{
+    commands_are_done();
+    let mission = mission(alloc, judged, bound, false)?;
+    let (lock, mut pass) = HangarLock::open(alloc, hangar(alloc, &judged.session)?)?;
+    let place = Workplace {
+        rt,
+        mission: &mission,
+        lock: &lock,
+        gate,
+    };
+    let clients = judged.session.clients.as_slice();
+    let summary = count_rounds(alloc, &place, clients, &mut pass, steps, looks)?;
+    let (_, _journal) = lock.close(pass);
+    Ok(summary)
+}
