@@ -54,8 +54,7 @@ numbered_from : (base : ℕ) (passes : List PassView) → ((which : ℕ) (pass :
 numbered_from base [] are = tt
 numbered_from base (pass ∷ passes) are =
     let first = are 0 pass refl in
-    let here : base + 0 + 1 ≡ base + 1 = omega arith in
-    (
+    let here : base + 0 + 1 ≡ base + 1 = omega arith in (
       first.0 ∙ ap (λ (n : ℕ). n ∷ []) here,
       first.1,
       numbered_from (base + 1) passes (λ which x at.

@@ -11,9 +11,11 @@ use Rattle.session_run.proofs.sharing.Tuples.{u32_send, u32_sync}
 
 pub instruction_sync : IsSync InstructionRow.the_row
 instruction_sync = variants_sync InstructionRow.enum (
-    (stmt_sync, tt),
-    ((expr_sync, (as_row_sync denote.Struct.Field.u32-field u32_sync, tt)),
-    ((as_row_sync denote.Struct.Field.u32-field u32_sync, tt), (tt, tt))),
+  (stmt_sync, tt),
+  (
+    (expr_sync, (as_row_sync denote.Struct.Field.u32-field u32_sync, tt)),
+    ((as_row_sync denote.Struct.Field.u32-field u32_sync, tt), (tt, tt)),
+  ),
 )
 
 code_inside_sync : IsSync CodeInside.the_row
@@ -26,9 +28,11 @@ code_sync = view_sync CodeInside.the_row _ _ _ _ code_inside_sync
 
 pub instruction_send : IsSend InstructionRow.the_row
 instruction_send = variants_send InstructionRow.enum (
-    (stmt_send, tt),
-    ((expr_send, (as_row_send denote.Struct.Field.u32-field u32_send, tt)),
-    ((as_row_send denote.Struct.Field.u32-field u32_send, tt), (tt, tt))),
+  (stmt_send, tt),
+  (
+    (expr_send, (as_row_send denote.Struct.Field.u32-field u32_send, tt)),
+    ((as_row_send denote.Struct.Field.u32-field u32_send, tt), (tt, tt)),
+  ),
 )
 
 code_inside_send : IsSend CodeInside.the_row

@@ -34,10 +34,10 @@ pass_send = view_send PassInside.the_row _ _ _ _ pass_inside_send
 -- with what its first pass knows the table's type has nothing to do
 turnstile_sync : IsSync TurnstileRow.the_row
 turnstile_sync = declared_sync TurnstileRow.the_type (
-    TableSent.the_sync (OptionRow.the_row DeskRow.the_row) ViewRow.the_row (SnapshotRow.the_row HangarRow.the_row) OneJournalRow.the_row GlobalRow.the_row
-    (record { holds = _; first = λ key. record { opened = key.value; seen = []; mine = []; stands = []; split = 0; ticket = None; inside = false } }) GlobalImpl.ghosts
-    (OptionSent.the_send _ desk_send) GlobalSent.the_send GlobalSent.the_sync frees,
-    tt,
+  TableSent.the_sync (OptionRow.the_row DeskRow.the_row) ViewRow.the_row (SnapshotRow.the_row HangarRow.the_row) OneJournalRow.the_row GlobalRow.the_row
+      (record { holds = _; first = λ key. record { opened = key.value; seen = []; mine = []; stands = []; split = 0; ticket = None; inside = false } }) GlobalImpl.ghosts
+      (OptionSent.the_send _ desk_send) GlobalSent.the_send GlobalSent.the_sync frees,
+  tt,
 )
 
 lock_inside_sync : IsSync LockInside.the_row

@@ -38,24 +38,32 @@ compiled_sync = view_sync CompiledInside.the_row _ _ _ _ compiled_inside_sync
 
 ruled_sync : IsSync RuledRow.the_row
 ruled_sync = declared_sync RuledRow.the_type (
-    compiled_sync,
-    (SharedSent.the_sync _ (ListSent.the_send _ constraint_send) (ListSent.the_sync _ constraint_sync),
-    (SharedSent.the_sync _ (ListSent.the_send _ goal_send) (ListSent.the_sync _ goal_sync),
-    (SharedSent.the_sync _ SequencingSent.the_send SequencingSent.the_sync, tt))),
+  compiled_sync,
+  (
+    SharedSent.the_sync _ (ListSent.the_send _ constraint_send) (ListSent.the_sync _ constraint_sync),
+    (
+      SharedSent.the_sync _ (ListSent.the_send _ goal_send) (ListSent.the_sync _ goal_sync),
+      (SharedSent.the_sync _ SequencingSent.the_send SequencingSent.the_sync, tt),
+    ),
+  ),
 )
 
 mission_sync : IsSync MissionRow.the_row
 mission_sync = declared_sync MissionRow.the_type (
-    ListSent.the_sync _ ruled_sync,
-    (StartSent.the_sync, (as_row_sync denote.Struct.Field.u64-field u64_sync, (as_row_sync denote.Struct.Field.bool-field bool_sync, tt))),
+  ListSent.the_sync _ ruled_sync,
+  (StartSent.the_sync, (as_row_sync denote.Struct.Field.u64-field u64_sync, (as_row_sync denote.Struct.Field.bool-field bool_sync, tt))),
 )
 
 pub workplace_sync : (a : NamedLft) (R G : RattleType) → IsSync R → IsSync G → IsSync (WorkplaceRow.the_row a R G)
 workplace_sync a R G r g = declared_sync (WorkplaceRow.the_type a R G) (
-    as_row_sync (row_field (denote.Ref.ShrRef a.mir a.lft R)) (shr_sync _ _ R r),
-    (as_row_sync (denote.Struct.Field.shr_ref_field a MissionRow.the_row tt) (shr_sync _ _ _ mission_sync),
-    (as_row_sync (denote.Struct.Field.shr_ref_field a LockRow.the_row tt) (shr_sync _ _ _ lock_sync),
-    (as_row_sync (row_field (denote.Ref.ShrRef a.mir a.lft G)) (shr_sync _ _ G g), tt))),
+  as_row_sync (row_field (denote.Ref.ShrRef a.mir a.lft R)) (shr_sync _ _ R r),
+  (
+    as_row_sync (denote.Struct.Field.shr_ref_field a MissionRow.the_row tt) (shr_sync _ _ _ mission_sync),
+    (
+      as_row_sync (denote.Struct.Field.shr_ref_field a LockRow.the_row tt) (shr_sync _ _ _ lock_sync),
+      (as_row_sync (row_field (denote.Ref.ShrRef a.mir a.lft G)) (shr_sync _ _ G g), tt),
+    ),
+  ),
 )
 
 pub work_send : IsSend WorkRow.the_row

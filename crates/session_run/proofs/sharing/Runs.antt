@@ -33,11 +33,17 @@ cell_read_sync = pair_sync denote.Builtin.u16 CellStateRow.the_row u16_sync Cell
 
 pub status_sync : IsSync StatusRow.the_row
 status_sync = variants_sync StatusRow.enum (
-    (NumberSent.the_sync, (TaskStateSent.the_sync, tt)),
-    ((cond_sync, (TaskStateSent.the_sync, tt)),
-    ((OptionSent.the_sync _ u16_sync, (TaskStateSent.the_sync, tt)),
-    ((OptionSent.the_sync _ ValueSent.the_sync, tt),
-    ((FaultSent.the_sync, tt), tt)))),
+  (NumberSent.the_sync, (TaskStateSent.the_sync, tt)),
+  (
+    (cond_sync, (TaskStateSent.the_sync, tt)),
+    (
+      (OptionSent.the_sync _ u16_sync, (TaskStateSent.the_sync, tt)),
+      (
+        (OptionSent.the_sync _ ValueSent.the_sync, tt),
+        ((FaultSent.the_sync, tt), tt),
+      ),
+    ),
+  ),
 )
 
 pub frame_sync : IsSync FrameRow.the_row
@@ -62,11 +68,17 @@ cell_read_send = pair_send denote.Builtin.u16 CellStateRow.the_row u16_send Cell
 
 pub status_send : IsSend StatusRow.the_row
 status_send = variants_send StatusRow.enum (
-    (NumberSent.the_send, (TaskStateSent.the_send, tt)),
-    ((cond_send, (TaskStateSent.the_send, tt)),
-    ((OptionSent.the_send _ u16_send, (TaskStateSent.the_send, tt)),
-    ((OptionSent.the_send _ ValueSent.the_send, tt),
-    ((FaultSent.the_send, tt), tt)))),
+  (NumberSent.the_send, (TaskStateSent.the_send, tt)),
+  (
+    (cond_send, (TaskStateSent.the_send, tt)),
+    (
+      (OptionSent.the_send _ u16_send, (TaskStateSent.the_send, tt)),
+      (
+        (OptionSent.the_send _ ValueSent.the_send, tt),
+        ((FaultSent.the_send, tt), tt),
+      ),
+    ),
+  ),
 )
 
 pub frame_send : IsSend FrameRow.the_row

@@ -42,41 +42,97 @@ pub hangar_send : IsSend HangarRow.the_row
 hangar_send = view_send HangarInside.the_row _ _ _ _ hangar_inside_send
 
 pub action_send : IsSend ActionRow.the_row
-action_send = variants_send ActionRow.enum ((NameSent.the_send, tt),
-    ((NameSent.the_send, (NameSent.the_send, tt)),
-    ((NameSent.the_send, tt),
-    ((NameSent.the_send, (WhenSent.the_send, (NameSent.the_send, (ListSent.the_send _ RawArgumentSent.the_send, tt)))),
-    ((NameSent.the_send, (as_row_send denote.Struct.Field.u32-field u32_send, tt)),
-    ((NameSent.the_send, (as_row_send denote.Struct.Field.u32-field u32_send, (WhenSent.the_send, tt))),
-    ((NameSent.the_send, (as_row_send denote.Struct.Field.u32-field u32_send, (NameSent.the_send, (RawValueSent.the_send, tt)))),
-    ((NameSent.the_send, (TextSent.the_send, tt)),
-    ((NameSent.the_send, (NameSent.the_send, tt)),
-    ((NameSent.the_send, tt),
-    ((NameSent.the_send, (SharedSent.the_send _ kept_send kept_sync, tt)),
-    ((NameSent.the_send, (as_row_send denote.Struct.Field.u64-field u64_send, (PlanSent.the_send, tt))),
-    tt))))))))))))
+action_send = variants_send ActionRow.enum (
+  (NameSent.the_send, tt),
+  (
+    (NameSent.the_send, (NameSent.the_send, tt)),
+    (
+      (NameSent.the_send, tt),
+      (
+        (NameSent.the_send, (WhenSent.the_send, (NameSent.the_send, (ListSent.the_send _ RawArgumentSent.the_send, tt)))),
+        (
+          (NameSent.the_send, (as_row_send denote.Struct.Field.u32-field u32_send, tt)),
+          (
+            (NameSent.the_send, (as_row_send denote.Struct.Field.u32-field u32_send, (WhenSent.the_send, tt))),
+            (
+              (NameSent.the_send, (as_row_send denote.Struct.Field.u32-field u32_send, (NameSent.the_send, (RawValueSent.the_send, tt)))),
+              (
+                (NameSent.the_send, (TextSent.the_send, tt)),
+                (
+                  (NameSent.the_send, (NameSent.the_send, tt)),
+                  (
+                    (NameSent.the_send, tt),
+                    (
+                      (NameSent.the_send, (SharedSent.the_send _ kept_send kept_sync, tt)),
+                      (
+                        (NameSent.the_send, (as_row_send denote.Struct.Field.u64-field u64_send, (PlanSent.the_send, tt))),
+                        tt,
+                      ),
+                    ),
+                  ),
+                ),
+              ),
+            ),
+          ),
+        ),
+      ),
+    ),
+  ),
+)
 
 pub entry_send : IsSend EntryRow.the_row
 entry_send = declared_send EntryRow.the_type (as_row_send denote.Struct.Field.u32-field u32_send, (as_row_send denote.Struct.Field.u32-field u32_send, (as_row_send denote.Struct.Field.u32-field u32_send, (action_send, tt))))
 
 pub reply_send : IsSend ReplyRow.the_row
-reply_send = variants_send ReplyRow.enum ((as_row_send denote.Struct.Field.u64-field u64_send, tt),
-    (tt,
-    ((as_row_send denote.Struct.Field.u32-field u32_send, (as_row_send denote.Struct.Field.u64-field u64_send, tt)),
-    ((as_row_send denote.Struct.Field.u64-field u64_send, tt),
-    ((as_row_send denote.Struct.Field.u32-field u32_send, (as_row_send denote.Struct.Field.u32-field u32_send, (as_row_send denote.Struct.Field.u64-field u64_send, tt))),
-    ((as_row_send denote.Struct.Field.u64-field u64_send, (SharedSent.the_send _ PlanSent.the_send PlanSent.the_sync, (OptionSent.the_send _ (SharedSent.the_send _ kept_send kept_sync), tt))),
-    (tt,
-    ((as_row_send denote.Struct.Field.u64-field u64_send, tt),
-    (tt,
-    (tt,
-    (tt,
-    (tt,
-    ((as_row_send denote.Struct.Field.u32-field u32_send, tt),
-    ((as_row_send denote.Struct.Field.u32-field u32_send, (as_row_send denote.Struct.Field.u32-field u32_send, tt)),
-    ((EditErrorSent.the_send, tt),
-    ((as_row_send denote.Struct.Field.u64-field u64_send, (as_row_send denote.Struct.Field.u64-field u64_send, tt)),
-    tt))))))))))))))))
+reply_send = variants_send ReplyRow.enum (
+  (as_row_send denote.Struct.Field.u64-field u64_send, tt),
+  (
+    tt,
+    (
+      (as_row_send denote.Struct.Field.u32-field u32_send, (as_row_send denote.Struct.Field.u64-field u64_send, tt)),
+      (
+        (as_row_send denote.Struct.Field.u64-field u64_send, tt),
+        (
+          (as_row_send denote.Struct.Field.u32-field u32_send, (as_row_send denote.Struct.Field.u32-field u32_send, (as_row_send denote.Struct.Field.u64-field u64_send, tt))),
+          (
+            (as_row_send denote.Struct.Field.u64-field u64_send, (SharedSent.the_send _ PlanSent.the_send PlanSent.the_sync, (OptionSent.the_send _ (SharedSent.the_send _ kept_send kept_sync), tt))),
+            (
+              tt,
+              (
+                (as_row_send denote.Struct.Field.u64-field u64_send, tt),
+                (
+                  tt,
+                  (
+                    tt,
+                    (
+                      tt,
+                      (
+                        tt,
+                        (
+                          (as_row_send denote.Struct.Field.u32-field u32_send, tt),
+                          (
+                            (as_row_send denote.Struct.Field.u32-field u32_send, (as_row_send denote.Struct.Field.u32-field u32_send, tt)),
+                            (
+                              (EditErrorSent.the_send, tt),
+                              (
+                                (as_row_send denote.Struct.Field.u64-field u64_send, (as_row_send denote.Struct.Field.u64-field u64_send, tt)),
+                                tt,
+                              ),
+                            ),
+                          ),
+                        ),
+                      ),
+                    ),
+                  ),
+                ),
+              ),
+            ),
+          ),
+        ),
+      ),
+    ),
+  ),
+)
 
 journal_inside_send : IsSend JournalInside.the_row
 journal_inside_send = declared_send JournalInside.the_type (OptionSent.the_send _ (ListSent.the_send _ (pair_send EntryRow.the_row ReplyRow.the_row entry_send reply_send)), tt)
