@@ -1,3 +1,5 @@
 pub mod EmptyPlans
 pub mod MissionIsValid
 pub mod OnePut
+pub mod StoredFrames
+pub mod StoredSteps

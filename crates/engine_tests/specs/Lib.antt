@@ -1,2 +1,3 @@
 pub mod OnePut
+pub mod StoredSteps
 pub mod TriedMission

@@ -1,5 +1,5 @@
-//! Tests of the engine over the plain stepper, and of the spans and profiles that are read off its runs, through their public
-//! calls. They stand here since a crate with tests inside is proved twice.
+//! Tests of the engine over the plain stepper and over one with stored steps, and of the spans and profiles that are read
+//! off its runs, through their public calls. They stand here since a crate with tests inside is proved twice.
 #![tactic(auto)]
 
 #[cfg(test)]
@@ -8,6 +8,10 @@ mod mission;
 mod plans;
 #[cfg(test)]
 mod runs;
+#[cfg(test)]
+mod stored;
+#[cfg(test)]
+mod storing;
 #[cfg(test)]
 mod taking_over;
 #[cfg(test)]

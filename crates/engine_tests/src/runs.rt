@@ -130,7 +130,7 @@ fn effects_of_one_batch_are_concurrent(rt: HostRuntime) {
         100,
         &[with(5, Type::Bump, 3)],
         &[0, 4],
-        "completed, 100; 0/0 5/1,0=3 15/1,0=6; 1:0:5..15; 0:0 5:3 15:6 = 6; 0:0+3 = 297",
+        "completed, 100; 0/0 5/1,0=3 15/1,0=6; 1:0(3):5..15; 0:0 5:3 15:6 = 6; 0:0+3 = 297",
     );
     // two that begin at one time are summed
     gives(
@@ -140,7 +140,7 @@ fn effects_of_one_batch_are_concurrent(rt: HostRuntime) {
         100,
         &[with(5, Type::Bump, 3), with(5, Type::Bump, 3)],
         &[0],
-        "completed, 100; 0/0 5/1,0=6 15/1,0=12; 1:0:5..15 2:0:5..15; 0:0 5:6 15:12 = 12",
+        "completed, 100; 0/0 5/1,0=6 15/1,0=12; 1:0(3):5..15 2:0(3):5..15; 0:0 5:6 15:12 = 12",
     );
     // equal values that are set at once are in conflict
     gives(
@@ -150,7 +150,7 @@ fn effects_of_one_batch_are_concurrent(rt: HostRuntime) {
         100,
         &[with(5, Type::Put, 7), with(5, Type::Put, 7)],
         &[1, 2],
-        "completed, 100; 0/0 5/1,1=0!; 1:1:5..5 2:1:5..5; 0:0 = 0; 0:false 5:true = true",
+        "completed, 100; 0/0 5/1,1=0!; 1:1(7):5..5 2:1(7):5..5; 0:0 = 0; 0:false 5:true = true",
     );
     // a child sees what was set before it, and is in conflict with what is set after it
     gives(
@@ -280,7 +280,7 @@ fn runs_stop_at_the_bound_and_at_faults(rt: HostRuntime) {
         3_000_000,
         &[with(500_000, Type::Bump, 1), with(2_000_000, Type::Bump, 1)],
         &[0, 5],
-        "Range of cell 4 at 2000000, 500010; 0/0 500000/1,0=1 500010/1,0=2; 1:0:500000..500010; 0:0 500000:1 = 1; 0:0+1000000000000 = 500009000000000000",
+        "Range of cell 4 at 2000000, 500010; 0/0 500000/1,0=1 500010/1,0=2; 1:0(1):500000..500010; 0:0 500000:1 = 1; 0:0+1000000000000 = 500009000000000000",
     );
 }
 
@@ -295,7 +295,7 @@ fn anchored_directives_begin_after_their_anchors(rt: HostRuntime) {
         100,
         &[with(5, Type::Bump, 3), bump_after(1, Edge::End, 5, 1)],
         &[0],
-        "completed, 100; 0/0 5/1,0=3 15/1,0=6 20/1,0=7 30/1,0=8; 1:0:5..15 2:0:20..30; 0:0 5:3 15:6 20:7 30:8 = 8",
+        "completed, 100; 0/0 5/1,0=3 15/1,0=6 20/1,0=7 30/1,0=8; 1:0(3):5..15 2:0(1):20..30; 0:0 5:3 15:6 20:7 30:8 = 8",
     );
     // and later where that one is later
     gives(
@@ -305,7 +305,7 @@ fn anchored_directives_begin_after_their_anchors(rt: HostRuntime) {
         100,
         &[with(50, Type::Bump, 3), bump_after(1, Edge::End, 5, 1)],
         &[0],
-        "completed, 100; 0/0 50/1,0=3 60/1,0=6 65/1,0=7 75/1,0=8; 1:0:50..60 2:0:65..75; 0:0 50:3 60:6 65:7 75:8 = 8",
+        "completed, 100; 0/0 50/1,0=3 60/1,0=6 65/1,0=7 75/1,0=8; 1:0(3):50..60 2:0(1):65..75; 0:0 50:3 60:6 65:7 75:8 = 8",
     );
     // in the next batch after the start of one, and never where one does not end
     gives(
@@ -319,6 +319,6 @@ fn anchored_directives_begin_after_their_anchors(rt: HostRuntime) {
             bump_after(1, Edge::Start, 0, 2),
         ],
         &[0],
-        "completed, 100; 0/0 95/2,0=5; 1:0:95..- 3:0:95..-; 0:0 95:5 = 5",
+        "completed, 100; 0/0 95/2,0=5; 1:0(3):95..- 3:0(2):95..-; 0:0 95:5 = 5",
     );
 }

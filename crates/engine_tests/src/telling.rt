@@ -110,19 +110,53 @@ fn end(alloc: Global, end: &Option<Time>) -> Result<String, AllocError> {
     }
 }
 
-/// The spans: of each its path, type, start and end, as `1:0:5..15`.
+/// Values with commas between them, in parentheses: `(3)`; nothing of none.
+fn arguments(alloc: Global, values: &[Value]) -> Result<String, AllocError> {
+    let mut text = String::new(alloc);
+    for each in values {
+        let mark = if text.is_empty() { "(" } else { "," };
+        let of = value(alloc, each)?;
+        text.push_str(mark)?;
+        text.push_str(of.as_str())?;
+    }
+    if !text.is_empty() {
+        text.push_str(")")?;
+    }
+    Ok(text)
+}
+
+/// What a body returned: `=3`; nothing of none.
+fn returned(alloc: Global, given: &Option<Value>) -> Result<String, AllocError> {
+    match given {
+        Some(of) => {
+            let of = value(alloc, of)?;
+            format!(in alloc; "={}", of.as_str())
+        }
+        None => Ok(String::new(alloc)),
+    }
+}
+
+fn span(alloc: Global, span: &Span) -> Result<String, AllocError> {
+    let of = path(alloc, &span.path)?;
+    let given = arguments(alloc, span.arguments.as_slice())?;
+    let to = end(alloc, &span.end)?;
+    let result = returned(alloc, &span.result)?;
+    format!(in alloc;
+        "{}:{}{}:{}..{}{}",
+        of.as_str(),
+        span.kind,
+        given.as_str(),
+        span.start.get(),
+        to.as_str(),
+        result.as_str()
+    )
+}
+
+/// The spans: of each its path, type, arguments, start and end, and what it returned, as `1:0(3):5..15`.
 pub(crate) fn spans(alloc: Global, spans: &[Span]) -> Result<String, AllocError> {
     let mut text = String::new(alloc);
-    for span in spans {
-        let of = path(alloc, &span.path)?;
-        let to = end(alloc, &span.end)?;
-        let word = format!(in alloc;
-            "{}:{}:{}..{}",
-            of.as_str(),
-            span.kind,
-            span.start.get(),
-            to.as_str()
-        )?;
+    for each in spans {
+        let word = span(alloc, each)?;
         put(&mut text, word.as_str())?;
     }
     Ok(text)
