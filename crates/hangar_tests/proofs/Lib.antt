@@ -1,3 +1,5 @@
 pub mod EmptyPlans
+pub mod Fetched
+pub mod FewAccepted
 pub mod FirstActions
 pub mod OneModel

@@ -7,6 +7,8 @@ mod answers;
 #[cfg(test)]
 mod opening;
 #[cfg(test)]
+mod placing;
+#[cfg(test)]
 mod sharing;
 #[cfg(test)]
 mod telling;
