@@ -1,8 +1,7 @@
 //! Models that are accepted.
 
-use crate::answers::answer;
+use crate::answers::is_answer;
 use session_make::make;
-use std::alloc::Global;
 
 /// A model with each kind of item, as the language's guide shows it.
 const LANDER: &str = "\
@@ -57,19 +56,11 @@ model rover {
 }
 ";
 
-/// The models of a session, as the language's guide shows it.
+/// The models of a session.
 const SMALL: &str =
     "model lander { counter images = 0; activity Image(size: int = 5) { images += size; } }";
 
 const OTHER: &str = "model rover { activity Snap(size: int, wide: truth = true) { delay 1s; } }";
-
-/// Whether exactly this is said of a text.
-fn is_answer(alloc: Global, text: &str, expected: &str) -> bool {
-    match answer(alloc, text) {
-        Some(answer) => answer.as_str() == expected,
-        None => false,
-    }
-}
 
 #[test]
 fn accepts_models_with_all_their_parts(rt: HostRuntime) {

@@ -10,7 +10,7 @@ use model_reader::read_model;
 use std::alloc::Global;
 
 /// What is said of a model: how many parts of each sort it has, or the first refusal with its place.
-pub(crate) fn answer(alloc: Global, text: &str) -> Option<String> {
+fn answer(alloc: Global, text: &str) -> Option<String> {
     if text.len() >= 4_294_967_295 {
         return None;
     }
@@ -64,6 +64,14 @@ fn refusal(alloc: Global, error: &CheckError) -> Option<String> {
 /// A word and a place.
 fn placed(alloc: Global, word: &str, place: Place) -> Option<String> {
     format!(in alloc; "{word} at {}:{}", place.line, place.column).ok()
+}
+
+/// Whether exactly this is said of a text.
+pub(crate) fn is_answer(alloc: Global, text: &str, expected: &str) -> bool {
+    match answer(alloc, text) {
+        Some(answer) => answer.as_str() == expected,
+        None => false,
+    }
 }
 
 /// Whether a text is refused by this word at this place.

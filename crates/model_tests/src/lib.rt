@@ -7,4 +7,6 @@ mod accepted;
 #[cfg(test)]
 mod answers;
 #[cfg(test)]
+mod examples;
+#[cfg(test)]
 mod refused;

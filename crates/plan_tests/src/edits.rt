@@ -5,7 +5,7 @@ ghost use Rattle.aerie_base.specs.plans.OfModel.{IsPlanOf};
 use crate::models::{bump_model, list_of_one, name, no_directives};
 use crate::words::{is_told, word, word_of_copy};
 use aerie_base::{
-    Anchor, Edge, List, Model, Name, Number, Plan, RawArgument, RawValue, Time, When,
+    Anchor, Edge, List, Model, Name, Number, Plan, RawArgument, RawValue, Time, Value, When,
 };
 use plan_edit::{add, copy_plan, move_to, remove, set_argument};
 use std::alloc::Global;
@@ -173,6 +173,49 @@ fn refused_edits_change_nothing(rt: HostRuntime) {
     assert!(&rt; refuses_additions(&rt, alloc, &model, &mut plan));
     assert!(&rt; refuses_absent(&rt, alloc, &model, &mut plan));
     assert!(&rt; plan.is_same(&before));
+}
+
+/// Whether the plan is one bump by so much, with the id 1, 5 microseconds after its start.
+pub fn is_one_bump(rt: &impl Abort, plan: &Plan, amount: i64) -> bool {
+    let by = Value::Int(Number::new(amount).expect(rt, "a number"));
+    match plan.directives.as_slice() {
+        [bump] => {
+            let arguments = bump.arguments.as_slice();
+            bump.id == 1
+                && bump.start.get() == 5
+                && bump.anchor.is_none()
+                && bump.kind == 0
+                && arguments == [by].as_slice()
+        }
+        _ => false,
+    }
+}
+
+/// Whether adding a bump answers the id 1.
+fn adds_the_first(rt: &impl Abort, alloc: Global, model: &Model, plan: &mut Plan) -> bool
+    requires { IsPlanOf model.now plan.old }
+    ensures { IsPlanOf model.now plan.new }
+{
+    let kind = named(rt, alloc, "Bump");
+    let arguments = one_argument(rt, alloc, "by", 3);
+    let at = at(rt, 5);
+    matches!(
+        add(alloc, model, plan, at, &kind, arguments.as_slice()),
+        Ok(1)
+    )
+}
+
+#[test]
+fn a_bump_is_added_and_set(rt: HostRuntime) {
+    let alloc = rt.alloc();
+    let model = bump_model(&rt, alloc);
+    let mut plan = no_directives(&rt, alloc, &model);
+    assert!(&rt; adds_the_first(&rt, alloc, &model, &mut plan));
+    assert!(&rt; is_one_bump(&rt, &plan, 3) && plan.next_id == 2);
+    let by = named(&rt, alloc, "by");
+    let set = set_one(alloc, &model, &mut plan, 1, by, whole(&rt, 4));
+    assert!(&rt; is_told(set, "ok", 0));
+    assert!(&rt; is_one_bump(&rt, &plan, 4) && plan.next_id == 2);
 }
 
 /// Whether a bump is added and set, and one behind its end.

@@ -2,6 +2,7 @@
 
 ghost use Rattle.aerie_base.specs.plans.OfModel.{IsPlanOf};
 
+use crate::edits::is_one_bump;
 use crate::models::{bump_model, no_directives};
 use crate::words::word;
 use aerie_base::{Model, Plan};
@@ -16,16 +17,11 @@ const TWO: &str =
     r#"{"directives":[{"id":7,"start":5,"type":"Bump","arguments":{"by":3},"anchor":{"edge":"end","to":9}},
 {"id":9,"start":5,"type":"Bump","arguments":{"by":1}}]}"#;
 
+/// A bump without an id.
+const BARE: &str = r#"{"directives":[{"start":5,"type":"Bump","arguments":{"by":3}}]}"#;
+
 /// Texts of plans, with how many directives they have.
-const PLANS: [(&str, u32); 4] = [
-    (ONE, 1),
-    (TWO, 2),
-    (r#"{"directives":[]}"#, 0),
-    (
-        r#"{"directives":[{"start":5,"type":"Bump","arguments":{"by":3}}]}"#,
-        1,
-    ),
-];
+const PLANS: [(&str, u32); 4] = [(ONE, 1), (TWO, 2), (r#"{"directives":[]}"#, 0), (BARE, 1)];
 
 /// Texts that are no plan.
 const NOT_A_PLAN: [&str; 10] = [
@@ -160,4 +156,14 @@ fn loaded_directives_have_new_ids(rt: HostRuntime) {
     assert!(&rt; loads(alloc, &model, &mut plan, ONE, "ok", 1));
     assert!(&rt; loads(alloc, &model, &mut plan, TWO, "ok", 2));
     assert!(&rt; plan.next_id == 4 && is_anchored(&plan, 2, 3));
+}
+
+#[test]
+fn a_bump_without_an_id_is_the_first(rt: HostRuntime) {
+    let alloc = rt.alloc();
+    let model = bump_model(&rt, alloc);
+    let mut plan = no_directives(&rt, alloc, &model);
+    let answer = read_plan_json(alloc, &model, &mut plan, BARE);
+    assert!(&rt; matches!(answer, Ok((1, 1))));
+    assert!(&rt; is_one_bump(&rt, &plan, 3) && plan.next_id == 2);
 }

@@ -123,16 +123,21 @@ fn is_answered_with(alloc: Global, clients: &str, wanted: &str) -> bool {
 }
 
 /// Whether a front of the first session is judged as it has to be: where the plan is closed and nothing of the client stands it is a
-/// session, and else a syntax error.
+/// session of no client, and else a syntax error.
 fn is_judged(alloc: Global, bytes: &[u8], count: usize) -> bool {
     let front = match bytes.get(..count) {
         Some(front) => front,
         None => return false,
     };
     let closed = FIRST.len().saturating_sub(1);
-    let is_whole = closed <= count && count <= FIRST.len() || count == bytes.len();
     match answer(alloc, front) {
-        Some(found) => found.as_bytes().starts_with(b"syntax") != is_whole,
+        Some(found) => {
+            if closed <= count && count <= FIRST.len() {
+                found.as_str() == "1 0 0 0 0"
+            } else {
+                found.as_bytes().starts_with(b"syntax")
+            }
+        }
         None => false,
     }
 }

@@ -9,3 +9,5 @@ mod answers;
 mod limits;
 #[cfg(test)]
 mod refused;
+#[cfg(test)]
+mod worked;
