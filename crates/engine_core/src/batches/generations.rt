@@ -146,7 +146,8 @@ pub(super) fn all_frames<S: Stepper, L: Ledger, K: Ledger>(
     steps_are_small();
     budget_decides_the_end_alone();
     let _ = model.cells();
-    let mut made = Vec::new(alloc);
+    // a frame is large and the run keeps the list: most batches make a frame for each job, and no more
+    let mut made = Vec::with_capacity(alloc, jobs.len())?;
     let fuel = bound - spent;
     let first = run_generation(
         alloc, model, bound, jobs, fuel, &mut made, stepper, steps, looks,
