@@ -1,0 +1,2 @@
+pub mod EmptyPlans
+pub mod OneModel

@@ -1,0 +1,10 @@
+use Rattle.std.proofs.Common.{List, sym, subst}
+use Rattle.aerie_base.specs.declared.plans.Directive.{Directive}
+use Rattle.aerie_base.specs.plans.OfModel.{IsPlanOf}
+use Rattle.report_tests.proofs.EmptyPlans.{empty_is}
+use Rattle.report_tests.proofs.missions.empty.Goals as goal
+
+pub returns-clause-plan : goal.returns-clause-plan
+returns-clause-plan c = λ model.
+    subst (λ (l : List Directive). IsPlanOf model (record { model = 0; duration = c.args.duration; next_id = 1; directives = l })) (sym c.new.ensures)
+    (empty_is model c.args.duration c.requires)
