@@ -1,7 +1,6 @@
 -- A plan without directives is of every model.
-use Rattle.std.proofs.Common.{◌≡◌, ℕ, suc, ◌≤◌, List, [], None, Some, refl, arith}
+use Rattle.std.proofs.Common.{◌≡◌, ℕ, suc, ◌≤◌, [], Some, refl, arith}
 use Rattle.aerie_base.specs.declared.models.model.Parts.{Parts}
-use Rattle.aerie_base.specs.declared.plans.Plan.{Plan}
 use Rattle.aerie_base.specs.plans.OfModel.{IsPlanOf, followed}
 
 never : (id steps : ℕ) → followed [] (suc steps) id ≡ Some id → ⊥

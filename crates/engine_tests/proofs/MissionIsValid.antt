@@ -1,5 +1,5 @@
 -- The mission of the tests is a valid model.
-use Rattle.std.proofs.Common.{◌≡◌, Bool, true, false, IsTrue, refl}
+use Rattle.std.proofs.Common.{Bool, true, false, IsTrue, refl}
 use denote.Hole.Carrier.{hidden, shown, out}
 use Rattle.aerie_base.specs.declared.expressions.Expr.TheBlock.{hidden-the_row-Expr-0, shape-the_row-Expr-0}
 use Rattle.aerie_base.specs.declared.statements.Stmt as stmt

@@ -1,5 +1,5 @@
 -- The plan of one directive is of the mission, and its one batch has one frame.
-use Rattle.std.proofs.Common.{◌≡◌, ℕ, suc, Bool, true, false, List, [], ◌∷◌, Option, Some, None, option_and_then, nat_eq, refl, sym, ap, subst, ◌∙◌, arith, if◌then◌else◌}
+use Rattle.std.proofs.Common.{◌≡◌, ℕ, suc, Bool, true, false, List, [], ◌∷◌, Some, None, option_and_then, nat_eq, refl, sym, ap, subst, ◌∙◌, arith, if◌then◌else◌}
 use Rattle.aerie_base.specs.declared.models.model.Parts.{Parts}
 use Rattle.aerie_base.specs.declared.expressions.Expr.TheBlock.{hidden-the_row-Expr-0, shape-the_row-Expr-0}
 use Rattle.aerie_base.specs.declared.statements.Stmt.{out-Stmt}
@@ -8,14 +8,12 @@ use Rattle.aerie_base.specs.expressions.Evaluation.{evaluated}
 use Rattle.aerie_base.specs.statements.Places.{left, lefts, size}
 use Rattle.effect_cells.specs.declared.trees.Part.TheBlock.{hidden-the_row-Part-0, shape-the_row-Part-0}
 use denote.Hole.Carrier.{hidden, shown, out}
-use Rattle.aerie_base.specs.declared.plans.Directive.{Directive}
 use Rattle.aerie_base.specs.declared.plans.Plan.{Plan}
 use Rattle.aerie_base.specs.plans.OfModel.{IsPlanOf, anchor_of, anchored_to, followed}
-use Rattle.run_data.specs.declared.frames.Frame.{Frame}
 use Rattle.run_data.specs.declared.runs.Run.{Run}
 use Rattle.run_data.specs.Fresh.{SimulationState, start}
 use Rattle.run_data.specs.Tasks.{ready_jobs}
-use Rattle.run_data.specs.Transitions.{Next, more, finished}
+use Rattle.run_data.specs.Transitions.{Next, more}
 use Rattle.engine_core.specs.BatchEnds.{batch_frames}
 use Rattle.engine_core.specs.Standing.{Standing, LeadsTo, there, on, jobs_in}
 use Rattle.engine_tests.specs.OnePut.{one_put, put_frame}

@@ -1,6 +1,6 @@
 -- The frames of a run, one batch or one instant more, and their records.
-use Rattle.std.proofs.Common.{◌≡◌, ◌≤◌, ◌<◌, ℕ, zero, suc, ◌+◌, List, [], ◌∷◌, ◌++◌, length, take, get_or, map, arith, refl, sym, ap, subst, ◌∙◌, append_assoc, append-nil, All}
-use Rattle.std.proofs.lemmas.List.{map-append, take_all}
+use Rattle.std.proofs.Common.{◌≡◌, ◌<◌, ℕ, zero, suc, ◌+◌, List, [], ◌∷◌, ◌++◌, length, take, get_or, map, arith, refl, sym, ap, ◌∙◌, append_assoc, append-nil, All}
+use Rattle.std.proofs.lemmas.List.{map-append}
 use Rattle.std.proofs.lemmas.List.Elements.{All-nil, All-append, All-map}
 use Rattle.std.proofs.lemmas.Grind.{take_at_read}
 use Rattle.aerie_base.specs.declared.models.model.Parts.{Parts}

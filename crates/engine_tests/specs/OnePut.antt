@@ -1,5 +1,5 @@
 -- A plan of one directive, which puts a value into the mission's register at the start, and the frame of its one step.
-use Rattle.std.specs.Prelude.{ℕ, pos, List, [], ◌∷◌, None}
+use Rattle.std.specs.Prelude.{pos, [], ◌∷◌, None}
 use Rattle.aerie_base.specs.Paths.{root}
 use Rattle.aerie_base.specs.declared.plans.Plan.{Plan}
 use Rattle.aerie_base.specs.declared.values.Value.TheVariants as value

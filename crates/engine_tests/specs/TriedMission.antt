@@ -1,8 +1,7 @@
 -- A mission for tests of whole runs: a counter `n`, a register `r`, a counter `seen`, and two volumes of which one leaves its range
 -- after a second. Its activity types show each a rule of simulation; a daemon counts on `n` every 40 microseconds, where it is to.
-use Rattle.std.specs.Prelude.{ℕ, ℤ, pos, Bool, true, false, List, [], ◌∷◌, Some, None, if◌then◌else◌, codes}
+use Rattle.std.specs.Prelude.{ℕ, ℤ, pos, Bool, true, List, [], ◌∷◌, None, if◌then◌else◌, codes}
 use Rattle.aerie_base.specs.declared.values.Kind.TheVariants as kind
-use Rattle.aerie_base.specs.declared.values.Value.{Value}
 use Rattle.aerie_base.specs.declared.values.Value.TheVariants as value
 use Rattle.aerie_base.specs.declared.operands.CellRead.{CellRead}
 use Rattle.aerie_base.specs.declared.operands.CellRead.TheVariants as read
@@ -11,7 +10,7 @@ use Rattle.aerie_base.specs.declared.linear.Linear.{Linear}
 use Rattle.aerie_base.specs.declared.expressions.Comparison.TheVariants.{AtLeast}
 use Rattle.aerie_base.specs.declared.expressions.Operator.TheVariants as operator
 use Rattle.aerie_base.specs.declared.expressions.Expr.{Expr, Literal, Operand as Named, Binary}
-use Rattle.aerie_base.specs.declared.conditions.Cond.{Cond, Compare}
+use Rattle.aerie_base.specs.declared.conditions.Cond.{Compare}
 use Rattle.aerie_base.specs.declared.statements.Emission.TheVariants as emission
 use Rattle.aerie_base.specs.declared.statements.Stmt.{Stmt, Let, Emit, Delay, WaitUntil, Spawn, Call, While}
 use Rattle.aerie_base.specs.declared.models.Activity.{Activity}

@@ -1,6 +1,5 @@
 -- What a Fetch answers, and that it changes nothing.
-use Rattle.std.proofs.Common.{◌≡◌, ℕ, List, Option, sym, ap, subst, ◌∙◌}
-use Rattle.aerie_base.specs.declared.models.model.Parts.{Parts}
+use Rattle.std.proofs.Common.{◌≡◌, ℕ, Option, ap, subst}
 use Rattle.aerie_base.specs.declared.plans.Plan.{Plan}
 use Rattle.run_data.specs.KeptRuns.{KeptRun}
 use Rattle.hangar_core.specs.declared.actions.Action.{Action}

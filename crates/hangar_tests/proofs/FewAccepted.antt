@@ -1,5 +1,5 @@
 -- A step accepts one action or none.
-use Rattle.std.proofs.Common.{◌≡◌, ℕ, ◌+◌, ◌≤◌, arith}
+use Rattle.std.proofs.Common.{◌+◌, ◌≤◌, arith}
 use Rattle.hangar_core.specs.declared.actions.Action.{Action}
 use Rattle.hangar_core.specs.declared.replies.Reply.{Reply}
 use Rattle.hangar_core.specs.declared.replies.Reply.TheVariants.{Opened, Dropped, Added, Edited, Loaded, Fetched, Attached, Placed, NoBranch, BranchExists, TooManyBranches, NoMapping, Unmapped, Misfit, Edit, Stale}

@@ -1,4 +1,4 @@
-use Rattle.std.proofs.Common.{◌≡◌, ◌∙◌, sym, true, false}
+use Rattle.std.proofs.Common.{◌∙◌, sym, true, false}
 use Rattle.engine_tests.proofs.StoredSteps.{agrees_at, agrees_more}
 use Rattle.engine_tests.proofs.stored.agrees.Goals as goal
 

@@ -1,5 +1,5 @@
 -- Each job more has the frame that it has with the whole fuel, or passes what is left and so the fuel.
-use Rattle.std.proofs.Common.{◌+◌, ◌≤◌, ◌∙◌, ap, subst, arith, Option}
+use Rattle.std.proofs.Common.{◌+◌, ◌≤◌, ◌∙◌, subst, arith, Option}
 use Rattle.run_data.specs.declared.frames.Frame.{Frame}
 use Rattle.task_step.proofs.OneByOne.{rose_on, rose_within, cost_more, cost_within, one_more, is_spent}
 use Rattle.engine_tests.specs.StoredSteps.{paid_for}

@@ -1,4 +1,4 @@
-use Rattle.std.proofs.Common.{◌≡◌, Some, ◌∙◌, ap, sym}
+use Rattle.std.proofs.Common.{Some, ◌∙◌, ap, sym}
 use Rattle.engine_tests.proofs.OnePut.{put_is_of, put_there}
 use Rattle.engine_tests.proofs.taking_over.taken_over.Goals as goal
 
