@@ -1,5 +1,5 @@
 -- The segments before a reach give the value at each time below it.
-use Rattle.std.proofs.Common.{◌≡◌, ℕ, zero, suc, ◌+◌, ◌-◌, ◌*◌, ◌<◌, ◌≤◌, ◌^◌, ℤ, pos, ◌+ℤ◌, ◌*ℤ◌, Bool, true, false, cond, if◌then◌else◌, List, [], ◌∷◌, map, nat_le, nat_lt, refl, sym, ap, ◌∙◌, arith}
+use Rattle.std.proofs.Common.{◌≡◌, ℕ, zero, suc, ◌-◌, ◌*◌, ◌<◌, ◌≤◌, ℤ, pos, ◌*ℤ◌, Bool, true, false, cond, if◌then◌else◌, List, [], ◌∷◌, map, nat_le, nat_lt, refl, ap, ◌∙◌, arith}
 use Rattle.std.proofs.lemmas.Grind.{common_steps}
 use Rattle.std.proofs.lemmas.Int.{ints, unsigned_abs-mul}
 use Rattle.std.proofs.lemmas.Nat.{mul-le}
@@ -8,7 +8,7 @@ use Rattle.std.specs.List.{All}
 use Rattle.std.specs.Int.RustNames.{unsigned_abs}
 use Rattle.aerie_base.specs.Ranges.{IsNumber, IsRate, time_limit}
 use Rattle.windows.specs.declared.segments.Segment.{Segment}
-use Rattle.windows.specs.Linear.{segment_value, segments_value, IsSum, first_start, Follow, AreSegments}
+use Rattle.windows.specs.Linear.{segment_value, segments_value, IsSum, Follow, AreSegments}
 use Rattle.dataset_in.specs.Levels.{constant, before}
 use Rattle.dataset_in.specs.Series.{StartsRise, AreStarts}
 

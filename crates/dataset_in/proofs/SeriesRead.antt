@@ -1,11 +1,10 @@
 -- What is read is a series: its segments rise from 0, and their numbers and rates are in range.
-use Rattle.std.proofs.Common.{◌≡◌, ℕ, ◌+◌, ◌<◌, ◌≤◌, ℤ, Bool, true, false, List, [], ◌∷◌, length, map, nat_eq, nat_lt, Option, Some, None, IfSome, option_map, option_and_then, Result, Ok, Err, IfOk, refl, arith, if◌then◌else◌}
+use Rattle.std.proofs.Common.{◌≡◌, ℕ, ◌+◌, ℤ, Bool, true, false, List, [], ◌∷◌, length, map, nat_eq, nat_lt, Option, Some, None, IfSome, option_map, option_and_then, Result, Ok, Err, IfOk, refl, arith, if◌then◌else◌}
 use Rattle.std.proofs.lemmas.Grind.{common_steps}
 use Rattle.std.proofs.lemmas.Result.{IfOk-weaker}
 use Rattle.std.proofs.lemmas.List.Elements.{All-cons, All-nil}
 use Rattle.std.specs.List.{All}
 use Rattle.serde_json.specs.Data.{Data}
-use Rattle.serde_json.specs.Read.{read}
 use Rattle.aerie_base.specs.Ranges.{IsNumber, IsRate, is_number, is_rate, checked_number}
 use Rattle.windows.specs.declared.segments.Segment.{Segment}
 use Rattle.dataset_in.specs.declared.series.Series.{Series}
@@ -15,7 +14,7 @@ use Rattle.dataset_in.specs.declared.dataset_error.DatasetError.TheVariants.{Too
 use Rattle.dataset_in.specs.declared.forms.SeriesKind.{SeriesKind}
 use Rattle.dataset_in.specs.declared.forms.SeriesKind.TheVariants as kind
 use Rattle.dataset_in.specs.Series.{StartsRise, AreStarts, IsSeries}
-use Rattle.dataset_in.specs.Datasets.{follows, put_first, then_entry, next_entry, entries_behind, entries_of, series_answer, series_of, form_answer, kind_and_rows, dataset_of, truth_entry, whole_entry, linear_entry, number_part, rate_part, time_part, truth_part, whole_part, most_segments, IsAnswerIfMemory}
+use Rattle.dataset_in.specs.Datasets.{follows, put_first, then_entry, next_entry, entries_behind, entries_of, series_answer, series_of, form_answer, truth_entry, whole_entry, linear_entry, number_part, rate_part, time_part, whole_part, most_segments, IsAnswerIfMemory}
 
 some_weaker : {A : Type 0} {P Q : A → Type 0} → ((x : A) → P x → Q x) → (o : Option A) → IfSome o P → IfSome o Q
 some_weaker f None h = tt

@@ -1,5 +1,5 @@
 -- What the text of a dataset says: `{"kind":K,"segments":[..]}`, where K tells what each segment has behind its start.
-use Rattle.std.specs.Prelude.{ℕ, zero, suc, ◌+◌, ◌≡◌, ℤ, Bool, true, false, ◌&&◌, List, [], ◌∷◌, codes, length, nat_eq, nat_lt, if◌then◌else◌, Option, Some, None, option_map, option_and_then, Result, Ok, Err}
+use Rattle.std.specs.Prelude.{ℕ, ◌+◌, ◌≡◌, ℤ, Bool, false, List, [], ◌∷◌, codes, length, nat_eq, nat_lt, if◌then◌else◌, Option, Some, None, option_map, option_and_then, Result, Ok, Err}
 use Rattle.std.specs.List.{list_all}
 use Rattle.std.specs.Cmp.Lexicographic.{pointwise}
 use Rattle.serde_json.specs.Data.{Data, Items, no_items, item, Members, no_members, member}

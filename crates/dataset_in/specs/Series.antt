@@ -2,7 +2,6 @@
 use Rattle.std.specs.Prelude.{ℕ, ◌≡◌, ◌<◌, List, [], ◌∷◌, map}
 use Rattle.std.specs.List.{All}
 use Rattle.aerie_base.specs.Ranges.{IsNumber, IsRate}
-use Rattle.windows.specs.declared.segments.Segment.{Segment}
 use Rattle.dataset_in.specs.declared.series.Series.{Series}
 use Rattle.dataset_in.specs.declared.series.Series.TheVariants.{Truth, Whole, Linear}
 

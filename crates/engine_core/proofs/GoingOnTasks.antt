@@ -4,7 +4,7 @@ use Rattle.std.proofs.lemmas.Bool.Decides.{nat_tests}
 use Rattle.std.specs.List.{slice_get}
 use Rattle.aerie_base.specs.Paths.{child_path, child_of, may_have_children}
 use Rattle.aerie_base.specs.declared.plans.Anchor.{Anchor}
-use Rattle.run_data.specs.Endings.{has_ended, result_of, has_come, has_begun, back, due_phase, gone_on}
+use Rattle.run_data.specs.Endings.{has_ended, result_of, has_come, back, due_phase, gone_on}
 use Rattle.run_data.specs.Tasks.{TaskPhase, anchored, ready, delayed, waiting, calling, over, Task, Table, task_at, on_each}
 use Rattle.run_data.specs.laws.GoingOn.{EndsAs, IsQuiet, GoOnInTurn, QuietAfter}
 use Rattle.run_data.specs.laws.NumberedTasks.{sorted_tasks, Distinct, ChangedByNumber}

@@ -1,5 +1,5 @@
 -- What becomes of the parts of a model: what is made of each, what is wrong with it, and what is known behind it.
-use Rattle.std.specs.Prelude.{◌≡◌, ℕ, Bool, not, List, [], ◌++◌, Option, if◌then◌else◌}
+use Rattle.std.specs.Prelude.{◌≡◌, ℕ, Bool, not, List, ◌++◌, Option}
 use Rattle.aerie_base.specs.declared.conditions.Cond.{Cond}
 use Rattle.aerie_base.specs.declared.expressions.Comparison.{Comparison}
 use Rattle.aerie_base.specs.declared.expressions.Expr.{Expr}

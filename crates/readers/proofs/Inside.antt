@@ -1,14 +1,13 @@
 -- What conforms to a rule of a grammar conforms to it inside another grammar too, whatever is to be read there behind it.
-use Rattle.std.proofs.Common.{◌≡◌, ℕ, zero, suc, ◌≤◌, Bool, true, false, ◌&&◌, ◌||◌, List, [], ◌∷◌, ◌++◌, length, map, IsTrue, refl, ap, sym, ◌∙◌, subst, arith, append-nil, append_assoc}
+use Rattle.std.proofs.Common.{◌≡◌, ℕ, zero, suc, ◌≤◌, Bool, true, false, ◌&&◌, ◌||◌, List, [], ◌∷◌, ◌++◌, length, IsTrue, refl, ap, sym, ◌∙◌, subst, arith, append-nil}
 use Rattle.std.proofs.lemmas.List.{length-append}
-use Rattle.readers.specs.Conforms.{Covers, ReadsPast, GoesAlong, Conforms}
+use Rattle.readers.specs.Conforms.{GoesAlong, Conforms}
 use Rattle.readers.specs.Marks.{Mark}
 use Rattle.readers.specs.Parsed.{Parsed, parsed, failed, over_limit}
 use Rattle.readers.specs.grammar.Embedding.{there, IsInside}
 use Rattle.readers.specs.grammar.Forms.{Form, token, rule, nothing, both, either, many}
 use Rattle.readers.specs.grammar.LazyReadings.{Goes, stop, read, open_rule, pass, in_turn, first_of_two, second_of_two, no_more, once_more, LazyReading}
 use Rattle.readers.specs.grammar.Lookahead.{Lookahead, Ahead, refused, unfinished, remains, when, nullable, in_first, inside, into, next, whole, stops, go_on, all_nullable, at_end, answer}
-use Rattle.readers.specs.grammar.Parsing.{Reads, Stops}
 use Rattle.readers.specs.grammar.Predictive.{IsPredictive}
 use Rattle.readers.proofs.Begun.{joined}
 use Rattle.readers.proofs.Grammars.Choices.{read_at_once}

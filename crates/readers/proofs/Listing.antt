@@ -1,11 +1,11 @@
 -- What is read of lists conforms to a grammar where their parts do.
-use Rattle.std.proofs.Common.{◌≡◌, true, false, ℕ, List, [], ◌∷◌, ◌++◌, Option, Some, None, length, nat_le, refl}
+use Rattle.std.proofs.Common.{◌≡◌, true, false, List, [], Option, Some, None, length}
 use Rattle.aerie_text.specs.declared.sorts.Sort.{Sort}
 use Rattle.aerie_text.specs.declared.sorts.Sort.TheVariants.{Comma, OpenParenthesis, CloseParenthesis}
 use Rattle.readers.specs.Conforms.{Conforms}
-use Rattle.readers.specs.Lists.{limit_passed, pushed_at, unless_passed, one_more_of, one_more_at, listed_at, optional_list_at, parenthesized_at, row_at}
+use Rattle.readers.specs.Lists.{limit_passed, unless_passed, one_more_of, one_more_at, listed_at, optional_list_at, parenthesized_at, row_at}
 use Rattle.readers.specs.Marks.{Mark}
-use Rattle.readers.specs.Parsed.{Parsed, is_of, is_one_of, next_is}
+use Rattle.readers.specs.Parsed.{Parsed, is_of, is_one_of}
 use Rattle.readers.specs.declared.limits.Limit.{Limit}
 use Rattle.readers.specs.declared.lists.Most.{Most}
 use Rattle.readers.specs.grammar.Forms.{Form, token, both, many, option, separated}

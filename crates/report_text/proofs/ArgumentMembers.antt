@@ -1,5 +1,5 @@
 -- The members of an object of arguments, read as arguments.
-use Rattle.std.proofs.Common.{◌≡◌, ℕ, Bool, true, false, IsTrue, List, [], ◌∷◌, Option, Some, None, map, option_map, refl, sym, ap, ◌∙◌, if◌then◌else◌}
+use Rattle.std.proofs.Common.{◌≡◌, ℕ, Bool, IsTrue, List, [], ◌∷◌, Option, Some, None, map, option_map, refl, ap, ◌∙◌, if◌then◌else◌}
 use Rattle.std.specs.Ordering.{match_ordering, nat_cmp}
 use Rattle.std.specs.Cmp.Lexicographic.{slice_cmp}
 use Rattle.std.specs.declared.cmp.Ordering.{Ordering}
@@ -13,7 +13,7 @@ use Rattle.aerie_base.specs.declared.models.Parameter.{Parameter}
 use Rattle.aerie_text.specs.Json.{with_fields}
 use Rattle.plan_edit.specs.PlanForm.{arguments_of_members, is_free_name, one_argument, put_argument, value_of_json}
 use Rattle.plan_edit.specs.ShownPlan.{argument_fields, json_of_value}
-use Rattle.report_text.proofs.RawArguments.{put_raw, raw_for, raw_of, raws_with}
+use Rattle.report_text.proofs.RawArguments.{put_raw, raw_for, raws_with}
 
 -- an argument beside the value of JSON that it is written as
 abbrev pub Entry : Type 0

@@ -1,7 +1,7 @@
 -- The first place at which a test passes, as a recursion, and where it is in lists of different names and of rising ids.
-use Rattle.std.proofs.Common.{◌≡◌, ℕ, zero, suc, ◌+◌, ◌<◌, ◌&&◌, ◌||◌, Bool, true, false, not, IsTrue, List, [], ◌∷◌, ◌++◌, Option, Some, None, cond, option_map, length, map, nat_lt, nat_eq, slice_get, position, refl, sym, ap, ◌∙◌, subst, true≢false, arith, lt-ltb, ltb-true, if◌then◌else◌}
+use Rattle.std.proofs.Common.{◌≡◌, ℕ, zero, suc, ◌+◌, ◌&&◌, ◌||◌, Bool, true, false, not, IsTrue, List, [], ◌∷◌, Option, Some, None, cond, option_map, length, map, nat_lt, slice_get, position, refl, sym, ap, ◌∙◌, true≢false, arith, lt-ltb, ltb-true, if◌then◌else◌}
 use Rattle.std.specs.Prelude.{option_and_then, find}
-use Rattle.std.specs.List.{position_or_len, list_any, list_all}
+use Rattle.std.specs.List.{position_or_len}
 use Rattle.std.specs.Cmp.Lexicographic.{bytes_decides}
 use Rattle.std.proofs.lemmas.Option.{none-some, same_Some}
 use Rattle.aerie_base.specs.models.Names.{same_name, is_name_among, are_distinct}

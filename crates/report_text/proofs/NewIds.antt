@@ -1,5 +1,5 @@
 -- Directives under new ids: which id each has, and that their anchors lead as before.
-use Rattle.std.proofs.Common.{◌≡◌, ℕ, zero, suc, ◌+◌, ◌<◌, ◌≤◌, ◌&&◌, ◌||◌, Bool, true, false, not, IsTrue, List, [], ◌∷◌, Option, Some, None, is_some, length, map, option_map, nat_eq, nat_lt, position, slice_get, refl, sym, ap, ◌∙◌, subst, arith, true≢false, lt-ltb, ltb-true, eq-eqb, ne_eqb, eqb-true, ne_of_lt, if◌then◌else◌}
+use Rattle.std.proofs.Common.{◌≡◌, ℕ, zero, suc, ◌+◌, ◌<◌, ◌≤◌, ◌||◌, Bool, true, false, IsTrue, List, [], ◌∷◌, Option, Some, None, length, map, option_map, nat_eq, nat_lt, position, slice_get, refl, sym, ap, ◌∙◌, subst, arith, true≢false, ltb-true, eq-eqb, ne_eqb, eqb-true, ne_of_lt, if◌then◌else◌}
 use Rattle.std.specs.Prelude.{option_and_then, unwrap_or}
 use Rattle.std.specs.List.{list_any, list_all}
 use Rattle.std.proofs.lemmas.Option.{none-some, same_Some}
@@ -9,9 +9,9 @@ use Rattle.aerie_base.specs.plans.OfModel.{anchored_to, anchor_of, followed, ids
 use Rattle.aerie_base.specs.plans.RisingIds.{above}
 use Rattle.plan_merge.specs.Merging.{is_at, is_on_cycle, returns_within}
 use Rattle.plan_edit.specs.declared.forms.WrittenDirective.{WrittenDirective}
-use Rattle.plan_edit.specs.Loading.{anchor_anew, directive_anew, has_cycle, is_tied, place_of_id, places_of, the_only}
+use Rattle.plan_edit.specs.Loading.{has_cycle, place_of_id, places_of, the_only}
 use Rattle.report_text.specs.LoadedAgain.{loaded_id, to_new_id, under_new_id}
-use Rattle.report_text.proofs.FirstPlaces.{both, first_place, neither, position_is}
+use Rattle.report_text.proofs.FirstPlaces.{both, first_place, position_is}
 
 abbrev pub has_id : ℕ → Directive → Bool
 has_id id directive = nat_eq directive.id id

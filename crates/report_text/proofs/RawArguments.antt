@@ -1,5 +1,5 @@
 -- Arguments in the order of their names: each is found by its name, and none is bad.
-use Rattle.std.proofs.Common.{◌≡◌, ℕ, zero, suc, ◌+◌, ◌&&◌, ◌||◌, Bool, true, false, not, IsTrue, List, [], ◌∷◌, ◌++◌, Option, Some, None, Result, Ok, Err, cond, is_some, length, map, slice_get, refl, sym, ap, ◌∙◌, subst, arith, true≢false, if◌then◌else◌}
+use Rattle.std.proofs.Common.{◌≡◌, ℕ, suc, ◌+◌, ◌||◌, Bool, true, false, not, IsTrue, List, [], ◌∷◌, ◌++◌, Option, Some, None, Result, Ok, cond, is_some, map, slice_get, refl, sym, ap, ◌∙◌, arith, true≢false, if◌then◌else◌}
 use Rattle.std.specs.Prelude.{option_and_then, find, unwrap_or}
 use Rattle.std.specs.List.{list_any}
 use Rattle.std.specs.Ordering.{match_ordering, nat_cmp}
@@ -8,7 +8,7 @@ use Rattle.std.specs.declared.cmp.Ordering.{Ordering}
 use Rattle.std.specs.declared.cmp.Ordering.TheVariants.{Less, Equal, Greater}
 use Rattle.std.proofs.lemmas.List.Folds.{list_any-append}
 use Rattle.std.proofs.lemmas.Map.Lookups.{exact_bytes}
-use Rattle.std.proofs.lemmas.Option.{none-some, same_Some}
+use Rattle.std.proofs.lemmas.Option.{none-some}
 use Rattle.aerie_base.specs.declared.values.Value.{Value}
 use Rattle.aerie_base.specs.declared.values.Value.TheVariants as value
 use Rattle.aerie_base.specs.declared.arguments.RawValue.{RawValue}
@@ -18,9 +18,9 @@ use Rattle.aerie_base.specs.declared.models.EnumType.{EnumType}
 use Rattle.aerie_base.specs.declared.models.Parameter.{Parameter}
 use Rattle.aerie_base.specs.models.Names.{same_name, is_name_among, are_distinct}
 use Rattle.plan_edit.specs.declared.errors.EditError.{EditError}
-use Rattle.plan_edit.specs.Arguments.{arguments_of, first_bad, is_bad, is_given, parameter_place, parameter_value, unless_bad, value_for, value_for_parameter, value_given, value_in_front, value_or_default, values_filled}
+use Rattle.plan_edit.specs.Arguments.{arguments_of, first_bad, is_given, parameter_place, parameter_value, unless_bad, value_for, value_for_parameter, value_given, value_in_front, value_or_default, values_filled}
 use Rattle.plan_edit.specs.ShownPlan.{word_of_variant}
-use Rattle.report_text.proofs.FirstPlaces.{both, first_place, is_not, neither, place_of_name, position_is, same_is, same_itself, same_turned}
+use Rattle.report_text.proofs.FirstPlaces.{both, is_not, neither, place_of_name, position_is, same_is, same_itself, same_turned}
 
 -- ---- in the order of names
 

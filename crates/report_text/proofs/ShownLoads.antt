@@ -1,14 +1,10 @@
 -- A plan that is shown is loaded as the same directives under new ids.
-use Rattle.std.proofs.Common.{◌≡◌, ℕ, zero, suc, ◌+◌, ◌<◌, ◌≤◌, ◌&&◌, ◌||◌, ◌++◌, Bool, true, false, not, IsTrue, List, [], ◌∷◌, Option, Some, None, Result, Ok, Err, is_none, is_some, length, map, option_map, nat_eq, nat_le, nat_lt, position, slice_get, refl, sym, ap, ◌∙◌, subst, arith, true≢false, lt-ltb, ltb-true, eq-eqb, eqb-true, if◌then◌else◌}
-use Rattle.std.specs.Prelude.{option_and_then, unwrap_or}
+use Rattle.std.proofs.Common.{◌≡◌, ℕ, suc, ◌+◌, ◌<◌, ◌≤◌, ◌&&◌, ◌||◌, ◌++◌, Bool, true, false, not, IsTrue, List, [], ◌∷◌, Option, Some, None, Result, Ok, Err, is_none, is_some, length, map, option_map, nat_eq, nat_le, nat_lt, position, slice_get, refl, sym, ap, ◌∙◌, arith, true≢false, lt-ltb, ltb-true, eq-eqb, eqb-true, if◌then◌else◌}
+use Rattle.std.specs.Prelude.{unwrap_or}
 use Rattle.std.specs.List.{list_any, list_all}
-use Rattle.std.proofs.lemmas.Option.{none-some, same_Some}
-use Rattle.serde_json.specs.Data.{Data, Members, no_members, object}
+use Rattle.serde_json.specs.Data.{no_members}
 use Rattle.aerie_base.specs.Ranges.{time_limit}
-use Rattle.aerie_base.specs.declared.values.Kind.{Kind}
 use Rattle.aerie_base.specs.declared.values.Value.{Value}
-use Rattle.aerie_base.specs.declared.arguments.RawArgument.{RawArgument}
-use Rattle.aerie_base.specs.declared.expressions.Expr.{Expr}
 use Rattle.aerie_base.specs.declared.models.EnumType.{EnumType}
 use Rattle.aerie_base.specs.declared.models.Activity.{Activity}
 use Rattle.aerie_base.specs.declared.models.Parameter.{Parameter}
@@ -25,23 +21,21 @@ use Rattle.aerie_base.specs.models.Signatures.{parameter_kinds, signatures_of}
 use Rattle.aerie_base.specs.models.ValidModel.{activity_names, cell_names, enum_names, has_good_activities, has_good_enums, has_good_names, is_enum, resource_names, valid_model}
 use Rattle.aerie_base.specs.models.ValidParts.{are_good}
 use Rattle.aerie_base.specs.models.Values.{is_value_of}
-use Rattle.aerie_base.specs.plans.OfModel.{IsPlanOf, anchored_to, are_values_of, directive_limit, ids_of, is_directive_of, is_there, rise_to, takes}
-use Rattle.aerie_base.specs.plans.RisingIds.{above}
+use Rattle.aerie_base.specs.plans.OfModel.{anchored_to, are_values_of, directive_limit, ids_of, is_directive_of, is_there, rise_to, takes}
 use Rattle.plan_edit.specs.Answers.{then_made_of, unless_refused}
-use Rattle.plan_edit.specs.Arguments.{arguments_of}
-use Rattle.plan_edit.specs.Editing.{given_at_place, given_of, given_to, if_met, is_outside, type_place, unless_unmet}
-use Rattle.plan_edit.specs.Loading.{anchor_anew, directive_anew, has_cycle, is_past_room, is_tied, load_all, load_of_value, load_one, load_placed, load_written, loaded_form, place_of_id, put_loaded, unless_cycle, with_loaded}
-use Rattle.plan_edit.specs.PlanForm.{directive_of_json, if_formed, is_free_name}
+use Rattle.plan_edit.specs.Editing.{given_at_place, given_of, given_to, if_met, is_outside, unless_unmet}
+use Rattle.plan_edit.specs.Loading.{anchor_anew, directive_anew, is_past_room, is_tied, load_all, load_of_value, load_one, load_placed, load_written, loaded_form, place_of_id, put_loaded, unless_cycle, with_loaded}
+use Rattle.plan_edit.specs.PlanForm.{directive_of_json, is_free_name}
 use Rattle.plan_edit.specs.Requires.{first_unmet}
 use Rattle.aerie_text.specs.Json.{object_of, with_fields}
-use Rattle.plan_edit.specs.ShownPlan.{argument_fields, fields_by_type, json_of_directive, json_of_plan, json_of_value}
+use Rattle.plan_edit.specs.ShownPlan.{argument_fields, fields_by_type, json_of_directive, json_of_plan}
 use Rattle.plan_edit.specs.declared.arguments.Given.{Given}
 use Rattle.plan_edit.specs.declared.errors.EditError.{EditError}
-use Rattle.plan_edit.specs.declared.errors.EditError.TheVariants.{OutsidePlan, TooMany, NoAnchor, Cycle, Invalid}
+use Rattle.plan_edit.specs.declared.errors.EditError.TheVariants.{OutsidePlan, TooMany, NoAnchor, Cycle}
 use Rattle.plan_edit.specs.declared.forms.WrittenDirective.{WrittenDirective}
 use Rattle.report_text.specs.LoadedAgain.{CanBeLoaded, has_free_words, is_free_enum, is_free_type, meets_requires, meets_type, loaded_id, to_new_id, under_new_id, with_directives_of}
 use Rattle.report_text.proofs.ArgumentMembers.{AreWritten, arguments_written}
-use Rattle.report_text.proofs.FirstPlaces.{both, first_place, neither, place_of_name, position_is}
+use Rattle.report_text.proofs.FirstPlaces.{both, first_place, place_of_name, position_is}
 use Rattle.report_text.proofs.NewIds.{has_id, new_at, no_cycle, place_in_text}
 use Rattle.report_text.proofs.RawArguments.{AreGiven, arguments_read, raws_with}
 use Rattle.report_text.proofs.WrittenDirectives.{AreShown, IsNear, directive_read, plan_read}

@@ -1,5 +1,5 @@
 -- The violations of constraints, one constraint after another.
-use Rattle.std.proofs.Common.{◌≡◌, ◌<◌, ◌≤◌, ◌+◌, ◌++◌, ◌∷◌, ◌∙◌, [], ℕ, ap, append_assoc, append-nil, arith, drop, get_or, length, suc, sym}
+use Rattle.std.proofs.Common.{◌≡◌, ◌<◌, ◌≤◌, ◌+◌, ◌++◌, ◌∙◌, ℕ, ap, append_assoc, append-nil, arith, drop, get_or, length, suc, sym}
 use Rattle.std.specs.Prelude.{List, flat_map}
 use Rattle.std.proofs.Math.Seq.{drop-cons, drop-length}
 use Rattle.json.specs.Token.{Token}

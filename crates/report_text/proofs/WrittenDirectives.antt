@@ -1,14 +1,10 @@
 -- A directive that is shown, read again.
-use Rattle.std.proofs.Common.{◌≡◌, ℕ, ◌<◌, ◌≤◌, ◌&&◌, ◌^◌, Bool, true, false, IsTrue, List, [], ◌∷◌, Option, Some, None, codes, map, option_map, nat_lt, slice_get, refl, sym, ap, ◌∙◌, arith, true≢false, lt-ltb, le-leb, ltb-true, if◌then◌else◌}
+use Rattle.std.proofs.Common.{◌≡◌, ℕ, ◌<◌, ◌≤◌, ◌^◌, Bool, IsTrue, List, [], ◌∷◌, Option, Some, None, codes, map, option_map, refl, ap, ◌∙◌, arith, lt-ltb, le-leb, if◌then◌else◌}
 use Rattle.std.specs.Prelude.{pos, option_and_then}
-use Rattle.std.specs.List.{list_all}
-use Rattle.std.proofs.lemmas.Option.{none-some, same_Some}
-use Rattle.serde_json.specs.Data.{Data, Items, Members, array, number, object, string, unsigned}
+use Rattle.serde_json.specs.Data.{Data, Members, number, object, string, unsigned}
 use Rattle.serde_json.specs.View.{items_of}
-use Rattle.aerie_base.specs.Ranges.{is_time, time_limit, time_of_signed}
+use Rattle.aerie_base.specs.Ranges.{time_limit, time_of_signed}
 use Rattle.aerie_base.specs.declared.arguments.RawArgument.{RawArgument}
-use Rattle.aerie_base.specs.declared.models.EnumType.{EnumType}
-use Rattle.aerie_base.specs.declared.models.Activity.{Activity}
 use Rattle.aerie_base.specs.declared.models.model.Parts.{Parts}
 use Rattle.aerie_base.specs.declared.plans.Anchor.{Anchor}
 use Rattle.aerie_base.specs.declared.plans.Edge.{Edge}
@@ -17,9 +13,8 @@ use Rattle.aerie_base.specs.declared.plans.Directive.{Directive}
 use Rattle.aerie_base.specs.declared.plans.Plan.{Plan}
 use Rattle.aerie_text.specs.Json.{object_of}
 use Rattle.plan_edit.specs.declared.forms.WrittenDirective.{WrittenDirective}
-use Rattle.plan_edit.specs.PlanForm.{anchor_of_json, arguments_of_members, checked_timing, directive_of_json, directive_of_parts, directives_of_json, edge_of_word, free_name, id_of_json, id_of_signed, if_there, is_free_name, plan_of_json, put_directive, start_of_json, Timing, values_of_items}
-use Rattle.plan_edit.specs.ShownPlan.{anchor_fields, directive_fields, edge_word, fields_by_type, json_of_anchor, json_of_directive, json_of_plan}
-use Rattle.report_text.proofs.RawArguments.{raws_with}
+use Rattle.plan_edit.specs.PlanForm.{anchor_of_json, arguments_of_members, checked_timing, directive_of_json, directive_of_parts, directives_of_json, edge_of_word, free_name, id_of_json, id_of_signed, is_free_name, plan_of_json, put_directive, start_of_json, Timing, values_of_items}
+use Rattle.plan_edit.specs.ShownPlan.{anchor_fields, edge_word, json_of_anchor, json_of_directive, json_of_plan}
 
 -- ---- ids and starts
 

@@ -1,7 +1,7 @@
 -- Values of a model as they are written, and read again.
-use Rattle.std.proofs.Common.{◌≡◌, ℕ, ℤ, zero, suc, ◌+◌, ◌<◌, ◌≤◌, ◌&&◌, ◌==◌, ◌^◌, Bool, true, false, not, IsTrue, List, [], ◌∷◌, ◌++◌, Option, Some, None, cond, option_map, length, map, drop, take, slice_get, nat_le, nat_lt, position, refl, sym, ap, ◌∙◌, subst, arith, true≢false, lt-ltb, ltb-true, leb-true, eqb-true, if◌then◌else◌}
+use Rattle.std.proofs.Common.{◌≡◌, ℕ, ℤ, zero, suc, ◌+◌, ◌<◌, ◌&&◌, ◌==◌, ◌^◌, Bool, true, false, not, IsTrue, List, [], ◌∷◌, ◌++◌, Option, Some, None, cond, option_map, length, map, drop, take, slice_get, nat_le, nat_lt, refl, sym, ap, ◌∙◌, subst, arith, true≢false, lt-ltb, ltb-true, leb-true, eqb-true, if◌then◌else◌}
 use Rattle.std.specs.Prelude.{pos, negsuc, option_and_then, unwrap_or}
-use Rattle.std.specs.Bool.{Decides, one_answer}
+use Rattle.std.specs.Bool.{one_answer}
 use Rattle.std.specs.Cmp.Lexicographic.{bytes_decides}
 use Rattle.std.specs.List.{list_all, position_or_len, before_first, after_first}
 use Rattle.std.proofs.lemmas.List.{append_cancel_left}
@@ -12,7 +12,6 @@ use Rattle.aerie_base.specs.declared.values.Kind.{Kind}
 use Rattle.aerie_base.specs.declared.values.Kind.TheVariants as kind
 use Rattle.aerie_base.specs.declared.values.Value.{Value}
 use Rattle.aerie_base.specs.declared.values.Value.TheVariants as value
-use Rattle.aerie_base.specs.declared.arguments.RawValue.{RawValue}
 use Rattle.aerie_base.specs.declared.arguments.RawValue.TheVariants as raw
 use Rattle.aerie_base.specs.declared.models.EnumType.{EnumType}
 use Rattle.aerie_base.specs.expressions.Arithmetic.{value_kind}
@@ -23,10 +22,10 @@ use Rattle.aerie_base.specs.models.Values.{is_value, is_value_of, variant_count,
 use Rattle.aerie_text.specs.Sorts.{same_sort, word_sort}
 use Rattle.aerie_text.specs.declared.sorts.Sort.TheVariants as sort
 use Rattle.plan_edit.specs.Arguments.{value_given, variant_written, written_variant}
-use Rattle.plan_edit.specs.PlanForm.{is_dot, is_free_name, is_variant_text, or_text, or_truth, value_of_json, variant_of_word, whole_number}
+use Rattle.plan_edit.specs.PlanForm.{is_dot, is_free_name, is_variant_text, value_of_json, variant_of_word, whole_number}
 use Rattle.plan_edit.specs.ShownPlan.{json_of_number, json_of_value, word_of_variant}
 use Rattle.report_text.specs.LoadedAgain.{is_free_enum}
-use Rattle.report_text.proofs.FirstPlaces.{both, first_place, is_not, place_of_name, position_is, same_is, same_itself}
+use Rattle.report_text.proofs.FirstPlaces.{both, first_place, place_of_name, position_is, same_is}
 use Rattle.report_text.proofs.RawArguments.{raw_of}
 
 -- ---- numbers

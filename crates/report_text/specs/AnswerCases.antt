@@ -3,9 +3,6 @@ use Rattle.std.specs.Prelude.{◌≡◌, ℕ, Bool, true, false, List, [], ◌�
 use Rattle.std.specs.Fmt.{digits}
 use Rattle.json.specs.Print.{escape_byte}
 use Rattle.aerie_base.specs.Paths.{root}
-use Rattle.aerie_base.specs.declared.operands.CellRead.TheVariants.{Counter}
-use Rattle.aerie_base.specs.declared.models.Resource.TheVariants.{Discrete}
-use Rattle.aerie_base.specs.declared.models.model.Parts.{Parts}
 use Rattle.aerie_base.specs.declared.plans.Edge.TheVariants.{End}
 use Rattle.aerie_base.specs.declared.plans.Plan.{Plan}
 use Rattle.aerie_base.specs.declared.values.Value.TheVariants.{Int, Variant}
@@ -20,14 +17,12 @@ use Rattle.plan_merge.specs.declared.answers.ConflictKind.TheVariants.{Both}
 use Rattle.plan_merge.specs.declared.answers.MergeError.TheVariants as merge
 use Rattle.run_data.specs.KeptRuns.{KeptRun}
 use Rattle.run_data.specs.declared.runs.Outcome.TheVariants.{Completed}
-use Rattle.run_data.specs.declared.runs.Run.{Run}
 use Rattle.report_text.specs.JournalLines.{journal_data}
 use Rattle.report_text.specs.Replies.{reply_data}
 use Rattle.report_text.specs.ReportCases.{camera}
 use Rattle.report_text.specs.declared.answers.Answer.{Answer}
 use Rattle.report_text.specs.declared.answers.Answer.TheVariants as answer
 use Rattle.report_text.specs.declared.answers.Report.{Report}
-use Rattle.report_text.specs.declared.answers.SequenceReport.{SequenceReport}
 
 -- the line of an answer to the command 2 of the client `ops`, on the branch `main`
 abbrev told : Bool → Answer → List ℕ

@@ -1,8 +1,7 @@
 -- What is told of a command, as the value that is printed: whose it is, and under `ok` what came of it or under `refused` why
 -- nothing did.
-use Rattle.std.specs.Prelude.{ℕ, Bool, List, [], ◌∷◌, codes, map, option_map}
-use Rattle.serde_json.specs.Data.{Data, array, boolean, member, no_members, object, string}
-use Rattle.serde_json.specs.View.{items_of}
+use Rattle.std.specs.Prelude.{ℕ, Bool, List, [], ◌∷◌, codes, option_map}
+use Rattle.serde_json.specs.Data.{Data, member, no_members, object, string}
 use Rattle.aerie_base.specs.declared.models.model.Parts.{Parts}
 use Rattle.aerie_base.specs.declared.plans.Plan.{Plan}
 use Rattle.aerie_text.specs.Json.{object_of}

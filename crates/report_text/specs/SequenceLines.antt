@@ -1,5 +1,5 @@
 -- The commands that the spans of a run give, as the value that is printed.
-use Rattle.std.specs.Prelude.{ℕ, ℤ, List, [], ◌∷◌, codes, map, option_map}
+use Rattle.std.specs.Prelude.{ℕ, ℤ, List, [], ◌∷◌, codes, map}
 use Rattle.serde_json.specs.Data.{Data, array, number, string}
 use Rattle.serde_json.specs.Find.{of_integer}
 use Rattle.serde_json.specs.View.{items_of}

@@ -16,7 +16,7 @@ use Rattle.run_data.specs.declared.runs.Run.{Run}
 use Rattle.run_data.specs.Batches.{Batch, limit, failed, committed, batch, judged as judged_batch, when_within, when_no_fault, unless_out, Blame, fault_in, least_fault, lesser, blamed, tree_of, cost_of, by_path}
 use Rattle.run_data.specs.Endings.{after_batch, gone_on}
 use Rattle.run_data.specs.Frames.{Made, Making, made_by_all}
-use Rattle.run_data.specs.Fresh.{SimulationState, start, next_state, next_by, woken_or_moved, moved, to_time, to_end, after_outcome, least_due, below, IsReached}
+use Rattle.run_data.specs.Fresh.{SimulationState, start, next_by, woken_or_moved, moved, to_time, to_end, after_outcome, least_due, below, IsReached}
 use Rattle.run_data.specs.Jobs.{AreCellsOf}
 use Rattle.run_data.specs.Tasks.{ready, Task, Table, task_at, on_each, after_frame, after_frames, children_made, children_in, ready_jobs, woken, rested}
 use Rattle.run_data.specs.Transitions.{Next, more, finished, begins, onward}

@@ -7,7 +7,6 @@ use Rattle.aerie_base.specs.declared.faults.Fault.TheVariants.{Range}
 use Rattle.aerie_base.specs.declared.models.model.Parts.{Parts}
 use Rattle.aerie_base.specs.Paths.{path_cmp}
 use Rattle.effect_cells.specs.declared.effects.CellState.{CellState}
-use Rattle.effect_cells.specs.declared.effects.Effect.{Effect}
 use Rattle.effect_cells.specs.declared.trees.Tree.{Tree}
 use Rattle.effect_cells.specs.Cells.{committed_cells, first_out}
 use Rattle.effect_cells.specs.Worth.{worth_of}

@@ -1,5 +1,5 @@
 -- Rules that are gathered part by part belong to the parts.
-use Rattle.std.proofs.Common.{◌≡◌, ℕ, suc, ◌+◌, ◌<◌, IsTrue, Bool, List, [], ◌∷◌, ◌++◌, take, drop, drop-cons, length, get_or, add-one, Option, Some, None, Result, Ok, Err, IfOk, refl, sym, ap, subst, ◌∙◌, append-nil}
+use Rattle.std.proofs.Common.{◌≡◌, ℕ, suc, ◌+◌, ◌<◌, IsTrue, Bool, List, [], ◌∷◌, ◌++◌, take, drop, drop-cons, length, get_or, add-one, Option, Some, None, Ok, Err, IfOk, refl, sym, ap, subst, ◌∙◌, append-nil}
 use Rattle.std.proofs.lemmas.List.{take_more}
 use Rattle.session_reader.specs.Sections.{TokenRange}
 use Rattle.session_judge.specs.FirstRefused.{RulesAnswer, SectionRefusal, accepted_rules, begin_of, first_of_both, first_refused_section, in_front_of, refusal_in, unless_section_refused}

@@ -1,6 +1,6 @@
 -- The datasets of a session are series.
-use Rattle.std.proofs.Common.{◌≡◌, ℕ, ◌<◌, ◌≤◌, ℤ, IsTrue, Bool, true, false, ◌&&◌, List, [], ◌∷◌, map, All, refl, nat_eq, nat_lt}
-use Rattle.std.specs.List.{AllByRecursion, list_all}
+use Rattle.std.proofs.Common.{◌≡◌, ℕ, ℤ, IsTrue, Bool, true, false, ◌&&◌, List, [], ◌∷◌, map, All, refl, nat_eq, nat_lt}
+use Rattle.std.specs.List.{list_all}
 use Rattle.std.specs.Int.RustNames.{unsigned_abs}
 use Rattle.std.proofs.lemmas.Bool.{lt-ltb, le-leb}
 use Rattle.std.proofs.lemmas.List.Elements.{All-head, All-tail}

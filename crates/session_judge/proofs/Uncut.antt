@@ -1,5 +1,5 @@
 -- A text that cannot be cut into tokens is no session.
-use Rattle.std.proofs.Common.{◌≡◌, ℕ, List, Result, Ok, Err, take, length, sym, subst, ◌∙◌}
+use Rattle.std.proofs.Common.{◌≡◌, ℕ, List, Result, Ok, Err, take, length, subst}
 use Rattle.aerie_base.specs.declared.places.Place.{Place}
 use Rattle.aerie_text.specs.Places.{place_of}
 use Rattle.aerie_text.specs.Tokens.{tokens_of}

@@ -1,5 +1,5 @@
 -- Rules of a session's models.
-use Rattle.std.specs.Prelude.{IsTrue, Bool, List, [], ◌∷◌, Result}
+use Rattle.std.specs.Prelude.{IsTrue, Bool, List, [], ◌∷◌}
 use Rattle.std.specs.List.{list_all}
 use Rattle.aerie_base.specs.declared.models.model.Parts.{Parts}
 use Rattle.constraints.specs.OfModel.{is_constraint}

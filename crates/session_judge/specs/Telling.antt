@@ -1,5 +1,5 @@
 -- How a refusal is told: its name, and what else there is of it.
-use Rattle.std.specs.Prelude.{◌≡◌, ℕ, Bool, ◌&&◌, List, [], ◌∷◌, Some, None, codes, nat_eq, if◌then◌else◌}
+use Rattle.std.specs.Prelude.{ℕ, Bool, ◌&&◌, List, [], ◌∷◌, Some, None, codes, nat_eq, if◌then◌else◌}
 use Rattle.aerie_base.specs.declared.places.Place.{Place}
 use Rattle.aerie_text.specs.Marks.{slice_of}
 use Rattle.aerie_text.specs.Places.{place_of}

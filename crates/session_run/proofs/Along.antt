@@ -1,5 +1,5 @@
 -- The entries of a turn are those of the journal that are of its client and of its command, since no two turns are of the same.
-use Rattle.std.proofs.Common.{◌≡◌, ℕ, zero, suc, ◌+◌, ◌<◌, ◌≤◌, ◌⊎◌, inl, inr, ◌≢◌, true, false, List, [], ◌∷◌, ◌++◌, map, None, refl, sym, ap, ◌∙◌, subst, nat_eq, arith, append_assoc}
+use Rattle.std.proofs.Common.{◌≡◌, ℕ, zero, suc, ◌+◌, ◌≤◌, ◌⊎◌, inl, inr, ◌≢◌, true, false, List, [], ◌∷◌, ◌++◌, map, None, refl, sym, ap, ◌∙◌, nat_eq, arith, append_assoc}
 use Rattle.std.specs.List.{AllByRecursion, filter}
 use Rattle.std.proofs.lemmas.List.{append-nil}
 use Rattle.std.proofs.lemmas.List.Elements.{filter-append}
@@ -16,7 +16,7 @@ use Rattle.client_work.specs.Told.{command_told}
 use Rattle.session_run.specs.Answers.{answers_along, AreAnswered}
 use Rattle.session_run.specs.Turning.{AreTurns}
 use Rattle.session_run.proofs.Rounds.{all_by, none_by}
-use Rattle.session_run.proofs.Telling.{all_of, AreOf, none_of, of_command, of_number, of_weaker}
+use Rattle.session_run.proofs.Telling.{all_of, none_of, of_command, of_number, of_weaker}
 
 -- ---- no two turns are of the same command
 

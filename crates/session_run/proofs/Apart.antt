@@ -6,14 +6,13 @@ use Rattle.aerie_base.specs.models.Names.{same_name}
 use Rattle.hangar_core.specs.declared.actions.Action.{Action}
 use Rattle.hangar_core.specs.declared.actions.Action.TheVariants.{New, Fork, Drop, Add, Remove, Move, Set, Load, Migrate, Fetch, Attach, Place}
 use Rattle.hangar_core.specs.declared.branches.Branch.{Branch}
-use Rattle.hangar_core.specs.declared.entries.Entry.{Entry}
 use Rattle.hangar_core.specs.declared.replies.Reply.{Reply}
 use Rattle.hangar_core.specs.declared.workspaces.Workspace.{Workspace}
 use Rattle.hangar_core.specs.Journals.{after_entries, Entries, IsReplay}
 use Rattle.hangar_core.specs.laws.Isolation.{AreAlikeOn, BranchesAreIsolated, only_branch, OtherBranchesStay}
-use Rattle.hangar_core.specs.Opening.{dropped_branch, dropped_where}
+use Rattle.hangar_core.specs.Opening.{dropped_where}
 use Rattle.hangar_core.specs.Steps.{step}
-use Rattle.hangar_core.specs.Workspaces.{Answered, branch_named, on_branch, on_found}
+use Rattle.hangar_core.specs.Workspaces.{Answered, branch_named, on_found}
 use Rattle.report_text.specs.declared.answers.Answer.TheVariants as answer
 use Rattle.client_work.specs.Meanings.{ruled_by, simulated}
 use Rattle.session_run.specs.laws.BranchesApart.{BranchesStandApart, entries_on, is_branch, IsOnOneBranch, ReportsTellOfPlans}

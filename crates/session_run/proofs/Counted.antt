@@ -1,5 +1,5 @@
 -- Turn by turn, and round by round, what is told is counted.
-use Rattle.std.proofs.Common.{◌≡◌, ℕ, zero, suc, ◌+◌, ◌≤◌, false, List, [], ◌∷◌, ◌++◌, length, map, Some, None, refl, sym, ap, ◌∙◌, subst, arith, append_assoc, slice_get}
+use Rattle.std.proofs.Common.{◌≡◌, ℕ, suc, ◌+◌, ◌≤◌, false, List, [], ◌∷◌, ◌++◌, length, map, Some, None, refl, sym, ap, ◌∙◌, subst, arith, append_assoc, slice_get}
 use Rattle.std.proofs.lemmas.List.{append-nil}
 use Rattle.hangar_core.specs.declared.commands.Command.{Command}
 use Rattle.hangar_core.specs.Fits.{IsCommand}
@@ -17,7 +17,7 @@ use Rattle.session_summary.specs.Summaries.{summary_of}
 use Rattle.client_work.specs.declared.missions.Mission.{Mission}
 use Rattle.client_work.specs.Meanings.{meanings_of}
 use Rattle.client_work.specs.Told.{command_told}
-use Rattle.client_work.specs.Working.{HasGained, IsAtWork, own_entries}
+use Rattle.client_work.specs.Working.{IsAtWork, own_entries}
 use Rattle.session_run.specs.Answers.{answers_along, AreAnswered, CountsRound, CountsTurn, HasCounted, HasCountedUntil, serial_answers}
 use Rattle.session_run.specs.Missions.{all_commands, mission_of, opening_of, session_meanings}
 use Rattle.session_run.specs.Performed.{serial_journal}

@@ -1,5 +1,5 @@
 -- The constraints of each report that is told are of the model of its run.
-use Rattle.std.proofs.Common.{◌≡◌, IfOk, OnOk, ℕ, zero, suc, Bool, true, false, IsTrue, List, [], ◌∷◌, Option, Some, None, Result, Ok, Err, if◌then◌else◌, sym, subst, slice_get, refl}
+use Rattle.std.proofs.Common.{◌≡◌, IfOk, OnOk, ℕ, zero, suc, Bool, true, false, IsTrue, List, [], ◌∷◌, Option, None, Result, Ok, Err, if◌then◌else◌, slice_get, refl}
 use Rattle.std.specs.List.{AllByRecursion, list_all}
 use Rattle.aerie_base.specs.declared.plans.Plan.{Plan}
 use Rattle.constraints.specs.OfModel.{is_constraint}

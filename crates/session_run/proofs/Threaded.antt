@@ -1,11 +1,11 @@
 -- When all works are done and all passes are taken back, the text is that of the session along a journal that fits.
-use Rattle.std.proofs.Common.{String, Global, get_or, ◌≡◌, ℕ, zero, suc, ◌+◌, ◌<◌, ◌≤◌, Bool, List, [], ◌∷◌, ◌++◌, length, map, Option, Some, None, IfSome, refl, sym, ap, ◌∙◌, subst, arith, slice_get}
+use Rattle.std.proofs.Common.{String, Global, get_or, ◌≡◌, ℕ, zero, suc, ◌+◌, ◌<◌, Bool, List, [], ◌∷◌, ◌++◌, length, map, Option, Some, None, IfSome, refl, sym, ap, ◌∙◌, subst, arith, slice_get}
 use Rattle.std.specs.List.{AllByRecursion, filter}
 use Rattle.std.specs.String.{string_bytes}
 use Rattle.std.proofs.lemmas.Option.{slice_get_within}
 use Rattle.aerie_text.specs.Json.{line_of}
 use Rattle.hangar_core.specs.declared.commands.Command.{Command}
-use Rattle.hangar_core.specs.Fits.{commands_of, Fits, is_of_client, Meanings}
+use Rattle.hangar_core.specs.Fits.{commands_of, is_of_client, Meanings}
 use Rattle.hangar_core.specs.Journals.{Entries, IsReplay}
 use Rattle.hangar_lock.specs.laws.JoinedPasses.{all_mine, AreNumbered, AreOfOneLock, AreWorked, HasWorkedAlone, joined_with_all, JoinedPassesAreWhole, JoinedPassesFit, JoinedPassesHaveAll}
 use Rattle.hangar_lock.specs.Passes.{first_pass, IsWhole, joined_with, LockView, PassView}
@@ -15,15 +15,14 @@ use Rattle.session_reader.specs.declared.session.Client.{Client}
 use Rattle.session_judge.specs.declared.judged.JudgedSession.{JudgedSession}
 use Rattle.client_work.specs.declared.missions.Mission.{Mission}
 use Rattle.client_work.specs.laws.ClientsWork.{PassesHaveTheirEntries, ToldWorksAreDone}
-use Rattle.client_work.specs.Meanings.{meanings_of}
 use Rattle.session_reader.specs.FewClients.{AreFewClients}
 use Rattle.client_work.specs.Working.{IsAtWork, IsWorkDone, IsWorkTold, own_entries}
 use Rattle.session_run.specs.declared.on_threads.Done.{Done}
 use Rattle.session_run.specs.declared.on_threads.Work.{Work}
 use Rattle.session_run.specs.Joined.{joined_texts}
 use Rattle.session_run.specs.Missions.{all_commands, mission_of, opening_of, session_meanings}
-use Rattle.session_run.specs.Performed.{FitsSession, IsPerformed}
-use Rattle.session_run.specs.Texts.{client_numbered, clients_text}
+use Rattle.session_run.specs.Performed.{IsPerformed}
+use Rattle.session_run.specs.Texts.{client_numbered}
 use Rattle.session_run.specs.Works.{AreDone, AreOf, AreWorksOf, CanWork, numbered_pass, passes_of, split_often, works_texts}
 use Rattle.session_run.proofs.Finished.{AreTold, joined}
 use Rattle.session_run.proofs.Rounds.{get_mapped, mapped_length, none_some, same_some}

@@ -1,5 +1,4 @@
-use Rattle.std.proofs.Common.{◌∙◌, ap, Err, sym, subst}
-use Rattle.session_judge.specs.Judging.{IsJudged}
+use Rattle.std.proofs.Common.{◌∙◌, ap, Err, sym}
 use Rattle.session_judge.proofs.Whole.{by_text, no_text, too_large}
 use Rattle.session_judge.proofs.judging.judge.Goals as goal
 

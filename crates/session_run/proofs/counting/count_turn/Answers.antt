@@ -1,4 +1,4 @@
-use Rattle.std.proofs.Common.{◌≡◌, ◌∙◌, ℕ, [], ◌∷◌, ◌++◌, Option, sym, ap, subst}
+use Rattle.std.proofs.Common.{◌∙◌, ℕ, [], ◌∷◌, ◌++◌, Option, sym, ap, subst}
 use Rattle.report_text.specs.declared.answers.Answer.{Answer}
 use Rattle.session_summary.specs.Summaries.{HasItsConstraints, summary_of}
 use Rattle.client_work.specs.Told.{command_told, count_told}

@@ -1,4 +1,4 @@
-use Rattle.std.proofs.Common.{◌≡◌, ◌<◌, ◌+◌, ◌≤◌, ℕ, min, Result, Ok, Err, OnOk, arith}
+use Rattle.std.proofs.Common.{◌≡◌, ◌≤◌, ℕ, min, Result, Ok, Err, OnOk, arith}
 use Rattle.run_data.specs.Waves.{RoseAlike, last_count}
 use Rattle.bench.proofs.bench.Bench.simulate_anew.Goals as goal
 
