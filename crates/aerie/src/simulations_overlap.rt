@@ -2,8 +2,12 @@
 
 use crate::program::with_own_counter;
 use crate::tests::words_in;
-use aerie_edge::{HoldUntil, MemorySink, SureSource};
+use aerie_edge::{Gate, HoldUntil, MemorySink, Point, SureSource};
+use std::alloc::{AllocError, Global};
+use std::sync::Wait;
+use std::sync::atomic::{AtomicBool, Ordering};
 use std::test::Fail;
+use std::thread::{Threads, yield_now};
 
 /// Two clients who each simulate a branch of their own.
 const APART: &[u8] =
@@ -13,19 +17,97 @@ client a { fork x from main; simulate x; }
 client b { fork y from main; simulate y; }
 "#;
 
+/// At which turn a simulation that waits for another goes on without it.
+const MOST_TURNS: u64 = 1_000_000_000;
+
+/// A client's simulation has started; the other's had started before it went on.
+#[derive(Drop)]
+struct Visit {
+    started: AtomicBool,
+    met: AtomicBool,
+}
+
+impl Visit {
+    fn none() -> Visit {
+        Visit {
+            started: AtomicBool::new(false),
+            met: AtomicBool::new(false),
+        }
+    }
+
+    fn wait_for(&self, other: &Visit) {
+        self.started.store(true, Ordering::SeqCst);
+        for _ in 0..MOST_TURNS {
+            if other.started.load(Ordering::SeqCst) {
+                self.met.store(true, Ordering::SeqCst);
+                return;
+            }
+            yield_now();
+        }
+    }
+}
+
+/// A gate that holds the first simulation of each of two clients at its start until the other's has started.
+#[derive(Drop)]
+struct Meeting {
+    first: Visit,
+    second: Visit,
+}
+
+impl Meeting {
+    fn new() -> Meeting {
+        Meeting {
+            first: Visit::none(),
+            second: Visit::none(),
+        }
+    }
+
+    /// Each has waited for the other, and not in vain: no order of the two one after another comes to this.
+    fn came_about(&self) -> bool {
+        self.first.met.load(Ordering::SeqCst) && self.second.met.load(Ordering::SeqCst)
+    }
+}
+
+impl Gate for Meeting {
+    fn at(&self, client: u32, _command: u32, point: Point) {
+        match point {
+            Point::Starts if client == 0 => self.first.wait_for(&self.second),
+            Point::Starts => self.second.wait_for(&self.first),
+            Point::Ends => {}
+        }
+    }
+}
+
+/// The status of the program where it performs the session with this gate.
+fn status_at<R: Threads + Wait + Sync, G: Gate>(
+    rt: &R,
+    alloc: Global,
+    gate: &G,
+) -> Result<u8, AllocError> {
+    let words = words_in(alloc, "run")?;
+    let mut source = SureSource::new(Vec::from_slice(alloc, APART)?);
+    let mut sink = MemorySink::new(alloc, usize::MAX, Vec::new(alloc));
+    Ok(with_own_counter(rt, alloc, &words, &mut source, &mut sink, gate))
+}
+
 /// The first client's simulation is held at its start until the second's has ended. That comes only where clients work beside each
-/// other, and the turn is not held through a simulation.
+/// other.
 #[test]
 fn simulations_overlap(rt: HostRuntime) -> Result<(), Fail> {
     let alloc = rt.alloc();
-    let words = words_in(alloc, "run")?;
-    let gate = HoldUntil::new(0, 1, 1_000_000_000);
-    let mut source = SureSource::new(Vec::from_slice(alloc, APART)?);
-    let mut sink = MemorySink::new(alloc, usize::MAX, Vec::new(alloc));
-    assert_eq!(rt;
-        with_own_counter(&rt, alloc, &words, &mut source, &mut sink, &gate),
-        0
-    );
+    let gate = HoldUntil::new(0, 1, MOST_TURNS);
+    assert_eq!(&rt; status_at(&rt, alloc, &gate)?, 0);
     assert!(&rt; gate.ended());
+    Ok(())
+}
+
+/// Each simulation is held at its start until the other has started. That comes only where clients work beside each other, and none
+/// has the turn while it simulates.
+#[test]
+fn simulations_meet(rt: HostRuntime) -> Result<(), Fail> {
+    let alloc = rt.alloc();
+    let gate = Meeting::new();
+    assert_eq!(&rt; status_at(&rt, alloc, &gate)?, 0);
+    assert!(&rt; gate.came_about());
     Ok(())
 }

@@ -3,9 +3,10 @@ use Rattle.std.proofs.Common.{◌≡◌, ℕ, zero, suc, ◌+◌, List, [], ◌�
 use Rattle.std.proofs.lemmas.Option.{same_Some, none-some}
 use Rattle.aerie_base.specs.declared.models.model.Parts.{Parts}
 use Rattle.run_data.specs.declared.runs.Run.{Run}
+use Rattle.run_data.specs.Spans.{SpanOf}
 use Rattle.profiles.specs.declared.sampling.Profile.{Profile}
 use Rattle.windows.specs.Times.{TimeSet}
-use Rattle.constraints.specs.Sources.{AreProfiles, AreTimes, IsProfile, IsTimesOf}
+use Rattle.constraints.specs.Sources.{AreProfiles, AreTimesIn, IsProfile, IsTimesIn}
 
 module _ {A : Type 0} (P : ℕ → A → Type 0) where
   -- each entry that is there
@@ -39,19 +40,19 @@ pub profiles_none : (model : Parts) (run : Run) → AreProfiles model run []
 profiles_none model run zero profile is = absurd (none-some _ is)
 profiles_none model run (suc n) profile is = absurd (none-some _ is)
 
-pub times_none : (model : Parts) (run : Run) → AreTimes model run []
-times_none model run zero made is = absurd (none-some _ is)
-times_none model run (suc n) made is = absurd (none-some _ is)
+pub times_none : (reach : ℕ) (spans : List SpanOf) → AreTimesIn reach spans []
+times_none reach spans zero made is = absurd (none-some _ is)
+times_none reach spans (suc n) made is = absurd (none-some _ is)
 
 pub profiles_more : (model : Parts) (run : Run) (made new : List (Option Profile)) (one : Option Profile) (number : ℕ) → AreProfiles model run made → length made ≡ number → IfSome one (λ x. IsProfile model run number x) →
     new ≡ made ++ one ∷ [] → AreProfiles model run new
 profiles_more model run made new one number each count last pushed =
     subst (AreProfiles model run) (sym pushed) (each_at (IsProfile model run) made one each (subst (λ k. IfSome one (λ x. IsProfile model run k x)) (sym count) last))
 
-pub times_more : (model : Parts) (run : Run) (made new : List (Option TimeSet)) (one : Option TimeSet) (kind : ℕ) → AreTimes model run made → length made ≡ kind → IfSome one (λ x. IsTimesOf model run kind x) →
-    new ≡ made ++ one ∷ [] → AreTimes model run new
-times_more model run made new one kind each count last pushed =
-    subst (AreTimes model run) (sym pushed) (each_at (IsTimesOf model run) made one each (subst (λ k. IfSome one (λ x. IsTimesOf model run k x)) (sym count) last))
+pub times_more : (reach : ℕ) (spans : List SpanOf) (made new : List (Option TimeSet)) (one : Option TimeSet) (kind : ℕ) → AreTimesIn reach spans made → length made ≡ kind → IfSome one (λ x. IsTimesIn reach spans kind x) →
+    new ≡ made ++ one ∷ [] → AreTimesIn reach spans new
+times_more reach spans made new one kind each count last pushed =
+    subst (AreTimesIn reach spans) (sym pushed) (each_at (IsTimesIn reach spans) made one each (subst (λ k. IfSome one (λ x. IsTimesIn reach spans k x)) (sym count) last))
 
 pub count_more : {A : Type 0} (made new : List A) (one : A) (n : ℕ) → length made ≡ n → new ≡ made ++ one ∷ [] → length new ≡ n + 1
 count_more made new one n count pushed = ap length pushed ∙ longer made ∙ ap (λ k. k + 1) count

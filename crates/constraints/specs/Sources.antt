@@ -29,8 +29,11 @@ pub record IsTimesIn (reach : ℕ) (spans : List SpanOf) (kind : ℕ) (made : Ti
 abbrev pub IsTimesOf : Parts → Run → ℕ → TimeSet → Type 0
 IsTimesOf model run kind made = IsTimesIn run.reach (spans_of model run) kind made
 
+abbrev pub AreTimesIn : ℕ → List SpanOf → List (Option TimeSet) → Type 0
+AreTimesIn reach spans times = (kind : ℕ) (made : TimeSet) → slice_get times kind ≡ Some (Some made) → IsTimesIn reach spans kind made
+
 abbrev pub AreTimes : Parts → Run → List (Option TimeSet) → Type 0
-AreTimes model run times = (kind : ℕ) (made : TimeSet) → slice_get times kind ≡ Some (Some made) → IsTimesOf model run kind made
+AreTimes model run = AreTimesIn run.reach (spans_of model run)
 
 pub record AreSources (sources : Sources) : Type 0 where
   pub fresh : IsFresh sources.model.now sources.run.now.plan sources.run.now.bound sources.run.now

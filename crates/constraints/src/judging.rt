@@ -3,7 +3,7 @@
 ghost use Rattle.std.specs.Prelude.{◌≡◌, ◌≤◌, ◌++◌, IsTrue, true, None, Some, IfOk, OnOk};
 ghost use Rattle.std.specs.List.{All};
 ghost use Rattle.run_data.specs.Fresh.{IsFresh};
-ghost use Rattle.span_table.specs.SpanLaws.{IsInTime};
+ghost use Rattle.span_table.specs.SpanLaws.{AreSpansOf, IsInTime};
 ghost use Rattle.constraints.specs.Judging.{times_held};
 ghost use Rattle.constraints.specs.Local.{is_local as local};
 ghost use Rattle.constraints.specs.OfModel.{is_constraint, is_window};
@@ -21,27 +21,30 @@ use crate::types::{Constraint, Rule, Window};
 use crate::violation::Violation;
 use aerie_base::{List, Model, OutOfMemory, Path, Time};
 use run_data::Run;
-use span_table::{Span, spans};
+use span_table::Span;
 use std::alloc::Global;
 use windows::Windows;
 
 /// The violations of a constraint over a fresh run of its model: the times below the run's reach at which it does not
 /// hold, as maximal intervals; of a rule for each span of a type those of each span by itself, in the order of the spans,
-/// with the path of the span. A span for which there is no such time is not listed.
+/// with the path of the span. A span for which there is no such time is not listed. The caller has found the spans of the run,
+/// once for all constraints.
 pub fn violations(
     alloc: Global,
     model: &Model,
     run: &Run,
+    spans: &[Span],
     constraint: &Constraint,
 ) -> Result<List<Violation>, OutOfMemory>
     requires fresh { IsFresh model.now run.now.plan run.now.bound run.now }
+    requires spans { AreSpansOf model.now run.now spans.now }
     requires constraint { IsTrue (is_constraint model.now constraint.now) }
     ensures { IfOk result (λ found. found ≡ violations_of model.now run.now constraint.now) }
 {
     match &constraint.rule {
-        Rule::Plain(window) => plain(alloc, model, run, window),
-        Rule::Each { kind, window } => each(alloc, model, run, *kind, window),
-        Rule::Forbid(one, other) => forbid(alloc, model, run, *one, *other),
+        Rule::Plain(window) => plain(alloc, model, run, spans, window),
+        Rule::Each { kind, window } => each(alloc, model, run, spans, *kind, window),
+        Rule::Forbid(one, other) => forbid(alloc, model, run, spans, *one, *other),
     }
 }
 
@@ -117,13 +120,15 @@ fn plain(
     alloc: Global,
     model: &Model,
     run: &Run,
+    spans: &[Span],
     window: &Window,
 ) -> Result<List<Violation>, OutOfMemory>
     requires fresh { IsFresh model.now run.now.plan run.now.bound run.now }
+    requires spans { AreSpansOf model.now run.now spans.now }
     requires window { IsTrue (is_window model.now window.now) }
     ensures { IfOk result (AreOfRule model.now run.now (rule.Plain window.now)) }
 {
-    let sources = Sources::of(alloc, model, run, window)?;
+    let sources = Sources::over(alloc, model, run, spans, window)?;
     let times = not_held(alloc, &sources, window, &None)?;
     let found = one_violation(alloc, times)?;
     Ok(found)
@@ -134,14 +139,15 @@ fn forbid(
     alloc: Global,
     model: &Model,
     run: &Run,
+    spans: &[Span],
     one: u16,
     other: u16,
 ) -> Result<List<Violation>, OutOfMemory>
+    requires spans { AreSpansOf model.now run.now spans.now }
     ensures { IfOk result (AreOfRule model.now run.now (rule.Forbid one other)) }
 {
-    let spans = spans(alloc, model, run)?;
-    let all = spans.as_slice();
-    let times = meetings(alloc, all, one, other, run.reach)?;
+    let _ = model.activities();
+    let times = meetings(alloc, spans, one, other, run.reach)?;
     let found = one_violation(alloc, times)?;
     Ok(found)
 }
@@ -281,20 +287,21 @@ fn each(
     alloc: Global,
     model: &Model,
     run: &Run,
+    spans: &[Span],
     kind: u16,
     window: &Window,
 ) -> Result<List<Violation>, OutOfMemory>
     requires fresh { IsFresh model.now run.now.plan run.now.bound run.now }
+    requires spans { AreSpansOf model.now run.now spans.now }
     requires window { IsTrue (is_window model.now window.now) }
     ensures { IfOk result (AreOfRule model.now run.now (rule.Each kind window.now)) }
 {
-    let sources = Sources::of(alloc, model, run, window)?;
-    let spans = spans(alloc, model, run)?;
+    let sources = Sources::over(alloc, model, run, spans, window)?;
     if is_local(window) {
-        let found = each_spliced(alloc, &sources, spans.as_slice(), kind, window)?;
+        let found = each_spliced(alloc, &sources, spans, kind, window)?;
         return Ok(found);
     }
-    let found = each_evaluated(alloc, &sources, spans.as_slice(), kind, window)?;
+    let found = each_evaluated(alloc, &sources, spans, kind, window)?;
     Ok(found)
 }
 

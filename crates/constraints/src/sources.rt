@@ -2,8 +2,9 @@
 
 ghost use Rattle.std.specs.Prelude.{◌≡◌, ◌<◌, length, map, IfOk, IfSome};
 ghost use Rattle.run_data.specs.Fresh.{IsFresh};
-ghost use Rattle.constraints.specs.Sources.{AreProfiles, AreSources, AreTimes, IsProfile, IsTimesIn, IsTimesOf};
+ghost use Rattle.constraints.specs.Sources.{AreProfiles, AreSources, AreTimes, AreTimesIn, IsProfile, IsTimesIn, IsTimesOf};
 ghost use Rattle.span_table.specs.AsDefined.{defined_span};
+ghost use Rattle.span_table.specs.SpanLaws.{AreSpansOf};
 
 use crate::forms::{names_resource, names_some_type, names_type};
 use crate::span_times::type_times;
@@ -43,6 +44,30 @@ impl<'a> Sources<'a> {
     {
         let profiles = profiles_read(alloc, model, run, window)?;
         let times = times_read(alloc, model, run, window)?;
+        Ok(Sources {
+            model,
+            run,
+            profiles,
+            times,
+        })
+    }
+
+    /// The same where the spans of the run are known.
+    pub(crate) fn over(
+        alloc: Global,
+        model: &'a Model,
+        run: &'a Run,
+        spans: &[Span],
+        window: &Window,
+    ) -> Result<Sources<'a>, OutOfMemory>
+        requires fresh { IsFresh model.now run.now.plan run.now.bound run.now }
+        requires spans { AreSpansOf model.now run.now spans.now }
+        ensures model { IfOk result (λ sources. sources.model.now ≡ model.now) }
+        ensures run { IfOk result (λ sources. sources.run.now ≡ run.now) }
+        ensures sources { IfOk result AreSources }
+    {
+        let profiles = profiles_read(alloc, model, run, window)?;
+        let times = times_among(alloc, spans, window, run.reach)?;
         Ok(Sources {
             model,
             run,
@@ -137,6 +162,26 @@ fn type_times_read(
     Ok(Some(made))
 }
 
+/// The times of those of some spans that are of a type that the window names, by the number of the type.
+fn times_among(
+    alloc: Global,
+    spans: &[Span],
+    window: &Window,
+    reach: Time,
+) -> Result<List<Option<Windows>>, OutOfMemory>
+    ensures { IfOk result (AreTimesIn reach (map defined_span spans.now)) }
+{
+    let mut made = List::new(alloc);
+    if !names_some_type(window) {
+        return Ok(made);
+    }
+    for kind in 0..256u16 {
+        let one = type_times_read(alloc, spans, window, kind, reach)?;
+        made.push(one)?;
+    }
+    Ok(made)
+}
+
 /// The times of the spans of each type that the window names, by number.
 fn times_read(
     alloc: Global,
@@ -146,15 +191,10 @@ fn times_read(
 ) -> Result<List<Option<Windows>>, OutOfMemory>
     ensures { IfOk result (AreTimes model.now run.now) }
 {
-    let mut made = List::new(alloc);
     if !names_some_type(window) {
-        return Ok(made);
+        return Ok(List::new(alloc));
     }
     let spans = spans(alloc, model, run)?;
-    let all = spans.as_slice();
-    for kind in 0..256u16 {
-        let one = type_times_read(alloc, all, window, kind, run.reach)?;
-        made.push(one)?;
-    }
+    let made = times_among(alloc, spans.as_slice(), window, run.reach)?;
     Ok(made)
 }

@@ -6,6 +6,7 @@ ghost use Rattle.serde_json.specs.Data.{string};
 ghost use Rattle.constraints.specs.OfModel.{is_constraint};
 ghost use Rattle.json_line.specs.Parts.{data_tokens, member_if_tokens, member_tokens};
 ghost use Rattle.run_data.specs.Fresh.{IsFresh};
+ghost use Rattle.span_table.specs.SpanLaws.{AreSpansOf};
 ghost use Rattle.report_text.specs.ProfileLines.{profiles_data};
 ghost use Rattle.report_text.specs.Reports.{IsReportOf, name_told, report_data};
 ghost use Rattle.report_text.specs.SpanLines.{spans_data};
@@ -20,6 +21,7 @@ use aerie_base::{Model, Name, OutOfMemory};
 use constraints::Constraint;
 use json_line::JsonLine;
 use run_data::Run;
+use span_table::{Span, spans};
 
 /// The name of a model, where it is told.
 #[tactic(auto, unfolding(json_line::specs::Parts::member_if_tokens))]
@@ -56,11 +58,13 @@ fn write_spans_member<'a>(
     line: &mut JsonLine,
     calendar: &Calendar<'a>,
     run: &Run,
+    spans: &[Span],
 ) -> Result<(), OutOfMemory>
+    requires spans { AreSpansOf calendar.now.wording run.now spans.now }
     ensures { OnOk result (line.new ≡ line.old ++ member_tokens (codes "spans") (spans_data calendar.now.wording calendar.now.start run.now)) }
 {
     line.key("spans")?;
-    write_spans(line, calendar, run)
+    write_spans(line, calendar, run, spans)
 }
 
 /// The violations of a run, by their name.
@@ -69,14 +73,16 @@ fn write_violations_member<'a>(
     line: &mut JsonLine,
     wording: &Wording<'a>,
     run: &Run,
+    spans: &[Span],
     constraints: &[Constraint],
 ) -> Result<(), OutOfMemory>
     requires fresh { IsFresh wording.now run.now.plan run.now.bound run.now }
+    requires spans { AreSpansOf wording.now run.now spans.now }
     requires constraints { IsTrue (list_all (is_constraint wording.now) constraints.now) }
     ensures { OnOk result (line.new ≡ line.old ++ member_tokens (codes "violations") (violations_data wording.now run.now constraints.now)) }
 {
     line.key("violations")?;
-    write_violations(line, wording, run, constraints)
+    write_violations(line, wording, run, spans, constraints)
 }
 
 /// The report of a simulation of a branch. Spans, profiles and violations are found once, and dropped when they are written.
@@ -114,6 +120,8 @@ fn write_found<'a>(
     ensures { OnOk result (line.new ≡ line.old ++ data_tokens (report_data branch.now calendar.now.wording named report.now)) }
 {
     let wording = &calendar.wording;
+    let found = spans(wording.alloc(), wording.model(), run)?;
+    let spans = found.as_slice();
     line.begin_object()?;
     line.member("attached", &report.attached)?;
     line.member("branch", branch)?;
@@ -122,8 +130,8 @@ fn write_found<'a>(
     write_profiles_member(line, wording, run)?;
     line.member("reach", &run.reach)?;
     line.member("revision", &report.revision)?;
-    write_spans_member(line, calendar, run)?;
+    write_spans_member(line, calendar, run, spans)?;
     line.member_if("statements", &report.statements)?;
-    write_violations_member(line, wording, run, constraints)?;
+    write_violations_member(line, wording, run, spans, constraints)?;
     line.end_object()
 }

@@ -4,6 +4,7 @@ ghost use Rattle.std.specs.Prelude.{◌≡◌, ◌++◌, OnOk};
 ghost use Rattle.epoch_text.specs.DayTexts.{day_text_of};
 ghost use Rattle.json_line.specs.Parts.{data_tokens};
 ghost use Rattle.span_table.specs.AsDefined.{defined_span};
+ghost use Rattle.span_table.specs.SpanLaws.{AreSpansOf};
 ghost use Rattle.report_text.specs.SpanLines.{span_data, spans_data};
 
 use crate::arguments::Arguments;
@@ -12,7 +13,7 @@ use aerie_base::{OutOfMemory, Time};
 use epoch_text::{Start, push_day_text};
 use json_line::{JsonIn, JsonLine, JsonText};
 use run_data::Run;
-use span_table::{Span, spans};
+use span_table::Span;
 
 /// A plan's start in the calendar, with the wording of its model.
 #[derive(Drop)]
@@ -63,15 +64,16 @@ impl<'a> JsonIn<Calendar<'a>> for Span {
     }
 }
 
-/// The spans of a run, in their order. They are computed once.
+/// The spans of a run, in their order.
 pub fn write_spans<'a>(
     line: &mut JsonLine,
     calendar: &Calendar<'a>,
     run: &Run,
+    spans: &[Span],
 ) -> Result<(), OutOfMemory>
+    requires spans { AreSpansOf calendar.now.wording run.now spans.now }
     ensures { OnOk result (line.new ≡ line.old ++ data_tokens (spans_data calendar.now.wording calendar.now.start run.now)) }
 {
-    let wording = &calendar.wording;
-    let spans = spans(wording.alloc(), wording.model(), run)?;
-    line.list_in(calendar, spans.as_slice())
+    let _ = run.instants.as_slice();
+    line.list_in(calendar, spans)
 }

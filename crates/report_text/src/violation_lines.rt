@@ -5,6 +5,7 @@ ghost use Rattle.std.specs.List.{list_all};
 ghost use Rattle.constraints.specs.OfModel.{is_constraint};
 ghost use Rattle.json_line.specs.Parts.{data_tokens, listed_tokens};
 ghost use Rattle.run_data.specs.Fresh.{IsFresh};
+ghost use Rattle.span_table.specs.SpanLaws.{AreSpansOf};
 ghost use Rattle.report_text.specs.Violations.{constraint_data, interval_data, intervals_data, violation_data, violations_data};
 
 use crate::fields::Alone;
@@ -13,6 +14,7 @@ use aerie_base::{Name, OutOfMemory, Time};
 use constraints::{Constraint, Violation, violations};
 use json_line::{JsonData, JsonIn, JsonLine};
 use run_data::Run;
+use span_table::Span;
 use windows::Windows;
 
 /// An interval of time.
@@ -60,13 +62,15 @@ fn write_constraint<'a>(
     line: &mut JsonLine,
     wording: &Wording<'a>,
     run: &Run,
+    spans: &[Span],
     constraint: &Constraint,
 ) -> Result<(), OutOfMemory>
     requires fresh { IsFresh wording.now run.now.plan run.now.bound run.now }
+    requires spans { AreSpansOf wording.now run.now spans.now }
     requires constraint { IsTrue (is_constraint wording.now constraint.now) }
     ensures { OnOk result (line.new ≡ line.old ++ listed_tokens (constraint_data wording.now run.now constraint.now)) }
 {
-    let found = violations(wording.alloc(), wording.model(), run, constraint)?;
+    let found = violations(wording.alloc(), wording.model(), run, spans, constraint)?;
     let violated = Violated {
         constraint: &constraint.name,
     };
@@ -78,30 +82,35 @@ fn write_constraints<'a>(
     line: &mut JsonLine,
     wording: &Wording<'a>,
     run: &Run,
+    spans: &[Span],
     constraints: &[Constraint],
 ) -> Result<(), OutOfMemory>
     requires fresh { IsFresh wording.now run.now.plan run.now.bound run.now }
+    requires spans { AreSpansOf wording.now run.now spans.now }
     requires constraints { IsTrue (list_all (is_constraint wording.now) constraints.now) }
     ensures { OnOk result (line.new ≡ line.old ++ listed_tokens (flat_map (constraint_data wording.now run.now) constraints.now)) }
 {
     for constraint in constraints {
-        write_constraint(line, wording, run, constraint)?;
+        write_constraint(line, wording, run, spans, constraint)?;
     }
     Ok(())
 }
 
-/// The violations of constraints of the model by a run, in the order of the constraints. Those of each are found once.
+/// The violations of constraints of the model by a run with these spans, in the order of the constraints. Those of each are
+/// found once.
 pub fn write_violations<'a>(
     line: &mut JsonLine,
     wording: &Wording<'a>,
     run: &Run,
+    spans: &[Span],
     constraints: &[Constraint],
 ) -> Result<(), OutOfMemory>
     requires fresh { IsFresh wording.now run.now.plan run.now.bound run.now }
+    requires spans { AreSpansOf wording.now run.now spans.now }
     requires constraints { IsTrue (list_all (is_constraint wording.now) constraints.now) }
     ensures { OnOk result (line.new ≡ line.old ++ data_tokens (violations_data wording.now run.now constraints.now)) }
 {
     line.begin_array()?;
-    write_constraints(line, wording, run, constraints)?;
+    write_constraints(line, wording, run, spans, constraints)?;
     line.end_array()
 }

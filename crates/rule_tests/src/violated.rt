@@ -11,6 +11,7 @@ use crate::runs::{Planned, run_of};
 use aerie_base::{Model, Time};
 use constraints::{Constraint, Violation, violations};
 use run_data::Run;
+use span_table::spans;
 use std::alloc::Global;
 
 /// A model with types of spans of several kinds.
@@ -141,7 +142,8 @@ fn put_violations(
     requires fresh { IsFresh model.now run.now.plan run.now.bound run.now }
     requires constraint { IsTrue (is_constraint model.now constraint.now) }
 {
-    let found = violations(alloc, model, run, constraint).ok()?;
+    let spans = spans(alloc, model, run).ok()?;
+    let found = violations(alloc, model, run, spans.as_slice(), constraint).ok()?;
     for violation in found.as_slice() {
         let copy = violation.copy(alloc).ok()?;
         let one = told(alloc, constraint.name.as_str(), &copy)?;

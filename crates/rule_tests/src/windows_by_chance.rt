@@ -15,7 +15,7 @@ use aerie_base::{Model, Name, Path, Shared, Time};
 use constraints::{Constraint, Rule, Violation, Window, violations, window_times};
 use dataset_in::Series;
 use run_data::Run;
-use span_table::Span;
+use span_table::{Span, spans};
 use std::alloc::Global;
 use std::process::Abort;
 
@@ -196,7 +196,8 @@ fn violations_agree(
     requires constraint { IsTrue (is_constraint model.now constraint.now) }
 {
     let copy = constraint.copy(alloc).ok()?;
-    let found = violations(alloc, model, run, &copy).ok()?;
+    let spans = spans(alloc, model, run).ok()?;
+    let found = violations(alloc, model, run, spans.as_slice(), &copy).ok()?;
     agrees(alloc, sight, &constraint.rule, found.as_slice())
 }
 

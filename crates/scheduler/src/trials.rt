@@ -17,6 +17,7 @@ use goals::{Gap, Goal, Template, is_filled};
 use plan_edit::copy_plan;
 use run_data::laws::{fresh_runs, simulation_ends};
 use run_data::{Kept, Run, Simulator};
+use span_table::spans;
 use std::alloc::Global;
 use std::sync::ledger::Ledger;
 
@@ -132,7 +133,8 @@ fn is_kept_well(
     if !is_kept(goal, constraint) {
         return Ok(true);
     }
-    let found = violations(alloc, model, run, constraint)?;
+    let spans = spans(alloc, model, run)?;
+    let found = violations(alloc, model, run, spans.as_slice(), constraint)?;
     Ok(found.is_empty())
 }
 

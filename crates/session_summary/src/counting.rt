@@ -5,6 +5,7 @@ ghost use Rattle.std.specs.List.{list_all};
 ghost use Rattle.constraints.specs.OfModel.{is_constraint};
 ghost use Rattle.report_text.specs.declared.answers.Answer.TheVariants as told;
 ghost use Rattle.run_data.specs.Fresh.{IsFresh};
+ghost use Rattle.span_table.specs.SpanLaws.{AreSpansOf};
 ghost use Rattle.run_data.specs.Waves.{last_count};
 ghost use Rattle.goals.specs.Goals.{is_completed as completed_by};
 ghost use Rattle.session_summary.specs.Summaries.{HasItsConstraints, counts_otherwise, is_refusal as refuses};
@@ -17,7 +18,7 @@ use goals::GoalStatus;
 use hangar_core::Reply;
 use report_text::{Answer, Report};
 use run_data::{Outcome, Run};
-use span_table::spans;
+use span_table::{Span, spans};
 use std::alloc::Global;
 
 /// Whether a workspace refuses something.
@@ -60,15 +61,17 @@ fn violation_count(
     alloc: Global,
     model: &Model,
     run: &Run,
+    spans: &[Span],
     constraints: &[Constraint],
 ) -> Result<u64, OutOfMemory>
     requires fresh { IsFresh model.now run.now.plan run.now.bound run.now }
+    requires spans { AreSpansOf model.now run.now spans.now }
     requires constraints { IsTrue (list_all (is_constraint model.now) constraints.now) }
     ensures { IfOk result (λ count. count ≡ min (violations_by model.now run.now constraints.now) last_count) }
 {
     let mut count: u64 = 0;
     for constraint in constraints {
-        let found = violations(alloc, model, run, constraint)?;
+        let found = violations(alloc, model, run, spans, constraint)?;
         count = count.saturating_add(found.len() as u64);
     }
     Ok(count)
@@ -88,15 +91,16 @@ fn reported(alloc: Global, report: &Report) -> Result<Summary, OutOfMemory>
 {
     let kept = report.run.get();
     let (model, run) = (kept.model().get(), kept.run());
-    let violations = violation_count(alloc, model, run, report.constraints.get().as_slice())?;
-    let spans = spans(alloc, model, run)?.len() as u64;
+    let found = spans(alloc, model, run)?;
+    let constraints = report.constraints.get().as_slice();
+    let violations = violation_count(alloc, model, run, found.as_slice(), constraints)?;
     let completed = is_completed(&run.outcome);
     Ok(Summary {
         commands: 1,
         completed: if completed { 1 } else { 0 },
         placed: 0,
         refused: 0,
-        spans,
+        spans: found.len() as u64,
         stopped: if completed { 0 } else { 1 },
         violations,
     })

@@ -1,5 +1,5 @@
--- What holds of the spans of a run: one for each activity that began, when each ended, and at which times.
-use Rattle.std.specs.Prelude.{◌≡◌, ℕ, ◌+◌, ◌≤◌, Bool, true, false, List, [], ◌∷◌, Option, Some, None, IfSome, if◌then◌else◌}
+-- What holds of the spans of a run: one for each activity that began, when each ended, and at which times; and which they are.
+use Rattle.std.specs.Prelude.{◌≡◌, ℕ, ◌+◌, ◌≤◌, Bool, true, false, List, [], ◌∷◌, Option, Some, None, IfSome, if◌then◌else◌, map}
 use Rattle.std.specs.List.{All, Contains}
 use Rattle.aerie_base.specs.Paths.{is_prefix}
 use Rattle.aerie_base.specs.declared.models.model.Parts.{Parts}
@@ -7,7 +7,8 @@ use Rattle.run_data.specs.declared.runs.Run.{Run}
 use Rattle.run_data.specs.declared.tasks.BodyId.{BodyId}
 use Rattle.run_data.specs.declared.tasks.BodyId.TheVariants as body
 use Rattle.run_data.specs.Fresh.{IsFresh}
-use Rattle.run_data.specs.Spans.{Timed, same_path, is_of_path, body_ended}
+use Rattle.run_data.specs.Spans.{Timed, same_path, is_of_path, body_ended, spans_of, timed}
+use Rattle.span_table.specs.AsDefined.{defined_span}
 use Rattle.span_table.specs.declared.span.Span.{Span}
 
 -- ---- one for each
@@ -68,3 +69,11 @@ IsInTime reach span = LiesWithin reach span.start span.end
 -- where the run is fresh, each of them is
 abbrev pub AreInTime : Parts → Run → List Span → Type 0
 AreInTime model run spans = IsFresh model run.plan run.bound run → All (IsInTime run.reach) spans
+
+-- ---- all of a run
+
+-- these are the spans of the run, with what others ask of them
+pub record AreSpansOf (model : Parts) (run : Run) (spans : List Span) : Type 0 where
+  pub exact : map defined_span spans ≡ spans_of model run
+  pub one_each : HasOneEach (timed run.instants) spans
+  pub in_time : AreInTime model run spans

@@ -2,7 +2,7 @@ ghost use Rattle.std.specs.Prelude.{◌≡◌, map, IfOk};
 ghost use Rattle.std.specs.List.{All};
 ghost use Rattle.run_data.specs.Spans.{sorted_spans, spans_of, timed};
 ghost use Rattle.span_table.specs.AsDefined.{defined_span};
-ghost use Rattle.span_table.specs.SpanLaws.{AreInTime, HasItsEnd, HasOneEach};
+ghost use Rattle.span_table.specs.SpanLaws.{AreInTime, AreSpansOf, HasItsEnd, HasOneEach};
 
 use crate::ordering::compare;
 use crate::progress::Progress;
@@ -23,6 +23,7 @@ pub fn spans(alloc: Global, model: &Model, run: &Run) -> Result<Vec<Span>, OutOf
     ensures one_each { IfOk result (λ spans. HasOneEach (timed run.now.instants) spans.items) }
     ensures ends { IfOk result (λ spans. All (HasItsEnd (timed run.now.instants)) spans.items) }
     ensures in_time { IfOk result (λ spans. AreInTime model.now run.now spans.items) }
+    ensures found { IfOk result (λ spans. AreSpansOf model.now run.now spans.items) }
 {
     instants_rise();
     let mut progress = Progress::new(alloc);
