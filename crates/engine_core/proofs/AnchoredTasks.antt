@@ -45,7 +45,7 @@ id_itself End to = refl
 pub follows : (edge : Edge) (to : ℕ) (path : List ℕ) (phase : TaskPhase) → IsAnchoredTo to edge path phase → followed_id edge phase ≡ Some to
 follows edge to path phase is = ap (id_of_anchor edge) is ∙ id_itself edge to
 
-anchors_at : (edge : Edge) (tasks : Table) (n : ℕ) (path : List ℕ) (task : Task) → slice_get tasks n ≡ Some (path, task) → slice_get (anchors_of edge tasks) n ≡ Some (followed_id edge task.phase)
+pub anchors_at : (edge : Edge) (tasks : Table) (n : ℕ) (path : List ℕ) (task : Task) → slice_get tasks n ≡ Some (path, task) → slice_get (anchors_of edge tasks) n ≡ Some (followed_id edge task.phase)
 anchors_at edge [] n path task at = absurd (cc)
 anchors_at edge (entry ∷ rest) zero path task at = let k : entry ≡ (path, task) = cc in ap (λ (z : List ℕ × Task). Some (followed_id edge z.1.phase)) k
 anchors_at edge (entry ∷ rest) (suc n) path task at = anchors_at edge rest n path task at

@@ -2,6 +2,7 @@
 use Rattle.std.proofs.Common.{◌≡◌, ℕ, zero, suc, ◌+◌, ◌<◌, ◌≤◌, Bool, true, false, cond, List, [], ◌∷◌, length, Option, Some, None, refl, sym, ap, ◌∙◌, arith, subst, nat_eq, slice_set, if◌then◌else◌}
 use Rattle.std.proofs.lemmas.Bool.Decides.{nat_tests}
 use Rattle.std.specs.List.{slice_get}
+use Rattle.indexmap.specs.Layout.{set_value_at}
 use Rattle.aerie_base.specs.Paths.{child_path, child_of, may_have_children}
 use Rattle.aerie_base.specs.declared.plans.Anchor.{Anchor}
 use Rattle.run_data.specs.Endings.{has_ended, result_of, has_come, back, due_phase, gone_on}
@@ -10,30 +11,28 @@ use Rattle.run_data.specs.laws.GoingOn.{EndsAs, IsQuiet, GoOnInTurn, QuietAfter}
 use Rattle.run_data.specs.laws.NumberedTasks.{sorted_tasks, Distinct, ChangedByNumber}
 use Rattle.engine_core.specs.Phases.{callee_in, anchor_in, returned_to, due_from}
 use Rattle.engine_core.specs.GoingOn.{GoesOnAs, returning, falling_due, AreChangedBelow}
-use Rattle.engine_core.specs.TasksByNumber.{put_task}
-use Rattle.engine_core.specs.declared.tasks.Changed.{Changed}
 use Rattle.engine_core.proofs.ListedTimes.{get_set}
-use Rattle.engine_core.proofs.RestingTasks.{set_put, each_set, within}
+use Rattle.engine_core.proofs.RestingTasks.{each_set, within, value_set}
 
 -- ---- one task
 
-pub caller_goes_on : (table : Table) (now : ℕ) (path : List ℕ) (task : Task) (child : ℕ) (changed : Option Changed) → Some child ≡ callee_in task.phase →
-    changed ≡ returning table path task (child_path path child) → GoesOnAs (gone_on table now) (Some (path, task)) changed
+pub caller_goes_on : (table : Table) (now : ℕ) (path : List ℕ) (task : Task) (child : ℕ) (changed : Option Task) → Some child ≡ callee_in task.phase →
+    changed ≡ returning table task (child_path path child) → GoesOnAs (gone_on table now) (Some (path, task)) changed
 caller_goes_on table now path task child changed calls is = go task.phase refl calls
   where
     go : (phase : TaskPhase) → task.phase ≡ phase → Some child ≡ callee_in phase → GoesOnAs (gone_on table now) (Some (path, task)) changed
     go (calling other into state) e f =
-        by (has_ended table (child_path path child)) refl (λ b g. is ∙ ap (λ t. if t then Some (record { path = path; task = record task { phase = returned_to (result_of (task_at table (child_path path child))) task.phase } }) else None) g)
+        by (has_ended table (child_path path child)) refl (λ b g. is ∙ ap (λ t. if t then Some (record task { phase = returned_to (result_of (task_at table (child_path path child))) task.phase }) else None) g)
       where
         k : child ≡ other
         k = cc
 
         by : (b : Bool) → has_ended table (child_path path child) ≡ b →
-            ((b : Bool) → has_ended table (child_path path child) ≡ b → changed ≡ (if b then Some (record { path = path; task = record task { phase = returned_to (result_of (task_at table (child_path path child))) task.phase } }) else None)) → GoesOnAs (gone_on table now) (Some (path, task)) changed
+            ((b : Bool) → has_ended table (child_path path child) ≡ b → changed ≡ (if b then Some (record task { phase = returned_to (result_of (task_at table (child_path path child))) task.phase }) else None)) → GoesOnAs (gone_on table now) (Some (path, task)) changed
         by true g h =
             let l : has_ended table (child_path path other) ≡ true = subst (λ n. has_ended table (child_path path n) ≡ true) k g in
             subst (GoesOnAs (gone_on table now) (Some (path, task))) (sym (h true g))
-            (refl, sym (rw (e, l, k) refl))
+            (sym (rw (e, l, k) refl))
         by false g h =
             let l : has_ended table (child_path path other) ≡ false = subst (λ n. has_ended table (child_path path n) ≡ false) k g in
             subst (GoesOnAs (gone_on table now) (Some (path, task))) (sym (h false g))
@@ -44,12 +43,12 @@ caller_goes_on table now path task child changed calls is = go task.phase refl c
     go (waiting condition state) e f = absurd (cc)
     go (over result) e f = absurd (cc)
 
-pub anchored_goes_on : (table : Table) (now : ℕ) (path : List ℕ) (task : Task) (anchor : Anchor) (changed : Option Changed) → Some anchor ≡ anchor_in task.phase →
-    changed ≡ falling_due table now path task anchor.to anchor.edge → GoesOnAs (gone_on table now) (Some (path, task)) changed
+pub anchored_goes_on : (table : Table) (now : ℕ) (path : List ℕ) (task : Task) (anchor : Anchor) (changed : Option Task) → Some anchor ≡ anchor_in task.phase →
+    changed ≡ falling_due table now task anchor.to anchor.edge → GoesOnAs (gone_on table now) (Some (path, task)) changed
 anchored_goes_on table now path task anchor changed is_anchored is = go task.phase refl is_anchored
   where
-    falls : (b : Bool) → has_come table anchor.to anchor.edge ≡ b → changed ≡ (if b then Some (record { path = path; task = record task { phase = due_from now task.phase } }) else None)
-    falls b g = is ∙ ap (λ t. if t then Some (record { path = path; task = record task { phase = due_from now task.phase } }) else None) g
+    falls : (b : Bool) → has_come table anchor.to anchor.edge ≡ b → changed ≡ (if b then Some (record task { phase = due_from now task.phase }) else None)
+    falls b g = is ∙ ap (λ t. if t then Some (record task { phase = due_from now task.phase }) else None) g
 
     go : (phase : TaskPhase) → task.phase ≡ phase → Some anchor ≡ anchor_in phase → GoesOnAs (gone_on table now) (Some (path, task)) changed
     go (anchored to edge start state) e f = by (has_come table anchor.to anchor.edge) refl
@@ -60,7 +59,7 @@ anchored_goes_on table now path task anchor changed is_anchored is = go task.pha
         by : (b : Bool) → has_come table anchor.to anchor.edge ≡ b → GoesOnAs (gone_on table now) (Some (path, task)) changed
         by true g =
             let l : has_come table to edge ≡ true = subst (λ (a : Anchor). has_come table a.to a.edge ≡ true) k g in
-            subst (GoesOnAs (gone_on table now) (Some (path, task))) (sym (falls true g)) (refl, sym (rw (e, l) refl))
+            subst (GoesOnAs (gone_on table now) (Some (path, task))) (sym (falls true g)) (sym (rw (e, l) refl))
         by false g =
             let l : has_come table to edge ≡ false = subst (λ (a : Anchor). has_come table a.to a.edge ≡ false) k g in
             subst (GoesOnAs (gone_on table now) (Some (path, task))) (sym (falls false g))
@@ -95,14 +94,21 @@ set_same [] n path task other at is = absurd (cc)
 set_same (entry ∷ rest) zero path task other at is = let k : entry ≡ (path, task) = cc in (λ i. k i ∷ rest) ∙ ap (λ t. (path, t) ∷ rest) (sym is)
 set_same (entry ∷ rest) (suc n) path task other at is = ap (λ t. entry ∷ t) (set_same rest n path task other at is)
 
-pub goes_put : (change : List ℕ → Task → Task) (tasks : Table) (n : ℕ) (found : Option Changed) (changed : Changed) (path : List ℕ) (task : Task) → Distinct tasks →
-    GoesOnAs change (slice_get tasks n) found → found ≡ Some changed → slice_get tasks n ≡ Some (path, task) →
-    put_task tasks changed.path changed.task ≡ slice_set tasks n (path, change path task)
-goes_put change tasks n found changed path task distinct is found_is at =
-    let both = subst (λ o. GoesOnAs change o (Some changed)) at (subst (λ f. GoesOnAs change (slice_get tasks n) f) found_is is) in
-    (λ i. put_task tasks (both.0 i) (both.1 i)) ∙ set_put tasks n path task (change path task) distinct at
+pub goes_put : (change : List ℕ → Task → Task) (tasks : Table) (n : ℕ) (found : Option Task) (gone : Task) (path : List ℕ) (task : Task) →
+    GoesOnAs change (slice_get tasks n) found → found ≡ Some gone → slice_get tasks n ≡ Some (path, task) → set_value_at tasks n gone ≡ slice_set tasks n (path, change path task)
+goes_put change tasks n found gone path task is found_is at =
+    let same = subst (λ o. GoesOnAs change o (Some gone)) at (subst (λ f. GoesOnAs change (slice_get tasks n) f) found_is is) in
+    value_set tasks n path task gone at ∙ ap (λ t. slice_set tasks n (path, t)) same
 
-pub goes_not : (change : List ℕ → Task → Task) (tasks : Table) (n : ℕ) (found : Option Changed) (path : List ℕ) (task : Task) →
+-- where a task goes on, it is there
+pub goes_below : (change : List ℕ → Task → Task) (tasks : Table) (n : ℕ) (found : Option Task) (gone : Task) → GoesOnAs change (slice_get tasks n) found → found ≡ Some gone → n < length tasks
+goes_below change tasks n found gone is found_is = go (slice_get tasks n) refl (subst (λ f. GoesOnAs change (slice_get tasks n) f) found_is is)
+  where
+    go : (o : Option (List ℕ × Task)) → slice_get tasks n ≡ o → GoesOnAs change o (Some gone) → n < length tasks
+    go None e i = absurd i
+    go (Some entry) e i = within tasks n entry e
+
+pub goes_not : (change : List ℕ → Task → Task) (tasks : Table) (n : ℕ) (found : Option Task) (path : List ℕ) (task : Task) →
     GoesOnAs change (slice_get tasks n) found → found ≡ None → slice_get tasks n ≡ Some (path, task) → tasks ≡ slice_set tasks n (path, change path task)
 goes_not change tasks n found path task is found_is at =
     set_same tasks n path task (change path task) at (subst (λ o. GoesOnAs change o None) at (subst (λ f. GoesOnAs change (slice_get tasks n) f) found_is is))

@@ -29,7 +29,9 @@ mod PathTables
 mod PathsAbove
 mod PlanningTasks
 mod PutIndexes
+mod PutTables
 mod PutTasks
+mod QuietFrames
 mod ReadyBatches
 mod ReadyIndex
 mod RestingTasks

@@ -1,5 +1,5 @@
 -- Times by number and the set of them.
-use Rattle.std.proofs.Common.{◌≡◌, ℕ, zero, suc, ◌<◌, ◌≤◌, min, Bool, true, false, cond, not, ◌&&◌, ◌||◌, List, [], ◌∷◌, ◌++◌, length, Option, Some, None, refl, sym, ap, ◌∙◌, arith, subst, nat_eq, ltb, slice_set}
+use Rattle.std.proofs.Common.{◌≡◌, ℕ, zero, suc, ◌+◌, ◌<◌, ◌≤◌, min, Bool, true, false, cond, not, ◌&&◌, ◌||◌, List, [], ◌∷◌, ◌++◌, length, Option, Some, None, refl, sym, ap, ◌∙◌, arith, subst, nat_eq, ltb, slice_set}
 use Rattle.std.proofs.lemmas.Bool.Decides.{nat_tests}
 use Rattle.std.specs.declared.cmp.Ordering.{Ordering}
 use Rattle.std.specs.declared.cmp.Ordering.TheVariants.{Less, Equal, Greater}
@@ -11,7 +11,7 @@ use Rattle.std.specs.BTreeMap.Range.{IsLeBy}
 use Rattle.std.specs.declared.ops.Bound.TheVariants.{Included, Unbounded}
 use Rattle.std.specs.List.{slice_get}
 use Rattle.aerie_base.specs.TimeOrder.{earlier}
-use Rattle.engine_core.specs.Times.{least_time, IsUpToTime, is_this_time, put_at, timed_cmp, has_time, stands_at, AreListed}
+use Rattle.engine_core.specs.Times.{least_time, IsUpToTime, is_this_time, put_at, timed_cmp, has_time, stands_at, AreListed, LeavesOut, ListsToo, ListsAlike}
 
 -- ---- lists by number
 
@@ -39,10 +39,15 @@ set_is_put [] i x below = absurd (omega (arith, below))
 set_is_put (y ∷ ys) zero x below = refl
 set_is_put (y ∷ ys) (suc i) x below = ap (λ rest. y ∷ rest) (set_is_put ys i x (omega (arith, below)))
 
-pub push_is_put : {X : Type 0} (xs : List X) (i : ℕ) (x : X) → length xs ≡ i → xs ++ x ∷ [] ≡ put_at xs i x
-push_is_put [] i x long = refl
-push_is_put (y ∷ ys) zero x long = absurd (omega (arith, long))
-push_is_put (y ∷ ys) (suc i) x long = ap (λ rest. y ∷ rest) (push_is_put ys i x (omega (arith, long)))
+pub push_is_put : {X : Type 0} (xs : List X) (i : ℕ) (x y : X) → length xs ≡ i → slice_set (xs ++ y ∷ []) i x ≡ put_at xs i x
+push_is_put [] zero x y long = refl
+push_is_put [] (suc i) x y long = absurd (omega (arith, long))
+push_is_put (z ∷ zs) zero x y long = absurd (omega (arith, long))
+push_is_put (z ∷ zs) (suc i) x y long = ap (λ rest. z ∷ rest) (push_is_put zs i x y (omega (arith, long)))
+
+pub longer : {X : Type 0} (xs : List X) (x : X) → length (xs ++ x ∷ []) ≡ length xs + 1
+longer [] x = refl
+longer (z ∷ zs) x = let k = longer zs x in omega (arith, k)
 
 -- ---- the set
 
@@ -89,62 +94,62 @@ taken_out s s' until number time e u t n =
 
 -- ---- changes
 
-pub listed_more : (times : List (Option ℕ)) (listed more_ : BTreeSet (ℕ × ℕ)) (time : Option ℕ) (number : ℕ) → AreListed times listed → number ≡ length times →
-    ((t n : ℕ) → has_time more_ t n ≡ (has_time listed t n || (nat_eq number n && is_this_time t time))) → set.IsOrdered timed_cmp more_ →
-    AreListed (times ++ time ∷ []) more_
-listed_more times listed more_ time number are number_is changed sorted = record { sorted = sorted; exact = exact }
+pub this_is : (t : ℕ) (o : Option ℕ) → is_this_time t o ≡ true → o ≡ Some t
+this_is t None h = absurd (cc)
+this_is t (Some u) h = let k : u ≡ t = grind (arith, nat_tests) in ap Some k
+
+-- a number more without a time
+pub listed_more : (times : List (Option ℕ)) (listed : BTreeSet (ℕ × ℕ)) → AreListed times listed → AreListed (times ++ None ∷ []) listed
+listed_more times listed are = record { sorted = are.sorted; exact = exact }
   where
-    none : (n : ℕ) → nat_eq number n ≡ true → slice_get times n ≡ None
+    none : (n : ℕ) → nat_eq (length times) n ≡ true → slice_get times n ≡ None
     none n e = get_past times n (grind (arith, nat_tests))
 
-    exact : (t n : ℕ) → has_time more_ t n ≡ stands_at t (slice_get (times ++ time ∷ []) n)
-    exact t n = changed t n ∙ ap (λ b. b || (nat_eq number n && is_this_time t time)) (are.exact t n) ∙ by (nat_eq number n) refl ∙ sym (ap (stands_at t) (get_push times time n))
+    exact : (t n : ℕ) → has_time listed t n ≡ stands_at t (slice_get (times ++ None ∷ []) n)
+    exact t n = are.exact t n ∙ by (nat_eq (length times) n) refl ∙ sym (ap (stands_at t) (get_push times None n))
       where
-        same : (b : Bool) → nat_eq number n ≡ b → nat_eq (length times) n ≡ b
-        same b e = subst (λ m. nat_eq m n ≡ b) number_is e
+        by : (b : Bool) → nat_eq (length times) n ≡ b → stands_at t (slice_get times n) ≡ stands_at t (cond b (Some None) (slice_get times n))
+        by true e = let k = none n e in rw k refl
+        by false e = refl
 
-        by : (b : Bool) → nat_eq number n ≡ b → (stands_at t (slice_get times n) || (b && is_this_time t time)) ≡ stands_at t (cond (nat_eq (length times) n) (Some time) (slice_get times n))
-        by true e = let k = none n e in let l = same true e in rw (k, l) refl
-        by false e = let l = same false e in rw l (plain (stands_at t (slice_get times n)))
-          where
-            plain : (x : Bool) → (x || false) ≡ x
-            plain true = refl
-            plain false = refl
+-- the same times in another set
+pub listed_alike : (times : List (Option ℕ)) (listed other : BTreeSet (ℕ × ℕ)) → AreListed times listed → ListsAlike listed other → set.IsOrdered timed_cmp other → AreListed times other
+listed_alike times listed other are alike sorted = record { sorted = sorted; exact = λ t n. alike t n ∙ are.exact t n }
 
-pub listed_set : (times : List (Option ℕ)) (listed less more_ : BTreeSet (ℕ × ℕ)) (old time : Option ℕ) (number : ℕ) → AreListed times listed → slice_get times number ≡ Some old →
-    number < length times →
-    ((t n : ℕ) → has_time less t n ≡ (has_time listed t n && not (nat_eq number n && is_this_time t old))) →
-    ((t n : ℕ) → has_time more_ t n ≡ (has_time less t n || (nat_eq number n && is_this_time t time))) → set.IsOrdered timed_cmp more_ →
-    AreListed (slice_set times number time) more_
-listed_set times listed less more_ old time number are was below out in_ sorted = record { sorted = sorted; exact = exact }
+-- the new time of a number is put in, and its old time, which is another, is taken out
+pub listed_set : (times : List (Option ℕ)) (listed more_ less : BTreeSet (ℕ × ℕ)) (old time : Option ℕ) (number : ℕ) → AreListed times listed → slice_get times number ≡ Some old →
+    number < length times → (old ≡ time → ⊥) → ListsToo number time listed more_ → LeavesOut number old more_ less → set.IsOrdered timed_cmp less → AreListed (slice_set times number time) less
+listed_set times listed more_ less old time number are was below apart in_ out sorted = record { sorted = sorted; exact = exact }
   where
-    exact : (t n : ℕ) → has_time more_ t n ≡ stands_at t (slice_get (slice_set times number time) n)
+    exact : (t n : ℕ) → has_time less t n ≡ stands_at t (slice_get (slice_set times number time) n)
     exact t n =
-        in_ t n ∙ ap (λ b. b || (nat_eq number n && is_this_time t time)) (out t n ∙ ap (λ b. b && not (nat_eq number n && is_this_time t old)) (are.exact t n))
+        out t n ∙ ap (λ b. b && not (nat_eq number n && is_this_time t old)) (in_ t n ∙ ap (λ b. b || (nat_eq number n && is_this_time t time)) (are.exact t n))
         ∙ by (nat_eq number n) refl ∙ sym (ap (stands_at t) (get_set times number n time below))
       where
-        both : (x y : Bool) → ((x && not (true && x)) || (true && y)) ≡ y
-        both true true = refl
-        both true false = refl
-        both false true = refl
-        both false false = refl
+        both : (x y : Bool) → is_this_time t old ≡ x → is_this_time t time ≡ y → ((x || (true && y)) && not (true && x)) ≡ y
+        both true true e f = absurd (apart (this_is t old e ∙ sym (this_is t time f)))
+        both true false e f = refl
+        both false true e f = refl
+        both false false e f = refl
 
-        none : (x y z : Bool) → ((x && not (false && y)) || (false && z)) ≡ x
+        none : (x y z : Bool) → ((x || (false && y)) && not (false && z)) ≡ x
         none true y z = refl
         none false y z = refl
 
         by : (b : Bool) → nat_eq number n ≡ b →
-            ((stands_at t (slice_get times n) && not (b && is_this_time t old)) || (b && is_this_time t time)) ≡ stands_at t (cond b (Some time) (slice_get times n))
+            ((stands_at t (slice_get times n) || (b && is_this_time t time)) && not (b && is_this_time t old)) ≡ stands_at t (cond b (Some time) (slice_get times n))
         by true e =
             let m : number ≡ n = grind (arith, nat_tests) in
-            let k : slice_get times n ≡ Some old = subst (λ i. slice_get times i ≡ Some old) m was in rw k (both (is_this_time t old) (is_this_time t time))
-        by false e = none (stands_at t (slice_get times n)) (is_this_time t old) (is_this_time t time)
+            let k : slice_get times n ≡ Some old = subst (λ i. slice_get times i ≡ Some old) m was in rw k (both (is_this_time t old) (is_this_time t time) refl refl)
+        by false e = none (stands_at t (slice_get times n)) (is_this_time t time) (is_this_time t old)
+
+-- a number that has its time already
+pub set_same : {X : Type 0} (xs : List X) (i : ℕ) (x y : X) → slice_get xs i ≡ Some x → x ≡ y → xs ≡ slice_set xs i y
+set_same [] i x y at same = absurd (cc)
+set_same (z ∷ zs) zero x y at same = let k : z ≡ x = cc in ap (λ w. w ∷ zs) (k ∙ same)
+set_same (z ∷ zs) (suc i) x y at same = ap (λ rest. z ∷ rest) (set_same zs i x y at same)
 
 -- ---- the least
-
-pub this_is : (t : ℕ) (o : Option ℕ) → is_this_time t o ≡ true → o ≡ Some t
-this_is t None h = absurd (cc)
-this_is t (Some u) h = let k : u ≡ t = grind (arith, nat_tests) in ap Some k
 
 pub is_this : (t : ℕ) (o : Option ℕ) → o ≡ Some t → is_this_time t o ≡ true
 is_this t o h = rw h (grind (arith, nat_tests))

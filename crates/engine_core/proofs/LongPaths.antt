@@ -11,7 +11,6 @@ use Rattle.run_data.specs.laws.NumberedTasks.{sorted_tasks, Distinct}
 use Rattle.engine_core.specs.Phases.{returned_to}
 use Rattle.engine_core.specs.GoingOn.{returning}
 use Rattle.engine_core.specs.TasksByNumber.{HavePaths}
-use Rattle.engine_core.specs.declared.tasks.Changed.{Changed}
 use Rattle.engine_core.proofs.PathTables.{none_at}
 
 -- a path has two numbers and at most 64 more
@@ -71,10 +70,9 @@ module _ (path : List ℕ) (child : ℕ) (is : IsTrue (is_path path)) (none : ma
       let m = most other.0 (paths i other.0 other.1 at) in let l = long in let e : length (child_path path child) ≡ length other.0 = ap length same in omega (arith, m, l, e))
 
   -- so a call of it has returned with nothing
-  pub no_callee : EndedByNumber → (tasks : Table) (task : Task) (changed : Changed) → Distinct tasks → HavePaths tasks → changed.path ≡ path →
-      changed.task ≡ record task { phase = returned_to None task.phase } → Some changed ≡ returning (sorted_tasks tasks) path task (child_path path child)
-  no_callee by_number tasks task changed distinct paths path_is task_is =
+  pub no_callee : EndedByNumber → (tasks : Table) (task gone : Task) → Distinct tasks → HavePaths tasks → gone ≡ record task { phase = returned_to None task.phase } →
+      Some gone ≡ returning (sorted_tasks tasks) task (child_path path child)
+  no_callee by_number tasks task gone distinct paths gone_is =
       let ended : has_ended (sorted_tasks tasks) (child_path path child) ≡ true = by_number tasks (child_path path child) distinct ∙ none_open tasks paths in
       let result : result_of (task_at (sorted_tasks tasks) (child_path path child)) ≡ None = ap result_of (none_there tasks paths) in
-      (λ i. Some (record { path = path_is i; task = task_is i }))
-      ∙ sym (rw (ended, result) refl)
+      ap Some gone_is ∙ sym (rw (ended, result) refl)

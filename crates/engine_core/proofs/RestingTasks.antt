@@ -1,17 +1,17 @@
 -- The tasks whose delay ends, one after another.
-use Rattle.std.proofs.Common.{◌≡◌, ℕ, zero, suc, ◌+◌, ◌<◌, ◌≤◌, Bool, true, false, cond, List, [], ◌∷◌, length, Option, Some, None, refl, sym, ap, ◌∙◌, arith, subst, nat_eq, slice_set, if◌then◌else◌}
+use Rattle.std.proofs.Common.{◌≡◌, ℕ, zero, suc, ◌+◌, ◌<◌, ◌≤◌, Bool, true, false, cond, List, [], ◌∷◌, length, Option, Some, None, option_map, refl, sym, ap, ◌∙◌, arith, subst, nat_eq, slice_set, if◌then◌else◌}
 use Rattle.std.proofs.lemmas.Bool.Decides.{nat_tests}
 use Rattle.std.specs.Cmp.Lexicographic.{pointwise}
 use Rattle.std.specs.List.{slice_get}
 use Rattle.std.specs.Option.{IfSome}
+use Rattle.indexmap.specs.Layout.{set_value_at}
 use Rattle.aerie_base.specs.TimeOrder.{earlier}
 use Rattle.run_data.specs.Tasks.{TaskPhase, anchored, ready, delayed, waiting, calling, over, Task, Table, on_each, rested, rested_phase}
 use Rattle.run_data.specs.laws.NextTimes.{delay_in, least_delay}
 use Rattle.run_data.specs.laws.NumberedTasks.{Distinct}
 use Rattle.engine_core.specs.Phases.{may_resume, gone_on_from}
 use Rattle.engine_core.specs.Times.{least_time, IsUpToTime, is_this_time, count_of_time, put_at}
-use Rattle.engine_core.specs.TasksByNumber.{put_task, number_for, delays_of, IsChange, resumed_task}
-use Rattle.engine_core.specs.declared.tasks.Changed.{Changed}
+use Rattle.engine_core.specs.TasksByNumber.{put_task, number_for, delays_of, resumed_task}
 use Rattle.engine_core.proofs.ListedTimes.{set_is_put}
 use Rattle.engine_core.proofs.PutTasks.{number_at}
 use Rattle.engine_core.proofs.Watchers.{set_past}
@@ -48,33 +48,48 @@ set_put tasks n path old task distinct at =
     let below : number_for tasks path < length tasks = (let w = within tasks n (path, old) at in omega (arith, k, w)) in
     set_first tasks path task below ∙ ap (λ m. slice_set tasks m (path, task)) k
 
--- what was found and changed, put, is the change set at its number
-pub change_put : (change : List ℕ → Task → Task) (tasks : Table) (n : ℕ) (found : Option Changed) (changed : Changed) (path : List ℕ) (task : Task) → Distinct tasks →
-    IsChange change (slice_get tasks n) found → found ≡ Some changed → slice_get tasks n ≡ Some (path, task) →
-    put_task tasks changed.path changed.task ≡ slice_set tasks n (path, change path task)
-change_put change tasks n found changed path task distinct is found_is at =
-    let both = subst (λ o. IsChange change o (Some changed)) at (subst (λ f. IsChange change (slice_get tasks n) f) found_is is) in
-    (λ i. put_task tasks (both.0 i) (both.1 i)) ∙ set_put tasks n path task (change path task) distinct at
+-- another task at a number, whose path stays
+pub value_set : (tasks : Table) (n : ℕ) (path : List ℕ) (old task : Task) → slice_get tasks n ≡ Some (path, old) → set_value_at tasks n task ≡ slice_set tasks n (path, task)
+value_set [] n path old task at = absurd (cc)
+value_set (entry ∷ rest) zero path old task at = let k : entry ≡ (path, old) = cc in ap (λ (e : List ℕ × Task). (e.0, task) ∷ rest) k
+value_set (entry ∷ rest) (suc n) path old task at = ap (λ t. entry ∷ t) (value_set rest n path old task at)
+
+-- it is the task put by its path
+pub value_put : (tasks : Table) (n : ℕ) (path : List ℕ) (old task : Task) → Distinct tasks → slice_get tasks n ≡ Some (path, old) → set_value_at tasks n task ≡ put_task tasks path task
+value_put tasks n path old task distinct at = value_set tasks n path old task at ∙ sym (set_put tasks n path old task distinct at)
+
+-- a task that was found and goes on, put, is set at its number
+pub resumed_set : (tasks : Table) (n : ℕ) (found : Option Task) (gone : Task) (path : List ℕ) (task : Task) → found ≡ option_map (λ entry. resumed_task entry.1) (slice_get tasks n) →
+    found ≡ Some gone → slice_get tasks n ≡ Some (path, task) → set_value_at tasks n gone ≡ slice_set tasks n (path, resumed_task task)
+resumed_set tasks n found gone path task is found_is at =
+    let k : Some gone ≡ Some (resumed_task task) = sym found_is ∙ is ∙ ap (λ (o : Option (List ℕ × Task)). option_map (λ entry. resumed_task entry.1) o) at in
+    let m : gone ≡ resumed_task task = cc in
+    value_set tasks n path task gone at ∙ ap (λ t. slice_set tasks n (path, t)) m
+
+-- a task that was found is there
+pub resumed_below : (tasks : Table) (n : ℕ) (found : Option Task) (gone : Task) → found ≡ option_map (λ entry. resumed_task entry.1) (slice_get tasks n) → found ≡ Some gone → n < length tasks
+resumed_below tasks n found gone is found_is = go (slice_get tasks n) refl (sym found_is ∙ is)
+  where
+    go : (o : Option (List ℕ × Task)) → slice_get tasks n ≡ o → Some gone ≡ option_map (λ entry. resumed_task entry.1) o → n < length tasks
+    go None e i = absurd (cc)
+    go (Some entry) e i = within tasks n entry e
 
 -- its wake time is set to none
-pub wakes_put : (wakes : List (Option ℕ)) (tasks : Table) (n : ℕ) (found : Option Changed) (changed : Changed) → Distinct tasks → length wakes ≡ length tasks →
-    IsChange (λ path task. resumed_task task) (slice_get tasks n) found → found ≡ Some changed → put_at wakes (number_for tasks changed.path) None ≡ slice_set wakes n None
-wakes_put wakes tasks n found changed distinct long is found_is = go (slice_get tasks n) refl (subst (λ f. IsChange (λ path task. resumed_task task) (slice_get tasks n) f) found_is is)
-  where
-    go : (o : Option (List ℕ × Task)) → slice_get tasks n ≡ o → IsChange (λ path task. resumed_task task) o (Some changed) → put_at wakes (number_for tasks changed.path) None ≡ slice_set wakes n None
-    go None e i = absurd i
-    go (Some entry) e i =
-        let k : number_for tasks changed.path ≡ n = ap (number_for tasks) i.0 ∙ number_at tasks n entry.0 entry.1 distinct e in
-        let w : n < length wakes = (let l = within tasks n entry e in omega (arith, l, long)) in
-        ap (λ m. put_at wakes m None) k ∙ sym (set_is_put wakes n None w)
+pub wakes_put : (wakes : List (Option ℕ)) (tasks : Table) (n : ℕ) → length wakes ≡ length tasks → n < length tasks → put_at wakes n None ≡ slice_set wakes n None
+wakes_put wakes tasks n long below = sym (set_is_put wakes n None (omega (arith, long, below)))
 
-pub wakes_not_put : (wakes : List (Option ℕ)) (tasks : Table) (n : ℕ) (found : Option Changed) → length wakes ≡ length tasks →
-    IsChange (λ path task. resumed_task task) (slice_get tasks n) found → found ≡ None → wakes ≡ slice_set wakes n None
-wakes_not_put wakes tasks n found long is found_is = go (slice_get tasks n) refl (subst (λ f. IsChange (λ path task. resumed_task task) (slice_get tasks n) f) found_is is)
+pub wakes_not_put : (wakes : List (Option ℕ)) (tasks : Table) (n : ℕ) (found : Option Task) → length wakes ≡ length tasks →
+    found ≡ option_map (λ entry. resumed_task entry.1) (slice_get tasks n) → found ≡ None → wakes ≡ slice_set wakes n None
+wakes_not_put wakes tasks n found long is found_is = go (slice_get tasks n) refl (sym found_is ∙ is)
   where
-    go : (o : Option (List ℕ × Task)) → slice_get tasks n ≡ o → IsChange (λ path task. resumed_task task) o None → wakes ≡ slice_set wakes n None
+    go : (o : Option (List ℕ × Task)) → slice_get tasks n ≡ o → None ≡ option_map (λ entry. resumed_task entry.1) o → wakes ≡ slice_set wakes n None
     go None e i = sym (set_past wakes n None (let l = none_past tasks n e in omega (arith, l, long)))
-    go (Some entry) e i = absurd i
+    go (Some entry) e i = absurd (cc)
+
+pub not_there : (tasks : Table) (n : ℕ) (found : Option Task) (path : List ℕ) (task : Task) → found ≡ option_map (λ entry. resumed_task entry.1) (slice_get tasks n) → found ≡ None →
+    slice_get tasks n ≡ Some (path, task) → ⊥
+not_there tasks n found path task is found_is at =
+    let k : None ≡ Some (resumed_task task) = sym found_is ∙ is ∙ ap (λ (o : Option (List ℕ × Task)). option_map (λ entry. resumed_task entry.1) o) at in cc
 
 pub each_set : (change : List ℕ → Task → Task) (tasks : Table) (n : ℕ) (path : List ℕ) (old new : Task) → slice_get tasks n ≡ Some (path, old) → change path new ≡ change path old →
     on_each change (slice_set tasks n (path, new)) ≡ on_each change tasks

@@ -8,28 +8,24 @@ use Rattle.run_data.specs.Endings.{has_ended, result_of, has_come, gone_on}
 use Rattle.run_data.specs.Tasks.{TaskPhase, Task, Table, task_at, on_each}
 use Rattle.run_data.specs.laws.GoingOn.{EndsAs, HasFrame, MayGoOnBy}
 use Rattle.engine_core.specs.Phases.{anchor_in, returned_to, due_from}
-use Rattle.engine_core.specs.declared.tasks.Changed.{Changed}
 use Rattle.aerie_base.specs.declared.plans.Anchor.{Anchor}
 use Rattle.run_data.specs.laws.NumberedTasks.{sorted_tasks}
 
--- a change of what is found at a number; nothing where it stays as it is
-abbrev pub GoesOnAs : (List ℕ → Task → Task) → Option (List ℕ × Task) → Option Changed → Type 0
+-- what the task at a number becomes; nothing where it stays as it is
+abbrev pub GoesOnAs : (List ℕ → Task → Task) → Option (List ℕ × Task) → Option Task → Type 0
 GoesOnAs change None None = Unit {0}
-GoesOnAs change None (Some changed) = ⊥
+GoesOnAs change None (Some gone) = ⊥
 GoesOnAs change (Some entry) None = change entry.0 entry.1 ≡ entry.1
-GoesOnAs change (Some entry) (Some changed) = (changed.path ≡ entry.0) × (changed.task ≡ change entry.0 entry.1)
+GoesOnAs change (Some entry) (Some gone) = gone ≡ change entry.0 entry.1
 
 -- a caller goes on where its callee has ended
-abbrev pub returning : Table → List ℕ → Task → List ℕ → Option Changed
-returning table path task callee =
-    if has_ended table callee
-    then Some (record { path = path; task = record task { phase = returned_to (result_of (task_at table callee)) task.phase } })
-    else None
+abbrev pub returning : Table → Task → List ℕ → Option Task
+returning table task callee =
+    if has_ended table callee then Some (record task { phase = returned_to (result_of (task_at table callee)) task.phase }) else None
 
 -- an anchored directive has its due time where its anchor has come
-abbrev pub falling_due : Table → ℕ → List ℕ → Task → ℕ → Edge → Option Changed
-falling_due table now path task to edge =
-    if has_come table to edge then Some (record { path = path; task = record task { phase = due_from now task.phase } }) else None
+abbrev pub falling_due : Table → ℕ → Task → ℕ → Edge → Option Task
+falling_due table now task to edge = if has_come table to edge then Some (record task { phase = due_from now task.phase }) else None
 
 -- the tasks below a number are as a change leaves them, and the others are to be changed yet
 pub record AreChangedBelow (change : List ℕ → Task → Task) (number : ℕ) (first tasks : Table) : Type 0 where
@@ -78,14 +74,14 @@ IsOverBy path other phase = IsAbove path other phase ⊎ ((to : ℕ) × (is_pref
 
 -- ---- one task
 
--- a caller as it goes on, by the number of its callee
-abbrev pub IsReturning : Table → List ℕ → Task → ℕ → Option Changed → Type 0
-IsReturning tasks path task child changed = changed ≡ returning (sorted_tasks tasks) path task (child_path path child)
+-- a caller of this path as it goes on, by the number of its callee
+abbrev pub IsReturning : Table → List ℕ → Task → ℕ → Option Task → Type 0
+IsReturning tasks path task child gone = gone ≡ returning (sorted_tasks tasks) task (child_path path child)
 
 -- an anchored directive as it goes on
-abbrev pub IsFallingDue : Table → ℕ → List ℕ → Task → Anchor → Option Changed → Type 0
-IsFallingDue tasks now path task anchor changed = changed ≡ falling_due (sorted_tasks tasks) now path task anchor.to anchor.edge
+abbrev pub IsFallingDue : Table → ℕ → Task → Anchor → Option Task → Type 0
+IsFallingDue tasks now task anchor gone = gone ≡ falling_due (sorted_tasks tasks) now task anchor.to anchor.edge
 
 -- what is found at a number as it goes on
-abbrev pub GoesOnIn : Table → ℕ → Option (List ℕ × Task) → Option Changed → Type 0
-GoesOnIn tasks now entry changed = GoesOnAs (gone_on (sorted_tasks tasks) now) entry changed
+abbrev pub GoesOnIn : Table → ℕ → Option (List ℕ × Task) → Option Task → Type 0
+GoesOnIn tasks now entry gone = GoesOnAs (gone_on (sorted_tasks tasks) now) entry gone

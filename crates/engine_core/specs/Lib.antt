@@ -14,6 +14,7 @@ pub mod Phases
 pub mod PlannedTasks
 pub mod RunFrames
 pub mod Standing
+pub mod TaskTables
 pub mod TasksByNumber
 pub mod Times
 pub mod Turns

@@ -16,7 +16,6 @@ use Rattle.effect_cells.specs.declared.effects.CellState.{CellState}
 use Rattle.effect_cells.specs.ReadCells.{reads_cell}
 use Rattle.effect_cells.specs.TouchedCells.{is_cell_among}
 use Rattle.engine_core.specs.Phases.{gone_on_from, followed_id}
-use Rattle.engine_core.specs.declared.tasks.Changed.{Changed}
 use Rattle.run_data.specs.Tasks.{TaskPhase, anchored, ready, delayed, waiting, calling, over, Task, Table, task_at, children_made}
 use Rattle.run_data.specs.laws.EndedTasks.{open_is}
 use Rattle.run_data.specs.laws.NextTimes.{delay_in, wake_in}
@@ -41,13 +40,6 @@ MadeIsSmall table = (path : List ℕ) → children_made (task_at table path) < 2
 -- a task that was delayed or waited goes on
 abbrev pub resumed_task : Task → Task
 resumed_task task = record task { phase = gone_on_from task.phase }
-
--- what is found at a number, changed, with its path
-abbrev pub IsChange : (List ℕ → Task → Task) → Option (List ℕ × Task) → Option Changed → Type 0
-IsChange change None None = Unit {0}
-IsChange change None (Some changed) = ⊥
-IsChange change (Some entry) None = ⊥
-IsChange change (Some entry) (Some changed) = (changed.path ≡ entry.0) × (changed.task ≡ change entry.0 entry.1)
 
 -- ---- delays, open bodies, ready tasks
 

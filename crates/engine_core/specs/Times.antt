@@ -58,6 +58,10 @@ abbrev pub ListsToo : ℕ → Option ℕ → BTreeSet (ℕ × ℕ) → BTreeSet 
 ListsToo number time before after =
     (t n : ℕ) → has_time after t n ≡ (has_time before t n || (nat_eq number n && is_this_time t time))
 
+-- both sets have the same times
+abbrev pub ListsAlike : BTreeSet (ℕ × ℕ) → BTreeSet (ℕ × ℕ) → Type 0
+ListsAlike before after = (t n : ℕ) → has_time after t n ≡ has_time before t n
+
 -- no number has this time
 abbrev pub HasNone : ℕ → List (Option ℕ) → Type 0
 HasNone time times = (number : ℕ) → slice_get times number ≡ Some (Some time) → ⊥

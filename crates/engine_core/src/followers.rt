@@ -1,4 +1,4 @@
-ghost use Rattle.std.specs.Prelude.{◌≡◌, ◌≤◌, ℕ, [], None, Some, length, slice_get, IfOk, IfSome};
+ghost use Rattle.std.specs.Prelude.{◌≡◌, ◌≤◌, ℕ, [], None, Some, length, slice_get, OnOk, IfSome};
 ghost use Rattle.aerie_base.specs.declared.plans.Edge.TheVariants as edge_;
 ghost use Rattle.engine_core.specs.Phases.{id_of_anchor};
 ghost use Rattle.engine_core.specs.Times.{put_at};
@@ -41,15 +41,14 @@ impl Followers {
     }
 
     /// A task with this number has this anchor or none.
-    pub(crate) fn put(self, number: usize, anchor: Option<Anchor>) -> Result<Followers, OutOfMemory>
-        requires starts { number ≤ length self.starts }
-        requires ends { number ≤ length self.ends }
-        ensures starts { IfOk result (λ done. done.starts ≡ put_at self.starts number (id_at_start anchor)) }
-        ensures ends { IfOk result (λ done. done.ends ≡ put_at self.ends number (id_at_end anchor)) }
+    pub(crate) fn put(&mut self, number: usize, anchor: Option<Anchor>) -> Result<(), OutOfMemory>
+        requires starts { number ≤ length self.old.starts }
+        requires ends { number ≤ length self.old.ends }
+        ensures starts { OnOk result (self.new.starts ≡ put_at self.old.starts number (id_at_start anchor)) }
+        ensures ends { OnOk result (self.new.ends ≡ put_at self.old.ends number (id_at_end anchor)) }
     {
-        let Followers { starts, ends } = self;
-        let starts = starts.put(number, id_of(Edge::Start, anchor))?;
-        let ends = ends.put(number, id_of(Edge::End, anchor))?;
-        Ok(Followers { starts, ends })
+        self.starts.put(number, id_of(Edge::Start, anchor))?;
+        self.ends.put(number, id_of(Edge::End, anchor))?;
+        Ok(())
     }
 }

@@ -12,7 +12,7 @@ ghost use Rattle.engine_core.specs.Phases.{anchor_in, callee_in};
 ghost use Rattle.engine_core.specs.GoingOn.{GoesOnAs, GoOnOf, IsAbove, IsAnchoredTo, IsAt, IsBegunBy, IsOverBy, MayGoOnAfter, returning, falling_due, GoesOnIn, IsFallingDue, IsReturning};
 
 use crate::phases::TrackedTask;
-use crate::tasks::{Changed, IndexedTasks};
+use crate::tasks::IndexedTasks;
 use aerie_base::{Anchor, Edge, OutOfMemory, Path, Time, Value};
 use run_data::laws::{endings_go_by_open_bodies, tasks_go_on_in_turn, tasks_stand_by_number};
 use run_data::{Frame, Status};
@@ -29,7 +29,7 @@ fn root_of(alloc: Global, path: &Path) -> Result<Path, OutOfMemory>
 }
 
 /// Whether a body is open after a step that ended so.
-fn is_open_status(status: &Status) -> bool
+pub(crate) fn is_open_status(status: &Status) -> bool
     ensures { result ≡ is_open_status status.now }
 {
     match status {
@@ -77,20 +77,16 @@ impl IndexedTasks {
     fn returned(
         &self,
         alloc: Global,
-        path: &Path,
         task: &TrackedTask,
         callee: &Path,
-    ) -> Result<Option<Changed>, OutOfMemory>
+    ) -> Result<Option<TrackedTask>, OutOfMemory>
         requires { is_some (callee_in task.now.phase) ≡ true }
-        ensures { IfOk result (λ changed. changed ≡ returning (sorted_tasks self.now.tasks) path.now task.now callee.now) }
+        ensures { IfOk result (λ gone. gone ≡ returning (sorted_tasks self.now.tasks) task.now callee.now) }
     {
         if !self.has_ended(callee) {
             return Ok(None);
         }
-        Ok(Some(Changed {
-            path: path.copy(alloc)?,
-            task: task.returned(alloc, self.result(callee))?,
-        }))
+        Ok(Some(task.returned(alloc, self.result(callee))?))
     }
 
     /// The same by the number of the callee.
@@ -100,12 +96,12 @@ impl IndexedTasks {
         path: &Path,
         task: &TrackedTask,
         child: u32,
-    ) -> Result<Option<Changed>, OutOfMemory>
+    ) -> Result<Option<TrackedTask>, OutOfMemory>
         requires { is_some (callee_in task.now.phase) ≡ true }
         ensures { IfOk result (IsReturning self.now.tasks path.now task.now child) }
     {
         match path.child(alloc, child)? {
-            Some(callee) => self.returned(alloc, path, task, &callee),
+            Some(callee) => self.returned(alloc, task, &callee),
             None => self.returned_nothing(alloc, path, task),
         }
     }
@@ -116,18 +112,15 @@ impl IndexedTasks {
         alloc: Global,
         path: &Path,
         task: &TrackedTask,
-    ) -> Result<Option<Changed>, OutOfMemory>
+    ) -> Result<Option<TrackedTask>, OutOfMemory>
         requires calls { is_some (callee_in task.now.phase) ≡ true }
         requires full { may_have_children path.now ≡ false }
-        ensures { IfOk result (λ changed. (child : ℕ) → IsReturning self.now.tasks path.now task.now child changed) }
+        ensures { IfOk result (λ gone. (child : ℕ) → IsReturning self.now.tasks path.now task.now child gone) }
     {
         endings_go_by_open_bodies();
         self.note_distinct();
         let _ = path.children();
-        Ok(Some(Changed {
-            path: path.copy(alloc)?,
-            task: task.returned(alloc, None)?,
-        }))
+        Ok(Some(task.returned(alloc, None)?))
     }
 
     /// An anchored directive with its due time, if its anchor has come.
@@ -135,20 +128,16 @@ impl IndexedTasks {
         &self,
         alloc: Global,
         now: Time,
-        path: &Path,
         task: &TrackedTask,
         anchor: Anchor,
-    ) -> Result<Option<Changed>, OutOfMemory>
+    ) -> Result<Option<TrackedTask>, OutOfMemory>
         requires { is_some (anchor_in task.now.phase) ≡ true }
-        ensures { IfOk result (IsFallingDue self.now.tasks now path.now task.now anchor) }
+        ensures { IfOk result (IsFallingDue self.now.tasks now task.now anchor) }
     {
         if !self.has_come(alloc, anchor.to, anchor.edge)? {
             return Ok(None);
         }
-        Ok(Some(Changed {
-            path: path.copy(alloc)?,
-            task: task.due(alloc, now)?,
-        }))
+        Ok(Some(task.due(alloc, now)?))
     }
 
     /// A task as it goes on, if it does.
@@ -158,13 +147,13 @@ impl IndexedTasks {
         now: Time,
         path: &Path,
         task: &TrackedTask,
-    ) -> Result<Option<Changed>, OutOfMemory>
+    ) -> Result<Option<TrackedTask>, OutOfMemory>
         ensures { IfOk result (GoesOnIn self.now.tasks now (Some (path.now, task.now))) }
     {
         match task.callee() {
             Some(child) => self.caller_gone_on(alloc, path, task, child),
             None => match task.anchor() {
-                Some(anchor) => self.fallen_due(alloc, now, path, task, anchor),
+                Some(anchor) => self.fallen_due(alloc, now, task, anchor),
                 None => Ok(None),
             },
         }
@@ -176,7 +165,7 @@ impl IndexedTasks {
         alloc: Global,
         now: Time,
         number: usize,
-    ) -> Result<Option<Changed>, OutOfMemory>
+    ) -> Result<Option<TrackedTask>, OutOfMemory>
         ensures { IfOk result (GoesOnIn self.now.tasks now (slice_get self.now.tasks number)) }
     {
         match self.entry(number) {
@@ -193,7 +182,7 @@ impl IndexedTasks {
     {
         self.note_distinct();
         match self.gone_on(alloc, now, number)? {
-            Some(changed) => self.put(alloc, changed.path, changed.task),
+            Some(task) => self.put_at(alloc, number, task),
             None => Ok(self),
         }
     }
@@ -327,7 +316,7 @@ impl IndexedTasks {
     }
 
     /// Lets those go on whom the frames of a batch let go on, each of which is looked at once: its own task and, where its body
-    /// has ended, those above it; and who is anchored to its directive is found by an index.
+    /// has ended, those above it; and who is anchored to its directive is found by an index. Most frames let nobody go on.
     fn go_on_after(
         self,
         alloc: Global,
@@ -339,6 +328,9 @@ impl IndexedTasks {
     {
         let mut all = self;
         for frame in frames {
+            if all.stays_by(frame) {
+                continue;
+            }
             all = all.go_on_by(alloc, now, frame)?;
         }
         Ok(all)

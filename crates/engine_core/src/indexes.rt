@@ -1,4 +1,4 @@
-ghost use Rattle.std.specs.Prelude.{◌≡◌, ◌≤◌, ℕ, List, [], false, Some, None, cond, length, IfOk, if◌then◌else◌};
+ghost use Rattle.std.specs.Prelude.{◌≡◌, ◌≤◌, ℕ, List, [], false, Some, None, cond, length, OnOk, if◌then◌else◌};
 ghost use Rattle.std.specs.BTreeMap.{is_at};
 ghost use Rattle.std.specs.BTreeMap as map_;
 ghost use Rattle.std.specs.BTreeSet as set;
@@ -37,59 +37,80 @@ pub(crate) struct Indexes {
     pub(crate) followers: Followers,
 }
 
-/// The set with a path, or without it.
-fn marked(
+/// Puts a path into a set, or takes it out.
+fn mark(
     alloc: Global,
-    mut paths: BTreeSet<Path>,
+    paths: &mut BTreeSet<Path>,
     path: &Path,
     stands: bool,
-) -> Result<BTreeSet<Path>, OutOfMemory>
-    ensures changed { IfOk result (MarksPath path.now stands paths) }
-    ensures sorted { IfOk result (λ s. set.IsOrdered path_cmp s) }
+) -> Result<(), OutOfMemory>
+    ensures changed { OnOk result (MarksPath path.now stands paths.old paths.new) }
+    ensures sorted { OnOk result (set.IsOrdered path_cmp paths.new) }
 {
     if stands {
         paths.insert(path.copy(alloc)?)?;
     } else {
         paths.remove(path);
     }
-    Ok(paths)
+    Ok(())
 }
 
 /// The same of a path of which it is known whether it stands in the set: where that stays, nothing is done.
-fn marked_anew(
+fn mark_anew(
     alloc: Global,
-    paths: BTreeSet<Path>,
+    paths: &mut BTreeSet<Path>,
     path: &Path,
     stood: bool,
     stands: bool,
-) -> Result<BTreeSet<Path>, OutOfMemory>
-    requires { has_path paths path.now ≡ stood }
-    ensures changed { IfOk result (MarksPath path.now stands paths) }
-    ensures sorted { IfOk result (λ s. set.IsOrdered path_cmp s) }
+) -> Result<(), OutOfMemory>
+    requires { has_path paths.old path.now ≡ stood }
+    ensures changed { OnOk result (MarksPath path.now stands paths.old paths.new) }
+    ensures sorted { OnOk result (set.IsOrdered path_cmp paths.new) }
 {
     let _length = paths.len();
     if stood == stands {
-        return Ok(paths);
+        return Ok(());
     }
-    marked(alloc, paths, path, stands)
+    mark(alloc, paths, path, stands)
 }
 
-/// The map with the number of a path, or without the path.
-fn numbered(
-    mut numbers: BTreeMap<Path, usize>,
-    path: Path,
+/// Gives a path a number in a map, or takes the path out.
+fn number_path(
+    alloc: Global,
+    numbers: &mut BTreeMap<Path, usize>,
+    path: &Path,
     number: usize,
     stands: bool,
-) -> Result<BTreeMap<Path, usize>, OutOfMemory>
-    ensures changed { IfOk result (NumbersPath path (if stands then Some number else None) numbers) }
-    ensures sorted { IfOk result (λ m. map_.IsOrdered path_cmp m) }
+) -> Result<(), OutOfMemory>
+    ensures changed { OnOk result (NumbersPath path.now (if stands then Some number else None) numbers.old numbers.new) }
+    ensures sorted { OnOk result (map_.IsOrdered path_cmp numbers.new) }
 {
     if stands {
-        numbers.insert(path, number)?;
+        numbers.insert(path.copy(alloc)?, number)?;
     } else {
-        numbers.remove(&path);
+        numbers.remove(path);
     }
-    Ok(numbers)
+    Ok(())
+}
+
+/// The same of a path of which it is known whether it has this number or none: where that stays, nothing is done.
+fn number_path_anew(
+    alloc: Global,
+    numbers: &mut BTreeMap<Path, usize>,
+    path: &Path,
+    number: usize,
+    stood: bool,
+    stands: bool,
+) -> Result<(), OutOfMemory>
+    requires { number_of_path numbers.old path.now ≡ (if stood then Some number else None) }
+    ensures changed { OnOk result (NumbersPath path.now (if stands then Some number else None) numbers.old numbers.new) }
+    ensures sorted { OnOk result (map_.IsOrdered path_cmp numbers.new) }
+{
+    let _length = numbers.len();
+    if stood == stands {
+        return Ok(());
+    }
+    number_path(alloc, numbers, path, number, stands)
 }
 
 impl Standing {
@@ -125,42 +146,40 @@ impl Indexes {
         }
     }
 
-    /// Indexes with a task at a number and a path where an open body stood or none.
+    /// A task comes to stand at a number and a path, where an open body stood or none, and a ready task or none.
     pub(crate) fn put(
-        self,
+        &mut self,
         alloc: Global,
-        path: Path,
+        path: &Path,
         number: usize,
-        stood: bool,
+        was_open: bool,
+        was_ready: bool,
         standing: Standing,
-    ) -> Result<Indexes, OutOfMemory>
-        requires number { number ≤ length self.delays }
-        requires stood { has_path self.opens path ≡ stood }
-        requires starts { number ≤ length self.followers.starts }
-        requires ends { number ≤ length self.followers.ends }
-        ensures starts { IfOk result (λ done. done.followers.starts ≡ put_at self.followers.starts number (id_at_start standing.anchor)) }
-        ensures ends { IfOk result (λ done. done.followers.ends ≡ put_at self.followers.ends number (id_at_end standing.anchor)) }
-        ensures delays { IfOk result (λ done. done.delays ≡ put_at self.delays number standing.delay) }
-        ensures opens { IfOk result (λ done. MarksPath path standing.is_open self.opens done.opens) }
-        ensures opens_sorted { IfOk result (λ done. set.IsOrdered path_cmp done.opens) }
-        ensures readies { IfOk result (λ done. NumbersPath path (if standing.is_ready then Some number else None) self.readies done.readies) }
-        ensures readies_sorted { IfOk result (λ done. map_.IsOrdered path_cmp done.readies) }
+    ) -> Result<(), OutOfMemory>
+        requires number { number ≤ length self.old.delays }
+        requires open { has_path self.old.opens path.now ≡ was_open }
+        requires ready { number_of_path self.old.readies path.now ≡ (if was_ready then Some number else None) }
+        requires starts { number ≤ length self.old.followers.starts }
+        requires ends { number ≤ length self.old.followers.ends }
+        ensures starts { OnOk result (self.new.followers.starts ≡ put_at self.old.followers.starts number (id_at_start standing.anchor)) }
+        ensures ends { OnOk result (self.new.followers.ends ≡ put_at self.old.followers.ends number (id_at_end standing.anchor)) }
+        ensures delays { OnOk result (self.new.delays ≡ put_at self.old.delays number standing.delay) }
+        ensures opens { OnOk result (MarksPath path.now standing.is_open self.old.opens self.new.opens) }
+        ensures opens_sorted { OnOk result (set.IsOrdered path_cmp self.new.opens) }
+        ensures readies { OnOk result (NumbersPath path.now (if standing.is_ready then Some number else None) self.old.readies self.new.readies) }
+        ensures readies_sorted { OnOk result (map_.IsOrdered path_cmp self.new.readies) }
     {
-        let Indexes {
-            delays,
-            opens,
-            readies,
-            followers,
-        } = self;
-        let delays = delays.put(number, standing.delay)?;
-        let opens = marked_anew(alloc, opens, &path, stood, standing.is_open)?;
-        let readies = numbered(readies, path, number, standing.is_ready)?;
-        let followers = followers.put(number, standing.anchor)?;
-        Ok(Indexes {
-            delays,
-            opens,
-            readies,
-            followers,
-        })
+        self.delays.put(number, standing.delay)?;
+        mark_anew(alloc, &mut self.opens, path, was_open, standing.is_open)?;
+        number_path_anew(
+            alloc,
+            &mut self.readies,
+            path,
+            number,
+            was_ready,
+            standing.is_ready,
+        )?;
+        self.followers.put(number, standing.anchor)?;
+        Ok(())
     }
 }

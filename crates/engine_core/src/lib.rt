@@ -18,6 +18,7 @@ mod ready_jobs;
 mod simulating;
 mod simulation;
 mod stages;
+mod staying;
 mod tasks;
 mod times;
 mod waits;

@@ -1,4 +1,4 @@
-ghost use Rattle.std.specs.Prelude.{◌≡◌, ◌<◌, ◌^◌, [], ◌++◌, IfOk, true, is_some, nat_abs};
+ghost use Rattle.std.specs.Prelude.{◌≡◌, ◌<◌, ◌^◌, [], ◌++◌, IfOk, true, false, None, is_some, nat_abs};
 ghost use Rattle.std.specs.Option.{option_copied};
 ghost use Rattle.run_data.specs.Endings.{is_open, result_of_phase, with_result};
 ghost use Rattle.run_data.specs.Tasks.{ready, children_in, after_delay, task_after, job_if_ready};
@@ -290,6 +290,17 @@ impl TrackedTask {
                 edge: *edge,
             }),
             _ => None,
+        }
+    }
+
+    /// Whether it calls a child or is anchored, so that it goes on where another task ends or begins.
+    pub(crate) fn may_go_on(&self) -> bool
+        ensures { result ≡ false → (None ≡ callee_in self.now.phase) × (None ≡ anchor_in self.now.phase) }
+    {
+        match &self.phase {
+            Phase::Calling { .. } => true,
+            Phase::Anchored { .. } => true,
+            _ => false,
         }
     }
 

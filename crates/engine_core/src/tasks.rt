@@ -1,6 +1,8 @@
-ghost use Rattle.std.specs.Prelude.{◌≡◌, ◌<◌, ◌+◌, ◌^◌, ◌++◌, ℕ, List, [], Some, None, true, false, option_map, length, nat_eq, slice_get, slice_set, IfOk, IfSome};
+ghost use Rattle.std.specs.Prelude.{◌≡◌, ◌<◌, ◌+◌, ◌^◌, ◌++◌, ℕ, List, [], Some, None, true, false, option_map, length, slice_get, slice_set, IfOk, OnOk, IfSome, IsTrue};
 ghost use Rattle.std.specs.Map.Iter.{deref_pair};
 ghost use Rattle.std.specs.Option.{option_copied};
+ghost use Rattle.indexmap.specs.Layout.{set_value_at};
+ghost use Rattle.aerie_base.specs.Paths.{is_path};
 ghost use Rattle.effect_cells.specs.declared.effects.CellState.{CellState};
 ghost use Rattle.run_data.specs.Endings.{has_ended};
 ghost use Rattle.run_data.specs.Tasks.{Task, task_at, ready_jobs, children_made, children_in, after_frame, after_frames, on_each, rested};
@@ -8,9 +10,9 @@ ghost use Rattle.run_data.specs.laws.NextTimes.{least_delay};
 ghost use Rattle.run_data.specs.laws.ReadyTasks.{job_of};
 ghost use Rattle.engine_core.specs.Phases.{may_resume, is_waiting};
 ghost use Rattle.engine_core.specs.Times.{IsUpToTime, least_time, put_at, HasNone};
-ghost use Rattle.run_data.specs.laws.EndedTasks.{open_is};
 ghost use Rattle.run_data.specs.laws.NumberedTasks.{sorted_tasks, Distinct};
-ghost use Rattle.engine_core.specs.TasksByNumber.{put_task, number_for, delays_of, MadeIsSmall, IsChange, resumed_task, AreKept, has_number, anchors_of, HavePaths, KeepsWakes, AreKeptFor, HasTable};
+ghost use Rattle.engine_core.specs.TasksByNumber.{put_task, number_for, delays_of, MadeIsSmall, resumed_task, has_number, anchors_of, HavePaths, KeepsWakes, AreKeptFor, HasTable};
+ghost use Rattle.engine_core.specs.TaskTables.{tracked_in, AreInStep};
 ghost use Rattle.engine_core.specs.Watching.{Drains, Watches, HasOthers, LosesOne};
 
 use crate::indexes::{Indexes, Standing};
@@ -24,32 +26,38 @@ use run_data::Frame;
 use run_data::laws::{endings_go_by_open_bodies, ready_by_index, tasks_stand_by_number};
 use std::alloc::Global;
 use std::marker::Model;
+use std::mem;
 
-/// The tasks of a run, each with a number, in the order in which they came, and indexes of them, so that none of them is
-/// looked for. Contracts see the tasks by number, the wake times that are kept, the numbers of the waiting tasks whose
-/// wake time is to be found anew, and by cell the numbers of those that may wait for it.
+/// The tasks by number, and what goes with them.
 #[derive(Drop)]
-pub(crate) struct IndexedTasks {
+struct TaskTables {
     tasks: IndexMap<Path, TrackedTask>,
     indexes: Indexes,
     waits: Waits,
 }
 
+/// The tasks of a run, each with a number, in the order in which they came, and indexes of them, so that none of them is
+/// looked for. Contracts see the tasks by number, the wake times that are kept, the numbers of the waiting tasks whose
+/// wake time is to be found anew, and by cell the numbers of those that may wait for it. The tables have a place of their
+/// own, since all of this is handed on at each step.
+#[derive(Drop)]
+pub(crate) struct IndexedTasks {
+    tables: Box<TaskTables>,
+}
+
 impl Model for IndexedTasks {
-    ghost use Rattle.std.specs.Prelude.{◌≡◌, length};
     ghost use Rattle.std.specs.Coded.{codes};
     ghost use Rattle.aerie_base.specs.contracts.conditions.Cond as cond_;
-    ghost use Rattle.engine_core.specs.TasksByNumber.{Tracked, AreIndexed, AreFollowed, HavePaths};
-    ghost use Rattle.engine_core.specs.Watching.{numbers_by_cell};
+    ghost use Rattle.engine_core.specs.TasksByNumber.{Tracked};
+    ghost use Rattle.engine_core.specs.TaskTables.{tracked_in, AreInStep};
 
     ghost Value = { Tracked };
 
     ghost coded = { Prim.hlevel (codes, cond_.the_row.coded) };
 
-    ghost view = { λ all. record { tasks = all.tasks.entries; wakes = all.waits.wakes; stale = all.waits.stale.keys; watchers = numbers_by_cell all.waits.watchers.items } };
+    ghost view = { λ all. tracked_in all.tables.value };
 
-    ghost invariant = { λ all. AreIndexed all.tasks.entries all.indexes.delays all.indexes.opens all.indexes.readies × (length all.waits.wakes ≡ length all.tasks.entries)
-        × AreFollowed all.tasks.entries all.indexes.followers.starts all.indexes.followers.ends × HavePaths all.tasks.entries };
+    ghost invariant = { λ all. AreInStep all.tables.value };
 }
 
 /// A task with its path.
@@ -59,43 +67,82 @@ pub(crate) struct Changed {
     pub(crate) task: TrackedTask,
 }
 
-/// Whether the body of a task is open; where there is no task, none is.
-fn open_in(task: &Option<TrackedTask>) -> bool
-    ensures { result ≡ open_is task.now }
+/// Puts a task in the place of that of a number, which is given back.
+fn exchange(
+    tasks: &mut IndexMap<Path, TrackedTask>,
+    number: usize,
+    task: TrackedTask,
+) -> TrackedTask
+    requires { number < length tasks.old.entries }
+    ensures was { option_map (λ entry. entry.1) (slice_get tasks.old.entries number) ≡ Some result }
+    ensures is { tasks.new.entries ≡ set_value_at tasks.old.entries number task }
 {
-    match task {
-        Some(task) => task.is_open(),
-        None => false,
+    match tasks.get_index_mut(number) {
+        Some(place) => mem::replace(place, task),
+        None => unreachable!(),
     }
 }
 
-/// Tasks with one that was put: its number, and whether the body that stood at its path was open.
-#[derive(Drop)]
-struct Inserted {
-    tasks: IndexMap<Path, TrackedTask>,
-    number: usize,
-    stood: bool,
+/// The path of a number.
+fn path_of(tasks: &IndexMap<Path, TrackedTask>, number: usize) -> &Path
+    requires { number < length tasks.now.entries }
+    ensures { option_map (λ entry. entry.0) (slice_get tasks.now.entries number) ≡ Some result.now }
+{
+    match tasks.get_index(number) {
+        Some((path, _)) => path,
+        None => unreachable!(),
+    }
 }
 
-/// Puts a task.
-fn insert(
+/// The task of a number becomes another: in the tables and in all that goes with them.
+fn replace_task(
     alloc: Global,
-    tasks: IndexMap<Path, TrackedTask>,
-    path: &Path,
+    tables: &mut TaskTables,
+    number: usize,
     task: TrackedTask,
-) -> Result<Inserted, OutOfMemory>
-    ensures tasks { IfOk result (λ done. done.tasks.entries ≡ put_task tasks.entries path.now task) }
-    ensures number { IfOk result (λ done. done.number ≡ number_for tasks.entries path.now) }
-    ensures stood { IfOk result (λ done. done.stood ≡ open_is (task_at (sorted_tasks tasks.entries) path.now)) }
+) -> Result<(), OutOfMemory>
+    requires number { number < length tables.old.tasks.entries }
+    requires before { AreInStep tables.old }
+    ensures tasks { OnOk result (tables.new.tasks.entries ≡ set_value_at tables.old.tasks.entries number task) }
+    ensures wakes { OnOk result (tables.new.waits.wakes ≡ put_at tables.old.waits.wakes number None) }
+    ensures stale { OnOk result (is_waiting task.phase ≡ false → tables.new.waits.stale.keys ≡ tables.old.waits.stale.keys) }
+    ensures after { OnOk result (AreInStep tables.new) }
+    ensures kept { OnOk result (KeepsWakes (tracked_in tables.old) (tracked_in tables.new)) }
 {
-    let key = path.copy(alloc)?;
-    let mut tasks = tasks;
-    let (number, old) = tasks.insert_full(key, task)?;
-    Ok(Inserted {
-        tasks,
-        number,
-        stood: open_in(&old),
-    })
+    let standing = Standing::of(&task);
+    let waiting = task.is_waiting();
+    let was = exchange(&mut tables.tasks, number, task);
+    tables.waits.put(number, waiting)?;
+    let path = path_of(&tables.tasks, number);
+    tables.indexes.put(alloc, path, number, was.is_open(), was.is_ready(), standing)?;
+    Ok(())
+}
+
+/// One task more, of a path that has none.
+fn add_task(
+    alloc: Global,
+    tables: &mut TaskTables,
+    path: Path,
+    task: TrackedTask,
+) -> Result<(), OutOfMemory>
+    requires none { task_at (sorted_tasks tables.old.tasks.entries) path ≡ None }
+    requires before { AreInStep tables.old }
+    requires path { IsTrue (is_path path) }
+    ensures tasks { OnOk result (tables.new.tasks.entries ≡ put_task tables.old.tasks.entries path task) }
+    ensures wakes { OnOk result (tables.new.waits.wakes ≡ put_at tables.old.waits.wakes (number_for tables.old.tasks.entries path) None) }
+    ensures stale { OnOk result (is_waiting task.phase ≡ false → tables.new.waits.stale.keys ≡ tables.old.waits.stale.keys) }
+    ensures after { OnOk result (AreInStep tables.new) }
+    ensures kept { OnOk result (KeepsWakes (tracked_in tables.old) (tracked_in tables.new)) }
+{
+    let standing = Standing::of(&task);
+    let waiting = task.is_waiting();
+    let number = tables.tasks.len();
+    tables.waits.put(number, waiting)?;
+    tables
+        .indexes
+        .put(alloc, &path, number, false, false, standing)?;
+    tables.tasks.insert(path, task)?;
+    Ok(())
 }
 
 impl IndexedTasks {
@@ -104,11 +151,22 @@ impl IndexedTasks {
         ensures tasks { IfOk result (λ all. all.tasks ≡ []) }
         ensures kept { IfOk result (λ all. (now : ℕ) → AreKeptFor now cells all) }
     {
-        Ok(IndexedTasks {
+        let tables = TaskTables {
             tasks: IndexMap::new(alloc),
             indexes: Indexes::new(alloc),
             waits: Waits::new(alloc, cells)?,
+        };
+        Ok(IndexedTasks {
+            tables: Box::new(alloc, tables)?,
         })
+    }
+
+    /// The tables, which are in step.
+    fn tables(&self) -> &TaskTables
+        ensures is { tracked_in result.now ≡ self.now }
+        ensures step { AreInStep result.now }
+    {
+        &self.tables
     }
 
     /// Whether a task is ready.
@@ -117,14 +175,14 @@ impl IndexedTasks {
         ensures some { result ≡ true → (cells : List CellState) → ready_jobs cells (sorted_tasks self.now.tasks) ≡ [] → ⊥ }
     {
         ready_by_index();
-        !self.indexes.readies.is_empty()
+        !self.tables().indexes.readies.is_empty()
     }
 
     /// How many tasks there are.
     pub(crate) fn len(&self) -> usize
         ensures { result ≡ length self.now.tasks }
     {
-        self.tasks.len()
+        self.tables().tasks.len()
     }
 
     /// A fact for callers: no two tasks have one path, and each has a kept wake time or none.
@@ -133,7 +191,7 @@ impl IndexedTasks {
         ensures long { length self.now.wakes ≡ length self.now.tasks }
         ensures paths { HavePaths self.now.tasks }
     {
-        let _tasks = &self.tasks;
+        let _tables = self.tables();
     }
 
     /// The number of the task of a path.
@@ -142,14 +200,14 @@ impl IndexedTasks {
         ensures within { IfSome result (λ number. number < length self.now.tasks) }
         ensures none { result ≡ None → task_at (sorted_tasks self.now.tasks) path.now ≡ None }
     {
-        self.tasks.get_index_of(path)
+        self.tables().tasks.get_index_of(path)
     }
 
     /// The path and the task of a number.
     pub(crate) fn entry(&self, number: usize) -> Option<(&Path, &TrackedTask)>
         ensures { option_map deref_pair result ≡ slice_get self.now.tasks number }
     {
-        self.tasks.get_index(number)
+        self.tables().tasks.get_index(number)
     }
 
     /// Whether a task has ended: no open body stands at its path or under it.
@@ -158,7 +216,44 @@ impl IndexedTasks {
     {
         tasks_stand_by_number();
         endings_go_by_open_bodies();
-        !path.has_any_under(&self.indexes.opens)
+        !path.has_any_under(&self.tables().indexes.opens)
+    }
+
+    /// The task of a number becomes another. The wake time of a task that waits now is to be found.
+    pub(crate) fn put_at(
+        self,
+        alloc: Global,
+        number: usize,
+        task: TrackedTask,
+    ) -> Result<IndexedTasks, OutOfMemory>
+        requires { number < length self.tasks }
+        ensures tasks { IfOk result (λ all. all.tasks ≡ set_value_at self.tasks number task) }
+        ensures wakes { IfOk result (λ all. all.wakes ≡ put_at self.wakes number None) }
+        ensures stale { IfOk result (λ all. is_waiting task.phase ≡ false → all.stale ≡ self.stale) }
+        ensures kept { IfOk result (KeepsWakes self) }
+    {
+        let IndexedTasks { mut tables } = self;
+        replace_task(alloc, &mut tables, number, task)?;
+        Ok(IndexedTasks { tables })
+    }
+
+    /// One task more, of a path that has none. The wake time of a task that waits is to be found.
+    pub(crate) fn add(
+        self,
+        alloc: Global,
+        path: Path,
+        task: TrackedTask,
+    ) -> Result<IndexedTasks, OutOfMemory>
+        requires { task_at (sorted_tasks self.tasks) path ≡ None }
+        ensures tasks { IfOk result (λ all. all.tasks ≡ put_task self.tasks path task) }
+        ensures wakes { IfOk result (λ all. all.wakes ≡ put_at self.wakes (number_for self.tasks path) None) }
+        ensures stale { IfOk result (λ all. is_waiting task.phase ≡ false → all.stale ≡ self.stale) }
+        ensures kept { IfOk result (KeepsWakes self) }
+    {
+        let IndexedTasks { mut tables } = self;
+        let _ = path.children();
+        add_task(alloc, &mut tables, path, task)?;
+        Ok(IndexedTasks { tables })
     }
 
     /// The task of a path becomes another, or is one more. The wake time of a task that waits now is to be found.
@@ -173,22 +268,11 @@ impl IndexedTasks {
         ensures stale { IfOk result (λ all. is_waiting task.phase ≡ false → all.stale ≡ self.stale) }
         ensures kept { IfOk result (KeepsWakes self) }
     {
-        let IndexedTasks {
-            tasks,
-            indexes,
-            waits,
-        } = self;
-        let _ = path.children();
-        let standing = Standing::of(&task);
-        let waiting = task.is_waiting();
-        let inserted = insert(alloc, tasks, &path, task)?;
-        let waits = waits.put(inserted.number, waiting)?;
-        let indexes = indexes.put(alloc, path, inserted.number, inserted.stood, standing)?;
-        Ok(IndexedTasks {
-            tasks: inserted.tasks,
-            indexes,
-            waits,
-        })
+        self.note_distinct();
+        match self.number(&path) {
+            Some(number) => self.put_at(alloc, number, task),
+            None => self.add(alloc, path, task),
+        }
     }
 
     /// A task that is anchored to that edge of the directive with an id.
@@ -198,8 +282,8 @@ impl IndexedTasks {
     {
         let id = u64::from(to);
         match edge {
-            Edge::Start => self.indexes.followers.starts.number_at(id),
-            Edge::End => self.indexes.followers.ends.number_at(id),
+            Edge::Start => self.tables().indexes.followers.starts.number_at(id),
+            Edge::End => self.tables().indexes.followers.ends.number_at(id),
         }
     }
 
@@ -208,7 +292,7 @@ impl IndexedTasks {
         ensures some { IfSome result (λ number. has_number self.now.stale number ≡ true) }
         ensures none { result ≡ None → self.now.stale ≡ [] }
     {
-        match self.waits.stale.first() {
+        match self.tables().waits.stale.first() {
             Some(number) => Some(*number),
             None => None,
         }
@@ -220,7 +304,7 @@ impl IndexedTasks {
         ensures there { IfSome result (λ first. slice_get self.now.wakes first.1 ≡ Some (Some first.0)) }
         ensures by_number { length self.now.wakes ≡ length self.now.tasks }
     {
-        self.waits.wakes.first()
+        self.tables().waits.wakes.first()
     }
 
     /// The wake time of a number is found: it is this, and it depends on these cells.
@@ -238,17 +322,9 @@ impl IndexedTasks {
         ensures fewer { IfOk result (λ all. LosesOne number self.stale all.stale) }
         ensures watches { IfOk result (λ all. Watches number reads.now self.watchers all.watchers) }
     {
-        let IndexedTasks {
-            tasks,
-            indexes,
-            waits,
-        } = self;
-        let waits = waits.found(alloc, number, wake, reads)?;
-        Ok(IndexedTasks {
-            tasks,
-            indexes,
-            waits,
-        })
+        let IndexedTasks { mut tables } = self;
+        tables.waits.keep_wake(alloc, number, wake, reads)?;
+        Ok(IndexedTasks { tables })
     }
 
     /// Who watches one of these cells has a wake time that is to be found anew.
@@ -261,17 +337,9 @@ impl IndexedTasks {
         ensures wakes { IfOk result (λ all. all.wakes ≡ self.wakes) }
         ensures drains { IfOk result (λ all. Drains touched.now [] self.stale self.watchers all.stale all.watchers) }
     {
-        let IndexedTasks {
-            tasks,
-            indexes,
-            waits,
-        } = self;
-        let waits = waits.touch(alloc, touched)?;
-        Ok(IndexedTasks {
-            tasks,
-            indexes,
-            waits,
-        })
+        let IndexedTasks { mut tables } = self;
+        tables.waits.touch(alloc, touched)?;
+        Ok(IndexedTasks { tables })
     }
 
     /// Some jobs, and behind them that of the task of a number, if it is ready.
@@ -300,7 +368,7 @@ impl IndexedTasks {
     {
         ready_by_index();
         let mut jobs = ReadyJobs::new(alloc);
-        for (path, number) in &self.indexes.readies {
+        for (path, number) in &self.tables().indexes.readies {
             let _ = path;
             jobs = self.with_job(alloc, *number, view, jobs)?;
         }
@@ -311,17 +379,54 @@ impl IndexedTasks {
     pub(crate) fn at(&self, path: &Path) -> Option<&TrackedTask>
         ensures { option_copied result ≡ task_at (sorted_tasks self.now.tasks) path.now }
     {
-        self.tasks.get(path)
+        self.tables().tasks.get(path)
     }
 
-    /// How many children the task of a path has made.
-    fn made(&self, path: &Path) -> u32
-        ensures { result ≡ children_made (task_at (sorted_tasks self.now.tasks) path.now) }
+    /// How many children the task of a number has made.
+    fn made(&self, number: usize) -> u32
+        ensures { result ≡ children_made (option_map (λ entry. entry.1) (slice_get self.now.tasks number)) }
     {
-        match self.at(path) {
-            Some(task) => task.made(),
+        match self.entry(number) {
+            Some((_, task)) => task.made(),
             None => 0,
         }
+    }
+
+    /// The tasks after a frame of a task that is there.
+    fn after_step(
+        self,
+        alloc: Global,
+        now: Time,
+        number: usize,
+        frame: &Frame,
+    ) -> Result<IndexedTasks, OutOfMemory>
+        requires number { number ≡ number_for self.tasks frame.now.path }
+        requires there { number < length self.tasks }
+        requires few { children_made (task_at (sorted_tasks self.tasks) frame.now.path) + children_in frame.now.items < 2 ^ 32 }
+        ensures table { IfOk result (HasTable (after_frame now frame.now (sorted_tasks self.tasks))) }
+        ensures kept { IfOk result (KeepsWakes self) }
+    {
+        self.note_distinct();
+        let made = self.made(number) + count_children(&frame.items);
+        let task = TrackedTask::after(alloc, now, &frame.status, made)?;
+        self.put_at(alloc, number, task)
+    }
+
+    /// The tasks after the first frame of a task.
+    fn after_first_step(
+        self,
+        alloc: Global,
+        now: Time,
+        frame: &Frame,
+    ) -> Result<IndexedTasks, OutOfMemory>
+        requires none { task_at (sorted_tasks self.tasks) frame.now.path ≡ None }
+        requires few { children_in frame.now.items < 2 ^ 32 }
+        ensures table { IfOk result (HasTable (after_frame now frame.now (sorted_tasks self.tasks))) }
+        ensures kept { IfOk result (KeepsWakes self) }
+    {
+        let made = count_children(&frame.items);
+        let task = TrackedTask::after(alloc, now, &frame.status, made)?;
+        self.add(alloc, frame.path.copy(alloc)?, task)
     }
 
     /// The tasks after a frame.
@@ -335,9 +440,10 @@ impl IndexedTasks {
         ensures table { IfOk result (HasTable (after_frame now frame.now (sorted_tasks self.tasks))) }
         ensures kept { IfOk result (KeepsWakes self) }
     {
-        let made = self.made(&frame.path) + count_children(&frame.items);
-        let task = TrackedTask::after(alloc, now, &frame.status, made)?;
-        self.put(alloc, frame.path.copy(alloc)?, task)
+        match self.number(&frame.path) {
+            Some(number) => self.after_step(alloc, now, number, frame),
+            None => self.after_first_step(alloc, now, frame),
+        }
     }
 
     /// The tasks after the frames of a batch, before any of them goes on.
@@ -362,7 +468,7 @@ impl IndexedTasks {
     pub(crate) fn next_delay(&self) -> Option<u64>
         ensures { result ≡ least_delay self.now.tasks }
     {
-        match self.indexes.delays.first() {
+        match self.tables().indexes.delays.first() {
             Some((time, _)) => Some(time),
             None => None,
         }
@@ -373,7 +479,7 @@ impl IndexedTasks {
         ensures found { IfSome result (λ number. slice_get (delays_of self.now.tasks) number ≡ Some (Some now)) }
         ensures none { result ≡ None → IsUpToTime now (least_delay self.now.tasks) → on_each (rested now) self.now.tasks ≡ self.now.tasks }
     {
-        match self.indexes.delays.first() {
+        match self.tables().indexes.delays.first() {
             Some((time, number)) => {
                 if time == micros(now) {
                     Some(number)
@@ -386,15 +492,12 @@ impl IndexedTasks {
     }
 
     /// The task of a number, which was delayed or waited, as it goes on.
-    fn resumed(&self, alloc: Global, number: usize) -> Result<Option<Changed>, OutOfMemory>
+    fn resumed(&self, alloc: Global, number: usize) -> Result<Option<TrackedTask>, OutOfMemory>
         requires { IfSome (slice_get self.now.tasks number) (λ entry. may_resume entry.1.phase ≡ true) }
-        ensures { IfOk result (λ changed. IsChange (λ path task. resumed_task task) (slice_get self.now.tasks number) changed) }
+        ensures { IfOk result (λ resumed. resumed ≡ option_map (λ entry. resumed_task entry.1) (slice_get self.now.tasks number)) }
     {
         match self.entry(number) {
-            Some((path, task)) => Ok(Some(Changed {
-                path: path.copy(alloc)?,
-                task: task.resumed(alloc)?,
-            })),
+            Some((_, task)) => Ok(Some(task.resumed(alloc)?)),
             None => Ok(None),
         }
     }
@@ -410,7 +513,7 @@ impl IndexedTasks {
     {
         self.note_distinct();
         match self.resumed(alloc, number)? {
-            Some(changed) => self.put(alloc, changed.path, changed.task),
+            Some(task) => self.put_at(alloc, number, task),
             None => Ok(self),
         }
     }

@@ -1,6 +1,6 @@
-ghost use Rattle.std.specs.Prelude.{◌≡◌, ◌<◌, ◌≤◌, ◌++◌, ◌&&◌, ◌||◌, [], ◌∷◌, ℕ, Some, None, not, length, nat_eq, option_map, slice_get, slice_set, IfOk, IfSome};
+ghost use Rattle.std.specs.Prelude.{◌≡◌, ◌<◌, ◌≤◌, ◌++◌, ◌&&◌, ◌||◌, [], ◌∷◌, ℕ, true, false, Some, None, not, length, nat_eq, option_map, slice_get, slice_set, OnOk, OnErr, IfSome};
 ghost use Rattle.std.specs.BTreeSet as set;
-ghost use Rattle.engine_core.specs.Times.{least_time, is_this_time, put_at, timed_cmp, has_time, HasNone, LeavesOut, ListsToo};
+ghost use Rattle.engine_core.specs.Times.{least_time, is_this_time, put_at, timed_cmp, has_time, HasNone, LeavesOut, ListsToo, ListsAlike};
 
 use aerie_base::OutOfMemory;
 use std::alloc::Global;
@@ -26,36 +26,44 @@ impl Model for Times {
     ghost invariant = { λ times. AreListed times.times.items times.listed };
 }
 
-/// The set without the time of a number.
-fn without_time(
-    mut listed: BTreeSet<(u64, usize)>,
-    number: usize,
-    time: Option<u64>,
-) -> BTreeSet<(u64, usize)>
-    ensures changed { LeavesOut number time listed result }
+/// Takes the time of a number out of a set.
+fn leave_out(listed: &mut BTreeSet<(u64, usize)>, number: usize, time: Option<u64>)
+    ensures changed { LeavesOut number time listed.old listed.new }
+    ensures sorted { set.IsOrdered timed_cmp listed.old → set.IsOrdered timed_cmp listed.new }
 {
     let Some(time) = time else {
-        return listed;
+        return;
     };
     listed.remove(&(time, number));
-    listed
 }
 
-/// The set with the time of a number.
-fn with_time(
-    mut listed: BTreeSet<(u64, usize)>,
+/// Puts the time of a number into a set. After want of memory the set is as before.
+fn list_too(
+    listed: &mut BTreeSet<(u64, usize)>,
     number: usize,
     time: Option<u64>,
-) -> Result<BTreeSet<(u64, usize)>, OutOfMemory>
-    ensures changed { IfOk result (ListsToo number time listed) }
-    ensures sorted { IfOk result (λ s. set.IsOrdered timed_cmp s) }
+) -> Result<(), OutOfMemory>
+    ensures changed { OnOk result (ListsToo number time listed.old listed.new) }
+    ensures sorted { set.IsOrdered timed_cmp listed.old → set.IsOrdered timed_cmp listed.new }
+    ensures same { OnErr result (ListsAlike listed.old listed.new) }
 {
-    let _length = listed.len();
     let Some(time) = time else {
-        return Ok(listed);
+        return Ok(());
     };
     listed.insert((time, number))?;
-    Ok(listed)
+    Ok(())
+}
+
+/// Whether two are the same.
+fn are_same(time: Option<u64>, other: Option<u64>) -> bool
+    ensures same { result ≡ true → time ≡ other }
+    ensures apart { result ≡ false → time ≡ other → ⊥ }
+{
+    match (time, other) {
+        (None, None) => true,
+        (Some(time), Some(other)) => time == other,
+        _ => false,
+    }
 }
 
 impl Times {
@@ -69,26 +77,27 @@ impl Times {
         }
     }
 
-    /// One number more, with its time.
-    pub(crate) fn with(self, time: Option<u64>) -> Result<Times, OutOfMemory>
-        ensures { IfOk result (λ times. times ≡ self ++ time ∷ []) }
+    /// One number more, without a time. After want of memory the times are as before.
+    fn grow(&mut self) -> Result<(), OutOfMemory>
+        ensures { OnOk result (self.new ≡ self.old ++ None ∷ []) }
     {
-        let Times { mut times, listed } = self;
-        let listed = with_time(listed, times.len(), time)?;
-        times.push(time)?;
-        Ok(Times { times, listed })
+        self.times.push(None)?;
+        Ok(())
     }
 
-    /// Another time for a number.
-    pub(crate) fn set(self, number: usize, time: Option<u64>) -> Result<Times, OutOfMemory>
-        requires { number < length self }
-        ensures { IfOk result (λ times. times ≡ slice_set self number time) }
+    /// Another time for a number; where it has this one already, nothing is done. After want of memory the times are as before.
+    pub(crate) fn set(&mut self, number: usize, time: Option<u64>) -> Result<(), OutOfMemory>
+        requires { number < length self.old }
+        ensures { OnOk result (self.new ≡ slice_set self.old number time) }
     {
-        let Times { mut times, listed } = self;
-        let listed = without_time(listed, number, times[number]);
-        let listed = with_time(listed, number, time)?;
-        times[number] = time;
-        Ok(Times { times, listed })
+        let before = self.times[number];
+        if are_same(before, time) {
+            return Ok(());
+        }
+        list_too(&mut self.listed, number, time)?;
+        leave_out(&mut self.listed, number, before);
+        self.times[number] = time;
+        Ok(())
     }
 
     /// How many numbers there are.
@@ -99,15 +108,15 @@ impl Times {
     }
 
     /// Another time for a number, or the time of the next number.
-    pub(crate) fn put(self, number: usize, time: Option<u64>) -> Result<Times, OutOfMemory>
-        requires { number ≤ length self }
-        ensures { IfOk result (λ times. times ≡ put_at self number time) }
+    pub(crate) fn put(&mut self, number: usize, time: Option<u64>) -> Result<(), OutOfMemory>
+        requires { number ≤ length self.old }
+        ensures { OnOk result (self.new ≡ put_at self.old number time) }
     {
-        if number < self.len() {
-            self.set(number, time)
-        } else {
-            self.with(time)
+        if number == self.len() {
+            self.grow()?;
+            return self.set(number, time);
         }
+        self.set(number, time)
     }
 
     /// The least time, with a number that has it.

@@ -1,4 +1,4 @@
-ghost use Rattle.std.specs.Prelude.{◌≡◌, ◌≤◌, ◌<◌, ◌&&◌, ◌||◌, ◌∷◌, [], ℕ, Some, None, true, false, nat_eq, length, slice_get, slice_set, IfOk};
+ghost use Rattle.std.specs.Prelude.{◌≡◌, ◌≤◌, ◌<◌, ◌&&◌, ◌||◌, ◌∷◌, [], ℕ, Some, None, true, false, nat_eq, length, slice_get, slice_set, IfOk, OnOk};
 ghost use Rattle.engine_core.specs.TasksByNumber.{has_number};
 ghost use Rattle.engine_core.specs.Times.{put_at};
 ghost use Rattle.engine_core.specs.Watching.{Drains, Watches, numbers_by_cell, AlsoHas, HasOthers, LosesOne, TouchesWaits, WatchesToo};
@@ -18,44 +18,37 @@ pub(crate) struct Waits {
     pub(crate) watchers: Vec<BTreeSet<usize>>,
 }
 
-/// The numbers with one that is to be there.
-fn noted(
-    numbers: BTreeSet<usize>,
-    number: usize,
-    stands: bool,
-) -> Result<BTreeSet<usize>, OutOfMemory>
-    ensures among { IfOk result (λ all. AlsoHas (λ n. stands && nat_eq number n) numbers.keys all.keys) }
-    ensures same { IfOk result (λ all. stands ≡ false → all.keys ≡ numbers.keys) }
+/// Puts a number among some, if it is to be there.
+fn note(numbers: &mut BTreeSet<usize>, number: usize, stands: bool) -> Result<(), OutOfMemory>
+    ensures among { OnOk result (AlsoHas (λ n. stands && nat_eq number n) numbers.old.keys numbers.new.keys) }
+    ensures same { OnOk result (stands ≡ false → numbers.new.keys ≡ numbers.old.keys) }
 {
-    let mut numbers = numbers;
     if !stands {
-        return Ok(numbers);
+        return Ok(());
     }
     numbers.insert(number)?;
-    Ok(numbers)
+    Ok(())
 }
 
-/// The numbers with others.
-fn joined(numbers: BTreeSet<usize>, others: BTreeSet<usize>) -> Result<BTreeSet<usize>, OutOfMemory>
-    ensures { IfOk result (λ all. AlsoHas (has_number others.keys) numbers.keys all.keys) }
+/// Puts others among some numbers.
+fn join(numbers: &mut BTreeSet<usize>, others: BTreeSet<usize>) -> Result<(), OutOfMemory>
+    ensures { OnOk result (AlsoHas (has_number others.keys) numbers.old.keys numbers.new.keys) }
 {
-    let mut all = numbers;
     let mut left = others;
     while let Some(number) = left.pop_first() {
-        all.insert(number)?;
+        numbers.insert(number)?;
     }
-    Ok(all)
+    Ok(())
 }
 
-/// The times with another for a number, if it has one.
-fn replaced(times: Times, number: usize, time: Option<u64>) -> Result<Times, OutOfMemory>
-    ensures { IfOk result (λ all. all ≡ slice_set times number time) }
+/// Another time for a number, if it has one.
+fn replace(times: &mut Times, number: usize, time: Option<u64>) -> Result<(), OutOfMemory>
+    ensures { OnOk result (times.new ≡ slice_set times.old number time) }
 {
     if number >= times.len() {
-        return Ok(times);
+        return Ok(());
     }
-    let times = times.set(number, time)?;
-    Ok(times)
+    times.set(number, time)
 }
 
 /// Those who watch nothing, for so many cells.
@@ -83,53 +76,50 @@ fn exchanged(
 }
 
 /// A number stands among those of one of the cells too.
-fn watched_at(
+fn watch_at(
     alloc: Global,
-    watchers: Vec<BTreeSet<usize>>,
+    watchers: &mut Vec<BTreeSet<usize>>,
     number: usize,
     at: usize,
-) -> Result<Vec<BTreeSet<usize>>, OutOfMemory>
-    requires { at < length watchers.items }
-    ensures { IfOk result (λ all. WatchesToo number (at ∷ []) watchers.items all.items) }
+) -> Result<(), OutOfMemory>
+    requires { at < length watchers.old.items }
+    ensures { OnOk result (WatchesToo number (at ∷ []) watchers.old.items watchers.new.items) }
 {
-    let mut all = watchers;
-    let before = exchanged(&mut all, at, BTreeSet::new(alloc));
-    let after = noted(before, number, true)?;
-    let _empty = exchanged(&mut all, at, after);
-    Ok(all)
+    let mut numbers = exchanged(watchers, at, BTreeSet::new(alloc));
+    note(&mut numbers, number, true)?;
+    let _empty = exchanged(watchers, at, numbers);
+    Ok(())
 }
 
 /// A number stands among those of one more cell, if there is such a cell.
-fn watched(
+fn watch(
     alloc: Global,
-    watchers: Vec<BTreeSet<usize>>,
+    watchers: &mut Vec<BTreeSet<usize>>,
     number: usize,
     cell: u16,
-) -> Result<Vec<BTreeSet<usize>>, OutOfMemory>
-    ensures { IfOk result (λ all. WatchesToo number (cell ∷ []) watchers.items all.items) }
+) -> Result<(), OutOfMemory>
+    ensures { OnOk result (WatchesToo number (cell ∷ []) watchers.old.items watchers.new.items) }
 {
     let at = usize::from(cell);
     if at >= watchers.len() {
-        return Ok(watchers);
+        return Ok(());
     }
-    let all = watched_at(alloc, watchers, number, at)?;
-    Ok(all)
+    watch_at(alloc, watchers, number, at)
 }
 
 /// A number stands among those of these cells too.
-fn watched_all(
+fn watch_all(
     alloc: Global,
-    watchers: Vec<BTreeSet<usize>>,
+    watchers: &mut Vec<BTreeSet<usize>>,
     number: usize,
     cells: &[u16],
-) -> Result<Vec<BTreeSet<usize>>, OutOfMemory>
-    ensures { IfOk result (λ all. WatchesToo number cells.now watchers.items all.items) }
+) -> Result<(), OutOfMemory>
+    ensures { OnOk result (WatchesToo number cells.now watchers.old.items watchers.new.items) }
 {
-    let mut all = watchers;
     for cell in cells {
-        all = watched(alloc, all, number, *cell)?;
+        watch(alloc, watchers, number, *cell)?;
     }
-    Ok(all)
+    Ok(())
 }
 
 impl Waits {
@@ -147,97 +137,68 @@ impl Waits {
     }
 
     /// A task with this number has no wake time; if it waits, one is to be found.
-    pub(crate) fn put(self, number: usize, waiting: bool) -> Result<Waits, OutOfMemory>
-        requires number { number ≤ length self.wakes }
-        ensures wakes { IfOk result (λ done. done.wakes ≡ put_at self.wakes number None) }
-        ensures stale { IfOk result (λ done. AlsoHas (λ n. waiting && nat_eq number n) self.stale.keys done.stale.keys) }
-        ensures same { IfOk result (λ done. waiting ≡ false → done.stale.keys ≡ self.stale.keys) }
-        ensures watchers { IfOk result (λ done. done.watchers ≡ self.watchers) }
+    pub(crate) fn put(&mut self, number: usize, waiting: bool) -> Result<(), OutOfMemory>
+        requires number { number ≤ length self.old.wakes }
+        ensures wakes { OnOk result (self.new.wakes ≡ put_at self.old.wakes number None) }
+        ensures stale { OnOk result (AlsoHas (λ n. waiting && nat_eq number n) self.old.stale.keys self.new.stale.keys) }
+        ensures same { OnOk result (waiting ≡ false → self.new.stale.keys ≡ self.old.stale.keys) }
+        ensures watchers { OnOk result (self.new.watchers ≡ self.old.watchers) }
     {
-        let Waits {
-            wakes,
-            stale,
-            watchers,
-        } = self;
-        let wakes = wakes.put(number, None)?;
-        let stale = noted(stale, number, waiting)?;
-        Ok(Waits {
-            wakes,
-            stale,
-            watchers,
-        })
+        self.wakes.put(number, None)?;
+        note(&mut self.stale, number, waiting)?;
+        Ok(())
     }
 
     /// The wake time of a number is found: it is this, and it depends on these cells.
-    pub(crate) fn found(
-        self,
+    pub(crate) fn keep_wake(
+        &mut self,
         alloc: Global,
         number: usize,
         wake: Option<u64>,
         reads: &[u16],
-    ) -> Result<Waits, OutOfMemory>
-        ensures wakes { IfOk result (λ done. done.wakes ≡ slice_set self.wakes number wake) }
-        ensures stale { IfOk result (λ done. HasOthers number self.stale.keys done.stale.keys) }
-        ensures fewer { IfOk result (λ done. LosesOne number self.stale.keys done.stale.keys) }
-        ensures watches { IfOk result (λ done. WatchesToo number reads.now self.watchers.items done.watchers.items) }
+    ) -> Result<(), OutOfMemory>
+        ensures wakes { OnOk result (self.new.wakes ≡ slice_set self.old.wakes number wake) }
+        ensures stale { OnOk result (HasOthers number self.old.stale.keys self.new.stale.keys) }
+        ensures fewer { OnOk result (LosesOne number self.old.stale.keys self.new.stale.keys) }
+        ensures watches { OnOk result (WatchesToo number reads.now self.old.watchers.items self.new.watchers.items) }
     {
-        let Waits {
-            wakes,
-            mut stale,
-            watchers,
-        } = self;
-        let wakes = replaced(wakes, number, wake)?;
-        let watchers = watched_all(alloc, watchers, number, reads)?;
-        stale.remove(&number);
-        Ok(Waits {
-            wakes,
-            stale,
-            watchers,
-        })
+        replace(&mut self.wakes, number, wake)?;
+        watch_all(alloc, &mut self.watchers, number, reads)?;
+        self.stale.remove(&number);
+        Ok(())
     }
 
     /// Who watches one of the cells has a wake time that is to be found anew, and watches it no more.
-    fn touch_at(self, alloc: Global, at: usize) -> Result<Waits, OutOfMemory>
-        requires { at < length self.watchers.items }
-        ensures wakes { IfOk result (λ done. done.wakes ≡ self.wakes) }
-        ensures drains { IfOk result (TouchesWaits (at ∷ []) self) }
+    fn touch_at(&mut self, alloc: Global, at: usize) -> Result<(), OutOfMemory>
+        requires { at < length self.old.watchers.items }
+        ensures wakes { OnOk result (self.new.wakes ≡ self.old.wakes) }
+        ensures drains { OnOk result (TouchesWaits (at ∷ []) self.old self.new) }
     {
-        let Waits {
-            wakes,
-            stale,
-            mut watchers,
-        } = self;
-        let numbers = exchanged(&mut watchers, at, BTreeSet::new(alloc));
-        let stale = joined(stale, numbers)?;
-        Ok(Waits {
-            wakes,
-            stale,
-            watchers,
-        })
+        let numbers = exchanged(&mut self.watchers, at, BTreeSet::new(alloc));
+        join(&mut self.stale, numbers)?;
+        Ok(())
     }
 
     /// The same of a cell, if it is one of the cells.
-    fn touch_cell(self, alloc: Global, cell: u16) -> Result<Waits, OutOfMemory>
-        ensures wakes { IfOk result (λ done. done.wakes ≡ self.wakes) }
-        ensures drains { IfOk result (TouchesWaits (cell ∷ []) self) }
+    fn touch_cell(&mut self, alloc: Global, cell: u16) -> Result<(), OutOfMemory>
+        ensures wakes { OnOk result (self.new.wakes ≡ self.old.wakes) }
+        ensures drains { OnOk result (TouchesWaits (cell ∷ []) self.old self.new) }
     {
         let at = usize::from(cell);
         if at >= self.watchers.len() {
-            return Ok(self);
+            return Ok(());
         }
-        let waits = self.touch_at(alloc, at)?;
-        Ok(waits)
+        self.touch_at(alloc, at)
     }
 
     /// The same for some cells.
-    pub(crate) fn touch(self, alloc: Global, touched: &[u16]) -> Result<Waits, OutOfMemory>
-        ensures wakes { IfOk result (λ done. done.wakes ≡ self.wakes) }
-        ensures drains { IfOk result (TouchesWaits touched.now self) }
+    pub(crate) fn touch(&mut self, alloc: Global, touched: &[u16]) -> Result<(), OutOfMemory>
+        ensures wakes { OnOk result (self.new.wakes ≡ self.old.wakes) }
+        ensures drains { OnOk result (TouchesWaits touched.now self.old self.new) }
     {
-        let mut waits = self;
         for cell in touched {
-            waits = waits.touch_cell(alloc, *cell)?;
+            self.touch_cell(alloc, *cell)?;
         }
-        Ok(waits)
+        Ok(())
     }
 }

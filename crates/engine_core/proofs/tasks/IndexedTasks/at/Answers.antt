@@ -7,5 +7,5 @@ use Rattle.engine_core.proofs.tasks.IndexedTasks.at.Goals as goal
 
 pub returns : goal.returns
 returns c =
-    c.get.ensures.value ∙ look_is c.self.inside.tasks.entries c.args.path.now
-    ∙ ap (λ (all : Tracked). task_at (sorted_tasks all.tasks) c.args.path.now) c.self.view_is
+    c.get.ensures.value ∙ look_is c.tables.result.now.tasks.entries c.args.path.now
+    ∙ ap (λ (all : Tracked). task_at (sorted_tasks all.tasks) c.args.path.now) c.tables.ensures.is

@@ -13,5 +13,12 @@ loop-frame-preserved c = (
   λ now horizon cells kept. c.in_ok-all.ensures.kept now horizon cells (c.loop-frame.invariant.1 now horizon cells kept),
 )
 
+pub loop-frame-preserved-then-stays_by : goal.loop-frame-preserved-then-stays_by
+loop-frame-preserved-then-stays_by c = (
+  behind_one_more c.args.now c.args.frames.now c.loop-frame.frame-index c.frame-item.result c.args.self.tasks c.loop-frame.all.tasks c.loop-frame.all.tasks c.loop-frame-test.true c.frame-item.is
+      c.loop-frame.invariant.0 (c.stays_by.ensures c.if-stays_by.true c.args.now),
+  c.loop-frame.invariant.1,
+)
+
 pub returns-clause-goes : goal.returns-clause-goes
 returns-clause-goes c = behind_all c.args.now c.args.frames.now c.loop-frame.frame-index c.args.self.tasks c.loop-frame.all.tasks (drop_all c.loop-frame.frame-index c.args.frames.now (omega arith)) c.loop-frame.invariant.0

@@ -8,10 +8,10 @@ use Rattle.engine_core.proofs.tasks.IndexedTasks.number.Goals as goal
 
 pub returns-clause-found : goal.returns-clause-found
 returns-clause-found c =
-    subst (λ (all : Tracked). IfSome c.get_index_of.result (λ number. number ≡ number_for all.tasks c.args.path.now)) c.self.view_is
-    (found_number c.self.inside.tasks.entries c.args.path.now c.get_index_of.result c.get_index_of.ensures.index)
+    subst (λ (all : Tracked). IfSome c.get_index_of.result (λ number. number ≡ number_for all.tasks c.args.path.now)) c.tables.ensures.is
+    (found_number c.tables.result.now.tasks.entries c.args.path.now c.get_index_of.result c.get_index_of.ensures.index)
 
 pub returns-clause-none : goal.returns-clause-none
 returns-clause-none c =
-    subst (λ (all : Tracked). c.get_index_of.result ≡ None → task_at (sorted_tasks all.tasks) c.args.path.now ≡ None) c.self.view_is
-    (none_there c.self.inside.tasks.entries c.args.path.now c.get_index_of.result c.get_index_of.ensures.found)
+    subst (λ (all : Tracked). c.get_index_of.result ≡ None → task_at (sorted_tasks all.tasks) c.args.path.now ≡ None) c.tables.ensures.is
+    (none_there c.tables.result.now.tasks.entries c.args.path.now c.get_index_of.result c.get_index_of.ensures.found)

@@ -14,6 +14,6 @@ returns c =
     ∙ ap (λ (es : List (List ℕ × ℕ)). c.loop-path.jobs ++ jobs_by c.args.view.now c.args.self.now.tasks es) (sym none)
     ∙ c.loop-path.invariant
     ∙ ap (λ (es : List (List ℕ × ℕ)). jobs_by c.args.view.now c.args.self.now.tasks es) c.into_iter-path-iterator.ensures.into_iter_gives.0
-    ∙ ap (λ (all : Tracked). jobs_by c.args.view.now all.tasks c.self.inside.indexes.readies.entries) (sym c.self.view_is)
-    ∙ ready_is c.ready_by_index.ensures c.args.view.now c.self.inside.tasks.entries _ _ _ c.self.invariant.0
-    ∙ ap (λ (all : Tracked). ready_jobs c.args.view.now (sorted_tasks all.tasks)) c.self.view_is
+    ∙ ap (λ (all : Tracked). jobs_by c.args.view.now all.tasks c.tables.result.now.indexes.readies.entries) (sym c.tables.ensures.is)
+    ∙ ready_is c.ready_by_index.ensures c.args.view.now c.tables.result.now.tasks.entries _ _ _ c.tables.ensures.step.indexed
+    ∙ ap (λ (all : Tracked). ready_jobs c.args.view.now (sorted_tasks all.tasks)) c.tables.ensures.is

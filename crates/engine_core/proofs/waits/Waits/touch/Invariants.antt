@@ -4,5 +4,5 @@ use Rattle.engine_core.proofs.waits.Waits.touch.Given as goal
 
 abbrev pub invariant-loop-cell : goal.invariant-loop-cell
 invariant-loop-cell l =
-    (l.waits.wakes ≡ l.fn.self.wakes)
-    × Drains l.touched (drop l.cell-index l.touched) l.fn.self.stale.keys (numbers_by_cell l.fn.self.watchers.items) l.waits.stale.keys (numbers_by_cell l.waits.watchers.items)
+    (l.self.wakes ≡ l.fn.self.wakes)
+    × Drains l.touched (drop l.cell-index l.touched) l.fn.self.stale.keys (numbers_by_cell l.fn.self.watchers.items) l.self.stale.keys (numbers_by_cell l.self.watchers.items)

@@ -3,4 +3,4 @@ use Rattle.engine_core.proofs.waits.Waits.touch_at.Goals as goal
 
 pub returns-clause-drains : goal.returns-clause-drains
 returns-clause-drains c =
-    drained_out c.args.self.watchers.items _ c.args.at _ c.exchanged-numbers.result c.args.self.stale c.in_ok-stale.stale c.exchanged-numbers.ensures.was c.exchanged-numbers.ensures.is c.in_ok-stale.ensures
+    drained_out c.args.self.now.watchers.items _ c.args.at _ c.exchanged-numbers.result c.args.self.now.stale c.join.new.numbers c.exchanged-numbers.ensures.was c.exchanged-numbers.ensures.is c.in_ok-join.ensures
