@@ -7,11 +7,8 @@ use Rattle.std.specs.Ordering.{nat_cmp}
 use Rattle.std.proofs.lemmas.Grind.{common_steps}
 use Rattle.std.proofs.lemmas.List.Folds.{list_any_at}
 use Rattle.std.proofs.lemmas.List.Sorted.{searched}
-use Rattle.aerie_base.specs.declared.models.model.Parts.{Parts}
-use Rattle.run_data.specs.declared.runs.Run.{Run}
-use Rattle.run_data.specs.Spans.{SpanOf, spans_from, spans_of, timed}
+use Rattle.run_data.specs.Spans.{SpanOf}
 use Rattle.constraints.specs.Meeting.{StartBehind, ByStart}
-use Rattle.constraints.proofs.SpanOrder.{sorted_order}
 use Rattle.goals.specs.declared.types.Template.{Template}
 use Rattle.goals.specs.Matching.{matches, matching_starts}
 use Rattle.goals.specs.Merging.{AreBehind, Rises}
@@ -86,6 +83,5 @@ matching_rise template (span ∷ rest) order = go (matching_rise template rest o
     go later true = (behind_matching template span.start rest order.0, later)
     go later false = later
 
-pub matched_rise : (model : Parts) (run : Run) (template : Template) (starts : List ℕ) → starts ≡ matching_starts template (spans_of model run) → Rises starts
-matched_rise model run template starts is =
-    subst Rises (sym is) (matching_rise template (spans_of model run) (sorted_order (spans_from (timed run.instants) model [] (timed run.instants))))
+pub matched_rise : (template : Template) (spans : List SpanOf) (starts : List ℕ) → ByStart spans → starts ≡ matching_starts template spans → Rises starts
+matched_rise template spans starts order is = subst Rises (sym is) (matching_rise template spans order)

@@ -7,6 +7,7 @@ ghost use Rattle.goals.specs.Candidates.{IsUntaken, free_at, free_times as free_
 ghost use Rattle.goals.specs.Goals.{candidates_of, starts_for, times_by_kind as times_defined};
 ghost use Rattle.goals.specs.Merging.{Rises};
 ghost use Rattle.goals.specs.declared.candidate_times.Bound.TheVariants.{After, UpTo, Before};
+ghost use Rattle.span_table.specs.SpanLaws.{AreSpansOf};
 ghost use Rattle.goals.specs.Tries.{admits as admitted, spread_limit, spread_times};
 
 use crate::gap::Gap;
@@ -15,6 +16,7 @@ use crate::matching::match_spans;
 use crate::types::{Goal, GoalKind};
 use aerie_base::{Model, OutOfMemory, Time};
 use run_data::Run;
+use span_table::Span;
 use std::alloc::Global;
 
 /// So many times are tried for one gap, at most.
@@ -222,22 +224,24 @@ fn free_times(
 
 /// The times at which the goal's activity is tried to fill a gap that is its first one on the run, in the order in which they
 /// are tried: at most a hundred, each within the plan, and none at which a matching span starts. Each takes a binary search
-/// among the starts.
+/// among the starts. The caller has found the spans of the run, once for all goals.
 pub fn candidates(
     alloc: Global,
     model: &Model,
     goal: &Goal,
     run: &Run,
+    spans: &[Span],
     gap: &Gap,
 ) -> Result<Vec<Time>, OutOfMemory>
+    requires spans { AreSpansOf model.now run.now spans.now }
     ensures exact { IfOk result (λ times. times.items ≡ candidates_of model.now goal.now run.now gap.now) }
     ensures in_plan { IfOk result (λ times. All (λ time. time < run.now.plan.duration) times.items) }
     ensures free { IfOk result (λ times. All (IsUntaken (starts_for model.now goal.now run.now)) times.items) }
     ensures few { IfOk result (λ times. length times.items ≤ most_tried) }
 {
-    let matched = match_spans(alloc, model, run, &goal.template)?;
+    let matched = match_spans(alloc, &goal.template, spans)?;
     let tried = times_by_kind(alloc, gap, &goal.kind)?;
-    let starts = matched.starts.as_slice();
+    let starts = matched.as_slice();
     let times = free_times(alloc, run.plan.duration, starts, tried.as_slice())?;
     Ok(times)
 }

@@ -1,18 +1,22 @@
 //! Whether a gap that a goal had is filled on another run.
 
-ghost use Rattle.std.specs.Prelude.{◌≡◌, IsTrue, IfOk};
+ghost use Rattle.std.specs.Prelude.{◌≡◌, IsTrue, IfOk, map};
 ghost use Rattle.run_data.specs.Fresh.{IsFresh};
 ghost use Rattle.goals.specs.Goals.{filled_over, is_behind as comes_behind, is_filled as filled, is_left as left_over};
 ghost use Rattle.goals.specs.OfModel.{is_goal};
+ghost use Rattle.run_data.specs.Spans.{spans_of};
+ghost use Rattle.span_table.specs.AsDefined.{defined_span};
+ghost use Rattle.span_table.specs.SpanLaws.{AreSpansOf};
 
 use crate::anchors::anchors_of;
 use crate::first_gaps::is_completed;
 use crate::gap::Gap;
 use crate::gaps::{Beside, count_within, has_start, recurrence_gap};
-use crate::matching::{Matched, match_spans};
+use crate::matching::match_spans;
 use crate::types::{Goal, GoalKind};
 use aerie_base::{Model, OutOfMemory, Time};
 use run_data::Run;
+use span_table::Span;
 use std::alloc::Global;
 
 /// Whether the next gap is none, or after this one.
@@ -44,18 +48,20 @@ fn filled_by_kind(
     goal: &Goal,
     gap: &Gap,
     run: &Run,
+    spans: &[Span],
 ) -> Result<bool, OutOfMemory>
     requires fresh { IsFresh model.now run.now.plan run.now.bound run.now }
+    requires spans { map defined_span spans.now ≡ spans_of model.now run.now }
     requires goal { IsTrue (is_goal model.now goal.now) }
     ensures { IfOk result (λ is. is ≡ filled_over model.now goal.now gap.now run.now) }
 {
-    let Matched { spans, starts } = match_spans(alloc, model, run, &goal.template)?;
+    let starts = match_spans(alloc, &goal.template, spans)?;
     match &goal.kind {
         GoalKind::Recurrence { every, from, to } => {
             Ok(is_behind(gap, recurrence_gap(*every, *from, *to, &starts)))
         }
         GoalKind::Coexistence { anchor, from, to } => {
-            let anchors = anchors_of(alloc, model, run, &spans, anchor)?;
+            let anchors = anchors_of(alloc, model, run, spans, anchor)?;
             let beside = Beside {
                 from: *from,
                 to: *to,
@@ -71,20 +77,22 @@ fn filled_by_kind(
 
 /// Whether a gap that a goal had is filled on a fresh run of the model, as that of a plan with one activity more: the run
 /// completed, and of a recurrence the first gap is now none or a later one, of a coexistence the gap is no anchor without a
-/// start beside it, of a cardinality there are more starts than there were.
+/// start beside it, of a cardinality there are more starts than there were. The caller has found the spans of the run.
 pub fn is_filled(
     alloc: Global,
     model: &Model,
     goal: &Goal,
     gap: &Gap,
     run: &Run,
+    spans: &[Span],
 ) -> Result<bool, OutOfMemory>
     requires fresh { IsFresh model.now run.now.plan run.now.bound run.now }
+    requires spans { AreSpansOf model.now run.now spans.now }
     requires goal { IsTrue (is_goal model.now goal.now) }
     ensures { IfOk result (λ is. is ≡ filled model.now goal.now gap.now run.now) }
 {
     if !is_completed(&run.outcome) {
         return Ok(false);
     }
-    filled_by_kind(alloc, model, goal, gap, run)
+    filled_by_kind(alloc, model, goal, gap, run, spans)
 }

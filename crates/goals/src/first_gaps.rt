@@ -5,16 +5,18 @@ ghost use Rattle.run_data.specs.Fresh.{IsFresh};
 ghost use Rattle.goals.specs.Goals.{anchor_gap_of, first_gap, gap_at, gap_over, is_completed as has_completed, is_goal_met, is_met_or_stopped};
 ghost use Rattle.run_data.specs.Spans.{spans_of};
 ghost use Rattle.span_table.specs.AsDefined.{defined_span};
+ghost use Rattle.span_table.specs.SpanLaws.{AreSpansOf};
 ghost use Rattle.goals.specs.Merging.{Rises};
 ghost use Rattle.goals.specs.OfModel.{is_anchor, is_goal};
 
 use crate::anchors::sorted_anchors;
 use crate::gap::Gap;
 use crate::gaps::{Beside, cardinality_gap, coexistence_gap, recurrence_gap};
-use crate::matching::{Matched, match_spans};
+use crate::matching::match_spans;
 use crate::types::{Goal, GoalAnchor, GoalKind};
 use aerie_base::{Model, OutOfMemory, Time};
 use run_data::{Outcome, Run};
+use span_table::Span;
 use std::alloc::Global;
 
 /// Whether a run came to its plan's end.
@@ -40,24 +42,23 @@ fn at_number(number: Option<u32>) -> Option<Gap>
     })
 }
 
-/// The least anchor on a run with these matching starts that has none of them beside it.
+/// The least anchor on a run with these spans and matching starts that has none of the starts beside it.
 fn anchor_gap(
     alloc: Global,
     model: &Model,
     run: &Run,
-    matched: &Matched,
+    spans: &[Span],
+    starts: &[Time],
     anchor: &GoalAnchor,
     beside: &Beside,
 ) -> Result<Option<Time>, OutOfMemory>
     requires fresh { IsFresh model.now run.now.plan run.now.bound run.now }
     requires anchor { IsTrue (is_anchor model.now anchor.now) }
-    requires spans { map defined_span matched.now.spans.items ≡ spans_of model.now run.now }
-    requires rises { Rises matched.now.starts.items }
-    ensures { IfOk result (λ gap. gap ≡ anchor_gap_of model.now run.now matched.now.starts.items anchor.now beside.now.from beside.now.to) }
+    requires spans { map defined_span spans.now ≡ spans_of model.now run.now }
+    requires rises { Rises starts.now }
+    ensures { IfOk result (λ gap. gap ≡ anchor_gap_of model.now run.now starts.now anchor.now beside.now.from beside.now.to) }
 {
-    let spans = matched.spans.as_slice();
     let anchors = sorted_anchors(alloc, model, run, spans, anchor)?;
-    let starts = matched.starts.as_slice();
     let gap = coexistence_gap(beside, starts, anchors.as_slice());
     Ok(gap)
 }
@@ -68,13 +69,15 @@ fn gap_by_kind(
     model: &Model,
     goal: &Goal,
     run: &Run,
+    spans: &[Span],
 ) -> Result<Option<Gap>, OutOfMemory>
     requires fresh { IsFresh model.now run.now.plan run.now.bound run.now }
+    requires spans { map defined_span spans.now ≡ spans_of model.now run.now }
     requires goal { IsTrue (is_goal model.now goal.now) }
     ensures { IfOk result (λ gap. gap ≡ gap_over model.now goal.now run.now) }
 {
-    let matched = match_spans(alloc, model, run, &goal.template)?;
-    let starts = matched.starts.as_slice();
+    let matched = match_spans(alloc, &goal.template, spans)?;
+    let starts = matched.as_slice();
     match &goal.kind {
         GoalKind::Recurrence { every, from, to } => {
             Ok(at_time(recurrence_gap(*every, *from, *to, starts)))
@@ -84,7 +87,7 @@ fn gap_by_kind(
                 from: *from,
                 to: *to,
             };
-            let gap = anchor_gap(alloc, model, run, &matched, anchor, &beside)?;
+            let gap = anchor_gap(alloc, model, run, spans, starts, anchor, &beside)?;
             Ok(at_time(gap))
         }
         GoalKind::Cardinality { count, from, to } => {
@@ -94,14 +97,16 @@ fn gap_by_kind(
 }
 
 /// The first gap of the goal on a fresh run of the model. There is none exactly where the goal is met, or the run did not
-/// complete.
+/// complete. The caller has found the spans of the run, once for all goals.
 pub fn missing(
     alloc: Global,
     model: &Model,
     goal: &Goal,
     run: &Run,
+    spans: &[Span],
 ) -> Result<Option<Gap>, OutOfMemory>
     requires fresh { IsFresh model.now run.now.plan run.now.bound run.now }
+    requires spans { AreSpansOf model.now run.now spans.now }
     requires goal { IsTrue (is_goal model.now goal.now) }
     ensures exact { IfOk result (λ gap. gap ≡ first_gap model.now goal.now run.now) }
     ensures none { IfOk result (λ gap. is_none gap ≡ is_met_or_stopped model.now goal.now run.now) }
@@ -109,18 +114,26 @@ pub fn missing(
     if !is_completed(&run.outcome) {
         return Ok(None);
     }
-    gap_by_kind(alloc, model, goal, run)
+    gap_by_kind(alloc, model, goal, run, spans)
 }
 
-/// Whether the goal is met on a fresh run of the model: the run completed, and the goal has no gap on it.
-pub fn met(alloc: Global, model: &Model, goal: &Goal, run: &Run) -> Result<bool, OutOfMemory>
+/// Whether the goal is met on a fresh run of the model: the run completed, and the goal has no gap on it. The caller has found
+/// the spans of the run, once for all goals.
+pub fn met(
+    alloc: Global,
+    model: &Model,
+    goal: &Goal,
+    run: &Run,
+    spans: &[Span],
+) -> Result<bool, OutOfMemory>
     requires fresh { IsFresh model.now run.now.plan run.now.bound run.now }
+    requires spans { AreSpansOf model.now run.now spans.now }
     requires goal { IsTrue (is_goal model.now goal.now) }
     ensures { IfOk result (λ met. met ≡ is_goal_met model.now goal.now run.now) }
 {
     if !is_completed(&run.outcome) {
         return Ok(false);
     }
-    let gap = missing(alloc, model, goal, run)?;
+    let gap = missing(alloc, model, goal, run, spans)?;
     Ok(gap.is_none())
 }

@@ -3,24 +3,14 @@
 ghost use Rattle.std.specs.Prelude.{◌≡◌, ◌++◌, [], ◌∷◌, map, IfOk, OnOk, if◌then◌else◌};
 ghost use Rattle.plan_merge.specs.Table.{same_values as equal_values};
 ghost use Rattle.span_table.specs.AsDefined.{defined_span};
-ghost use Rattle.run_data.specs.Spans.{spans_of};
-ghost use Rattle.goals.specs.Matching.{matches as is_matched, matching_starts as starts_matched, starts_on};
+ghost use Rattle.constraints.specs.Meeting.{ByStart};
+ghost use Rattle.goals.specs.Matching.{matches as is_matched, matching_starts as starts_matched};
 ghost use Rattle.goals.specs.Merging.{Rises};
 
 use crate::types::Template;
-use aerie_base::{Model, OutOfMemory, Time, Value, same_value};
-use run_data::Run;
-use span_table::{Span, spans};
+use aerie_base::{OutOfMemory, Time, Value, same_value};
+use span_table::Span;
 use std::alloc::Global;
-
-/// The spans of a run, and when those of them start that a template matches.
-#[derive(Drop)]
-pub(crate) struct Matched {
-    /// The spans.
-    pub(crate) spans: Vec<Span>,
-    /// The starts, which rise.
-    pub(crate) starts: Vec<Time>,
-}
 
 /// Whether two lists have the same values.
 #[tactic(auto, using(crate::proofs::SameValues::lengths_differ))]
@@ -63,18 +53,16 @@ fn matching_starts(
     Ok(starts)
 }
 
-/// The spans of a run, and when those of them start that a template matches. It goes once over the spans.
+/// When those of a run's spans start that a template matches, as spans are ordered by their starts. It goes once over the spans.
 pub(crate) fn match_spans(
     alloc: Global,
-    model: &Model,
-    run: &Run,
     template: &Template,
-) -> Result<Matched, OutOfMemory>
-    ensures spans { IfOk result (λ matched. map defined_span matched.spans.items ≡ spans_of model.now run.now) }
-    ensures starts { IfOk result (λ matched. matched.starts.items ≡ starts_on model.now run.now template.now) }
-    ensures rises { IfOk result (λ matched. Rises matched.starts.items) }
+    spans: &[Span],
+) -> Result<Vec<Time>, OutOfMemory>
+    requires { ByStart (map defined_span spans.now) }
+    ensures starts { IfOk result (λ starts. starts.items ≡ starts_matched template.now (map defined_span spans.now)) }
+    ensures rises { IfOk result (λ starts. Rises starts.items) }
 {
-    let spans = spans(alloc, model, run)?;
-    let starts = matching_starts(alloc, template, &spans)?;
-    Ok(Matched { spans, starts })
+    let starts = matching_starts(alloc, template, spans)?;
+    Ok(starts)
 }

@@ -12,6 +12,7 @@ use aerie_base::{Model, OutOfMemory, Plan, Shared, Steps};
 use bench::{Bench, CompiledModel};
 use goals::{Gap, Goal, candidates, is_filled, met, missing};
 use run_data::{Kept, Run};
+use span_table::spans;
 use std::alloc::Global;
 use std::marker::Brand;
 use std::sync::ledger::{Blank, Ledger};
@@ -178,9 +179,11 @@ fn tried(
     requires other { IsFresh model.now other.now.plan other.now.bound other.now }
     requires goal { IsTrue (is_goal model.now goal.now) }
 {
-    let times = candidates(alloc, model, goal, run, gap).ok()?;
+    let spans_of_run = spans(alloc, model, run).ok()?;
+    let times = candidates(alloc, model, goal, run, spans_of_run.as_slice(), gap).ok()?;
     let (first, last) = (times.first()?.get(), times.last()?.get());
-    let filled = is_filled(alloc, model, goal, gap, other).ok()?;
+    let spans_of_other = spans(alloc, model, other).ok()?;
+    let filled = is_filled(alloc, model, goal, gap, other, spans_of_other.as_slice()).ok()?;
     let count = times.len();
     format!(in alloc;
         "gap at {}, {count} tried from {first} to {last}, filled {filled}",
@@ -195,8 +198,9 @@ fn found(alloc: Global, model: &Model, goal: &Goal, run: &Run, other: &Run) -> O
     requires other { IsFresh model.now other.now.plan other.now.bound other.now }
     requires goal { IsTrue (is_goal model.now goal.now) }
 {
-    let is_met = met(alloc, model, goal, run).ok()?;
-    match missing(alloc, model, goal, run).ok()? {
+    let spans = spans(alloc, model, run).ok()?;
+    let is_met = met(alloc, model, goal, run, spans.as_slice()).ok()?;
+    match missing(alloc, model, goal, run, spans.as_slice()).ok()? {
         None => format!(in alloc; "no gap, met {is_met}").ok(),
         Some(_) if is_met => None,
         Some(gap) => tried(alloc, model, goal, run, &gap, other),

@@ -1,6 +1,9 @@
 -- All goals: as many lists of ids as goals, and the schedule that comes of them.
-use Rattle.std.proofs.Common.{◌≡◌, ℕ, suc, ◌-◌, ◌≤◌, List, [], ◌∷◌, length, drop, refl, sym, ap, ◌∙◌, arith, append-nil}
+use Rattle.std.proofs.Common.{◌≡◌, ℕ, suc, ◌-◌, ◌≤◌, ◌<◌, Bool, true, false, IsTrue, List, [], ◌∷◌, length, drop, get_or, refl, sym, ap, ◌∙◌, arith, append-nil}
+use Rattle.std.specs.List.{list_all}
+use Rattle.std.proofs.lemmas.Bool.{false≢true}
 use Rattle.std.proofs.lemmas.List.{drop_all}
+use Rattle.std.proofs.lemmas.List.Folds.{list_all_at}
 use Rattle.aerie_base.specs.declared.models.model.Parts.{Parts}
 use Rattle.aerie_base.specs.declared.plans.Plan.{Plan}
 use Rattle.run_data.specs.declared.runs.Run.{Run}
@@ -11,6 +14,14 @@ use Rattle.scheduler.specs.FreshRuns.{fresh_run}
 use Rattle.scheduler.specs.Scheduling.{GoalsPlaced, goal_placed, goals_placed, statuses_on, with_statuses, trial_limit, schedule_of}
 use Rattle.scheduler.specs.Standing.{IsKeptOf, all_shown, placed_behind, schedule_after}
 use Rattle.scheduler.proofs.GoalTurns.{run_is}
+
+-- one of those that all are
+pub one_of_all : {X : Type 0} (p : X → Bool) (xs : List X) (i : ℕ) (d : X) → i < length xs → IsTrue (list_all p xs) → IsTrue (p (get_or xs i d))
+one_of_all p xs i d below all = go (p (get_or xs i d)) refl
+  where
+    go : (b : Bool) → p (get_or xs i d) ≡ b → IsTrue b
+    go true e = refl
+    go false e = absurd (false≢true (sym (list_all_at p xs i d below e) ∙ all))
 
 module _ (model : Parts) (constraints : List Constraint) (run_of : Plan → Run) where
   abbrev all_of : List Goal → Plan → ℕ → GoalsPlaced

@@ -5,6 +5,7 @@ pub mod laws;
 mod placing;
 mod progress;
 mod requests;
+mod runs_with_spans;
 mod scheduled;
 mod scheduling;
 mod searching;

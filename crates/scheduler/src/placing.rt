@@ -7,10 +7,11 @@ ghost use Rattle.scheduler.specs.Standing.{IsEither, IsKeptOf, IsRequest, goal_e
 
 use crate::laws::fresh_runs_are_given;
 use crate::requests::GoalRequest;
+use crate::runs_with_spans::RunWithSpans;
 use crate::searching::{Search, first_accepted};
-use aerie_base::{List, OutOfMemory, Shared, Steps};
+use aerie_base::{List, OutOfMemory, Steps};
 use goals::{Gap, candidates, missing};
-use run_data::{Kept, Simulator};
+use run_data::Simulator;
 use std::alloc::Global;
 use std::sync::ledger::Ledger;
 
@@ -18,7 +19,7 @@ use std::sync::ledger::Ledger;
 #[derive(Drop)]
 pub(crate) struct Placing {
     /// The run of the plan so far.
-    pub(crate) kept: Shared<Kept>,
+    pub(crate) kept: RunWithSpans,
     /// The ids that were placed for the goal, in order.
     pub(crate) placed: List<u32>,
     /// How many trials are left.
@@ -41,7 +42,7 @@ impl Placing {
     }
 
     /// The goal goes on with the plan of an accepted trial, and its run.
-    fn with(self, kept: Shared<Kept>, left: u32) -> Result<Placing, OutOfMemory>
+    fn with(self, kept: RunWithSpans, left: u32) -> Result<Placing, OutOfMemory>
         ensures { IfOk result (λ made. made ≡ placed_with self kept left) }
     {
         let Placing {
@@ -49,7 +50,7 @@ impl Placing {
             mut placed,
             ..
         } = self;
-        placed.push(before.get().run().plan.next_id)?;
+        placed.push(before.run().plan.next_id)?;
         Ok(Placing {
             kept,
             placed,
@@ -68,6 +69,20 @@ impl Placing {
             None => Ok(self.closed(left)),
         }
     }
+}
+
+/// The first gap of the goal on a run.
+fn gap_on(
+    alloc: Global,
+    request: &GoalRequest,
+    kept: &RunWithSpans,
+) -> Result<Option<Gap>, OutOfMemory>
+    requires request { IsRequest request.now }
+    requires model { kept.now.model ≡ request.now.model.now }
+    ensures { IfOk result (λ gap. gap ≡ first_gap request.now.model.now request.now.goal.now kept.now.run) }
+{
+    let gap = missing(alloc, request.model, request.goal, kept.run(), kept.spans())?;
+    Ok(gap)
 }
 
 /// The first accepted trial for a gap of the goal.
@@ -92,8 +107,9 @@ fn search<M: Simulator, L: Ledger, K: Ledger>(
     ensures same_bound { M.bound simulator.new ≡ M.bound simulator.old }
     ensures anchor { M.anchor simulator.new ≡ M.anchor simulator.old }
 {
-    let run = placing.kept.get().run();
-    let times = candidates(alloc, request.model, request.goal, run, gap)?;
+    let run = placing.kept.run();
+    let spans = placing.kept.spans();
+    let times = candidates(alloc, request.model, request.goal, run, spans, gap)?;
     let found = first_accepted(
         alloc,
         request,
@@ -132,7 +148,7 @@ fn fill_gap<M: Simulator, L: Ledger, K: Ledger>(
     ensures anchor { M.anchor simulator.new ≡ M.anchor simulator.old }
 {
     fresh_runs_are_given();
-    let found = missing(alloc, request.model, request.goal, placing.kept.get().run())?;
+    let found = gap_on(alloc, request, &placing.kept)?;
     match found {
         Some(gap) => {
             let found = search(alloc, request, &gap, &placing, simulator, steps, looks)?;
@@ -178,7 +194,7 @@ fn fill_gaps<M: Simulator, L: Ledger, K: Ledger>(
 fn ended(
     alloc: Global,
     request: &GoalRequest,
-    before: Shared<Kept>,
+    before: RunWithSpans,
     placing: Placing,
 ) -> Result<Placing, OutOfMemory>
     requires request { IsRequest request.now }
@@ -189,7 +205,7 @@ fn ended(
     if !request.goal.rollback {
         return Ok(placing);
     }
-    let gap = missing(alloc, request.model, request.goal, placing.kept.get().run())?;
+    let gap = gap_on(alloc, request, &placing.kept)?;
     if gap.is_none() {
         return Ok(placing);
     }
@@ -206,7 +222,7 @@ fn ended(
 pub(crate) fn place_goal<M: Simulator, L: Ledger, K: Ledger>(
     alloc: Global,
     request: &GoalRequest,
-    kept: Shared<Kept>,
+    kept: RunWithSpans,
     left: u32,
     simulator: &mut M,
     steps: &mut Steps<L>,

@@ -3,6 +3,7 @@
 ghost use Rattle.std.specs.Prelude.{◌≡◌, ◌≤◌, IsTrue, IfOk, length};
 ghost use Rattle.std.specs.List.{list_all};
 ghost use Rattle.run_data.specs.Fresh.{IsFresh};
+ghost use Rattle.span_table.specs.SpanLaws.{AreSpansOf};
 ghost use Rattle.constraints.specs.OfModel.{is_constraint};
 ghost use Rattle.goals.specs.Goals.{is_goal_met};
 ghost use Rattle.goals.specs.OfModel.{is_goal};
@@ -12,10 +13,12 @@ ghost use Rattle.scheduler.specs.Standing.{IsKeptOf, IsRequest, all_shown, next_
 
 use crate::placing::place_goal;
 use crate::requests::GoalRequest;
-use aerie_base::{List, Model, OutOfMemory, Shared, Steps};
+use crate::runs_with_spans::RunWithSpans;
+use aerie_base::{List, Model, OutOfMemory, Steps};
 use constraints::Constraint;
 use goals::{Goal, GoalStatus, met};
-use run_data::{Kept, Run, Simulator};
+use run_data::{Run, Simulator};
+use span_table::Span;
 use std::alloc::Global;
 use std::sync::ledger::Ledger;
 
@@ -26,7 +29,7 @@ pub(crate) const TRIAL_LIMIT: u32 = 10_000;
 #[derive(Drop)]
 pub(crate) struct GoalProgress {
     /// The run of the plan so far.
-    pub(crate) kept: Shared<Kept>,
+    pub(crate) kept: RunWithSpans,
     /// The ids that were placed for each goal, in order.
     pub(crate) placed: List<List<u32>>,
     /// How many trials are left.
@@ -74,7 +77,7 @@ pub(crate) fn place_goals<M: Simulator, L: Ledger, K: Ledger>(
     model: &Model,
     goals: &[Goal],
     constraints: &[Constraint],
-    kept: Shared<Kept>,
+    kept: RunWithSpans,
     simulator: &mut M,
     steps: &mut Steps<L>,
     looks: &mut Steps<K>,
@@ -115,14 +118,16 @@ fn goal_status(
     model: &Model,
     goal: &Goal,
     run: &Run,
+    spans: &[Span],
     placed: &[u32],
 ) -> Result<GoalStatus, OutOfMemory>
     requires fresh { IsFresh model.now run.now.plan run.now.bound run.now }
+    requires spans { AreSpansOf model.now run.now spans.now }
     requires goal { IsTrue (is_goal model.now goal.now) }
     ensures { IfOk result (λ status. status ≡ goal_status_by model.now run.now goal.now placed.now) }
 {
     let name = goal.name.copy(alloc)?;
-    let is_met = met(alloc, model, goal, run)?;
+    let is_met = met(alloc, model, goal, run, spans)?;
     let placed = Vec::from_slice(alloc, placed)?;
     Ok(GoalStatus {
         goal: name,
@@ -137,16 +142,18 @@ pub(crate) fn statuses(
     model: &Model,
     goals: &[Goal],
     run: &Run,
+    spans: &[Span],
     placed: &[List<u32>],
 ) -> Result<List<GoalStatus>, OutOfMemory>
     requires fresh { IsFresh model.now run.now.plan run.now.bound run.now }
+    requires spans { AreSpansOf model.now run.now spans.now }
     requires goals { IsTrue (list_all (is_goal model.now) goals.now) }
     requires each { length placed.now ≡ length goals.now }
     ensures { IfOk result (λ statuses. statuses ≡ statuses_on model.now run.now goals.now placed.now) }
 {
     let mut statuses = List::with_capacity(alloc, goals.len())?;
     for at in 0..goals.len() {
-        statuses.push(goal_status(alloc, model, &goals[at], run, placed[at].as_slice())?)?;
+        statuses.push(goal_status(alloc, model, &goals[at], run, spans, placed[at].as_slice())?)?;
     }
     Ok(statuses)
 }

@@ -45,9 +45,10 @@ fn finished(
     requires each { length progress.now.placed ≡ length goals.now }
     ensures { IfOk result (λ made. made ≡ schedule_after model.now goals.now progress.now) }
 {
-    let run = progress.kept.get().run();
-    let plan = copy_plan(alloc, &run.plan)?;
-    let statuses = statuses(alloc, model, goals, run, progress.placed.as_slice())?;
+    let kept = &progress.kept;
+    let plan = copy_plan(alloc, &kept.run().plan)?;
+    let placed = progress.placed.as_slice();
+    let statuses = statuses(alloc, model, goals, kept.run(), kept.spans(), placed)?;
     Ok(Schedule {
         plan,
         goals: statuses,

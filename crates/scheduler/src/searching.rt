@@ -6,10 +6,11 @@ ghost use Rattle.scheduler.specs.FreshRuns.{kept_run};
 ghost use Rattle.scheduler.specs.Standing.{IsRequest, first_accepted_for, searched_of};
 
 use crate::requests::GoalRequest;
+use crate::runs_with_spans::RunWithSpans;
 use crate::trials::{Trial, tried};
-use aerie_base::{OutOfMemory, Plan, Shared, Steps, Time};
+use aerie_base::{OutOfMemory, Plan, Steps, Time};
 use goals::Gap;
-use run_data::{Kept, Simulator};
+use run_data::Simulator;
 use std::alloc::Global;
 use std::sync::ledger::Ledger;
 
@@ -17,7 +18,7 @@ use std::sync::ledger::Ledger;
 #[derive(Drop)]
 pub(crate) struct Search {
     /// The run of the plan with the first accepted trial, if there is one.
-    pub(crate) kept: Option<Shared<Kept>>,
+    pub(crate) kept: Option<RunWithSpans>,
     /// How many trials are left.
     pub(crate) left: u32,
 }

@@ -5,19 +5,21 @@ ghost use Rattle.std.specs.List.{list_all};
 ghost use Rattle.aerie_base.specs.plans.OfModel.{IsPlanOf};
 ghost use Rattle.run_data.specs.Fresh.{IsFresh};
 ghost use Rattle.constraints.specs.OfModel.{is_constraint};
+ghost use Rattle.span_table.specs.SpanLaws.{AreSpansOf};
 ghost use Rattle.plan_edit.specs.Editing.{is_full as is_full_plan, is_outside as is_outside_plan};
 ghost use Rattle.scheduler.specs.FreshRuns.{kept_run};
 ghost use Rattle.scheduler.specs.Standing.{IsKeptOf, IsRequest, trial_of, verdict_for};
 ghost use Rattle.scheduler.specs.Trials.{is_accepted as accepts, is_kept as is_kept_by, is_kept_well as is_kept_well_by, directive_with, keeps as keeps_all, made_with};
 
 use crate::requests::GoalRequest;
-use aerie_base::{Directive, Model, OutOfMemory, Plan, Shared, Steps, Time, copy_list};
+use crate::runs_with_spans::RunWithSpans;
+use aerie_base::{Directive, Model, OutOfMemory, Plan, Steps, Time, copy_list};
 use constraints::{Constraint, violations};
 use goals::{Gap, Goal, Template, is_filled};
 use plan_edit::copy_plan;
-use run_data::laws::{fresh_runs, simulation_ends};
-use run_data::{Kept, Run, Simulator};
-use span_table::spans;
+use run_data::laws::simulation_ends;
+use run_data::{Run, Simulator};
+use span_table::Span;
 use std::alloc::Global;
 use std::sync::ledger::Ledger;
 
@@ -29,7 +31,7 @@ pub(crate) enum Trial {
     /// The run is not as the goal wants it.
     Rejected,
     /// The run is as the goal wants it.
-    Accepted(Shared<Kept>),
+    Accepted(RunWithSpans),
 }
 
 /// The most directives of a plan.
@@ -124,17 +126,18 @@ fn is_kept_well(
     model: &Model,
     goal: &Goal,
     run: &Run,
+    spans: &[Span],
     constraint: &Constraint,
 ) -> Result<bool, OutOfMemory>
     requires fresh { IsFresh model.now run.now.plan run.now.bound run.now }
+    requires spans { AreSpansOf model.now run.now spans.now }
     requires constraint { IsTrue (is_constraint model.now constraint.now) }
     ensures { IfOk result (λ well. well ≡ is_kept_well_by model.now goal.now run.now constraint.now) }
 {
     if !is_kept(goal, constraint) {
         return Ok(true);
     }
-    let spans = spans(alloc, model, run)?;
-    let found = violations(alloc, model, run, spans.as_slice(), constraint)?;
+    let found = violations(alloc, model, run, spans, constraint)?;
     Ok(found.is_empty())
 }
 
@@ -145,13 +148,15 @@ fn keeps(
     constraints: &[Constraint],
     goal: &Goal,
     run: &Run,
+    spans: &[Span],
 ) -> Result<bool, OutOfMemory>
     requires fresh { IsFresh model.now run.now.plan run.now.bound run.now }
+    requires spans { AreSpansOf model.now run.now spans.now }
     requires constraints { IsTrue (list_all (is_constraint model.now) constraints.now) }
     ensures { IfOk result (λ kept. kept ≡ keeps_all model.now constraints.now goal.now run.now) }
 {
     for constraint in constraints {
-        if !is_kept_well(alloc, model, goal, run, constraint)? {
+        if !is_kept_well(alloc, model, goal, run, spans, constraint)? {
             return Ok(false);
         }
     }
@@ -164,25 +169,34 @@ fn is_accepted(
     request: &GoalRequest,
     gap: &Gap,
     run: &Run,
+    spans: &[Span],
 ) -> Result<bool, OutOfMemory>
     requires request { IsRequest request.now }
     requires fresh { IsFresh request.now.model.now run.now.plan run.now.bound run.now }
+    requires spans { AreSpansOf request.now.model.now run.now spans.now }
     ensures { IfOk result (λ yes. yes ≡ accepts request.now.model.now request.now.constraints.now request.now.goal.now gap.now run.now) }
 {
-    if !is_filled(alloc, request.model, request.goal, gap, run)? {
+    if !is_filled(alloc, request.model, request.goal, gap, run, spans)? {
         return Ok(false);
     }
-    keeps(alloc, request.model, request.constraints, request.goal, run)
+    keeps(
+        alloc,
+        request.model,
+        request.constraints,
+        request.goal,
+        run,
+        spans,
+    )
 }
 
-/// The kept fresh run of the plan.
+/// The kept fresh run of the plan, with its spans.
 pub(crate) fn simulated<M: Simulator, L: Ledger, K: Ledger>(
     alloc: Global,
     plan: &Plan,
     simulator: &mut M,
     steps: &mut Steps<L>,
     looks: &mut Steps<K>,
-) -> Result<Shared<Kept>, OutOfMemory>
+) -> Result<RunWithSpans, OutOfMemory>
     requires shares { M.shares }
     requires plan { IsPlanOf (M.model simulator.old) plan.now }
     ensures kept { IfOk result (λ kept. kept ≡ kept_run (M.model simulator.old) (M.bound simulator.old) plan.now) }
@@ -195,7 +209,8 @@ pub(crate) fn simulated<M: Simulator, L: Ledger, K: Ledger>(
 {
     simulation_ends();
     let kept = simulator.run(alloc, plan, steps, looks)?;
-    Ok(kept)
+    let made = RunWithSpans::of(alloc, kept)?;
+    Ok(made)
 }
 
 /// What comes of a candidate for the goal's gap.
@@ -224,7 +239,7 @@ pub(crate) fn tried<M: Simulator, L: Ledger, K: Ledger>(
         return Ok(Trial::Refused);
     };
     let kept = simulated(alloc, &next, simulator, steps, looks)?;
-    if is_accepted(alloc, request, gap, kept.get().run())? {
+    if is_accepted(alloc, request, gap, kept.run(), kept.spans())? {
         return Ok(Trial::Accepted(kept));
     }
     Ok(Trial::Rejected)

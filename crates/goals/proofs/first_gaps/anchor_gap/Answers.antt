@@ -1,11 +1,8 @@
-use Rattle.std.proofs.Common.{ℕ, List, ap, subst, sym, ◌∙◌}
+use Rattle.std.proofs.Common.{subst, sym, ap, ◌∙◌}
 use Rattle.goals.specs.Gaps.{coexistence_gap as least_without}
 use Rattle.goals.specs.Merging.{Rises}
 use Rattle.goals.proofs.SortedAnchors.{in_any_order}
 use Rattle.goals.proofs.first_gaps.anchor_gap.Goals as goal
-
-pub coexistence_gap-gap-requires-clause-starts : goal.coexistence_gap-gap-requires-clause-starts
-coexistence_gap-gap-requires-clause-starts c = subst Rises (sym c.as_slice-starts.ensures.value) c.requires.rises
 
 pub coexistence_gap-gap-requires-clause-anchors : goal.coexistence_gap-gap-requires-clause-anchors
 coexistence_gap-gap-requires-clause-anchors c = subst Rises (sym c.as_slice.ensures.value) c.in_ok-anchors.ensures.rises
@@ -13,6 +10,5 @@ coexistence_gap-gap-requires-clause-anchors c = subst Rises (sym c.as_slice.ensu
 pub returns : goal.returns
 returns c =
     c.coexistence_gap-gap.ensures
-    ∙ ap (λ (starts : List ℕ). least_without c.args.beside.now.from c.args.beside.now.to starts c.as_slice.result.now) c.as_slice-starts.ensures.value
-    ∙ ap (least_without c.args.beside.now.from c.args.beside.now.to c.args.matched.now.starts.items) c.as_slice.ensures.value
-    ∙ in_any_order c.args.beside.now.from c.args.beside.now.to c.args.matched.now.starts.items _ _ c.in_ok-anchors.ensures.permutation
+    ∙ ap (least_without c.args.beside.now.from c.args.beside.now.to c.args.starts.now) c.as_slice.ensures.value
+    ∙ in_any_order c.args.beside.now.from c.args.beside.now.to c.args.starts.now _ _ c.in_ok-anchors.ensures.permutation

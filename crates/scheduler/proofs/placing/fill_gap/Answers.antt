@@ -1,6 +1,4 @@
 use Rattle.std.proofs.Common.{◌<◌, ◌∙◌, ap, sym, subst}
-use Rattle.run_data.specs.KeptRuns.{KeptRun}
-use Rattle.goals.specs.Goals.{first_gap}
 use Rattle.scheduler.specs.declared.placing.Placing.{Placing}
 use Rattle.scheduler.specs.Standing.{IsKeptOf, goal_filled, turns_left}
 use Rattle.scheduler.proofs.GoalTurns.{goes_after, fewer_after, kept_after}
@@ -10,8 +8,7 @@ pub returns-in_ok-made-in-Some-clause-filled : goal.returns-in_ok-made-in-Some-c
 returns-in_ok-made-in-Some-clause-filled g c =
     let bound = g.M.Simulator.bound c.args.simulator.now in
     let request = c.args.request.now in
-    let run = c.run.ensures.value ∙ ap (λ (kept : KeptRun). kept.run) c.get.ensures in
-    let some = ap (first_gap request.model.now request.goal.now) (sym run) ∙ sym c.in_ok-found.ensures.exact ∙ c.in-Some.is in
+    let some = sym c.in_ok-found.ensures ∙ c.in-Some.is in
     ap (λ (made : Placing). goal_filled bound request made) c.in_ok-made-in-Some.ensures
     ∙ goes_after bound request c.args.placing c.requires.kept c.requires.goes_on (c.fresh_runs_are_given.ensures.plan request.model.now bound) c.in-Some.gap some
     c.in_ok-found-in-Some.found c.in_ok-found-in-Some.ensures.found
@@ -20,8 +17,7 @@ pub returns-in_ok-made-in-Some-clause-fewer : goal.returns-in_ok-made-in-Some-cl
 returns-in_ok-made-in-Some-clause-fewer g c =
     let bound = g.M.Simulator.bound c.args.simulator.now in
     let request = c.args.request.now in
-    let run = c.run.ensures.value ∙ ap (λ (kept : KeptRun). kept.run) c.get.ensures in
-    let some = ap (first_gap request.model.now request.goal.now) (sym run) ∙ sym c.in_ok-found.ensures.exact ∙ c.in-Some.is in
+    let some = sym c.in_ok-found.ensures ∙ c.in-Some.is in
     subst (λ (made : Placing). turns_left made < turns_left c.args.placing) (sym c.in_ok-made-in-Some.ensures)
     (fewer_after bound request c.args.placing c.requires.kept c.requires.goes_on (c.fresh_runs_are_given.ensures.plan request.model.now bound) c.in-Some.gap some
     c.in_ok-found-in-Some.found c.in_ok-found-in-Some.ensures.found)
@@ -30,8 +26,7 @@ pub returns-in_ok-made-in-Some-clause-kept : goal.returns-in_ok-made-in-Some-cla
 returns-in_ok-made-in-Some-clause-kept g c =
     let bound = g.M.Simulator.bound c.args.simulator.now in
     let request = c.args.request.now in
-    let run = c.run.ensures.value ∙ ap (λ (kept : KeptRun). kept.run) c.get.ensures in
-    let some = ap (first_gap request.model.now request.goal.now) (sym run) ∙ sym c.in_ok-found.ensures.exact ∙ c.in-Some.is in
+    let some = sym c.in_ok-found.ensures ∙ c.in-Some.is in
     subst (λ (made : Placing). IsKeptOf request.model.now bound made.kept) (sym c.in_ok-made-in-Some.ensures)
     (kept_after bound request c.args.placing c.requires.kept c.requires.goes_on (c.fresh_runs_are_given.ensures.plan request.model.now bound) c.in-Some.gap some
     c.in_ok-found-in-Some.found c.in_ok-found-in-Some.ensures.found c.requires.request)
