@@ -1,12 +1,11 @@
 //! Paths of tasks.
 
-ghost use Rattle.std.specs.Prelude.{◌≡◌, ◌↔◌, ◌∷◌, ◌++◌, IsTrue, IfOk, Some, None, Ok, false, nat_eq, refl};
+ghost use Rattle.std.specs.Prelude.{◌≡◌, ◌↔◌, ◌∷◌, IsTrue, IfOk, Some, None, Ok, false, nat_eq, refl};
+ghost use Rattle.std.proofs.Common.{ap, sym};
 ghost use Rattle.std.specs.Ordering.{nat_cmp};
 ghost use Rattle.std.specs.Cmp.{partial_equiv_from_equiv};
-ghost use Rattle.std.specs.Cmp.Rules.{hashing};
-ghost use Rattle.std.proofs.Common.{rules};
-ghost use Rattle.std.specs.Hash as fed;
-ghost use Rattle.std.specs.Cmp.Lexicographic.{pointwise, slice_cmp, nat_list_eq_equiv, nat_list_cmp_total, texts_po, texts_ties};
+ghost use Rattle.std.specs.Cmp.Lexicographic.{pointwise, slice_cmp, nat_list_eq_equiv, nat_list_cmp_total, same_text, texts_po, texts_ties};
+ghost use Rattle.aerie_base.specs.PathHashes.{hashed};
 ghost use Rattle.aerie_base.specs.Paths.{root, daemon_root, comes_from_daemon, id_of, children_of, path_of, is_path, may_have_children, child_of, is_prefix, path_cmp, AnyUnder};
 ghost use Rattle.std.specs.BTreeSet.{contains};
 
@@ -193,13 +192,17 @@ impl Ord for Path {
 }
 
 impl Hash for Path {
-    ghost hash_input = { λ path. fed.bool (comes_from_daemon path) ++ (fed.u32 (id_of path) ++ fed.slice fed.u32 (children_of path)) };
+    ghost hash_input = { hashed };
 
-    ghost respects_eq = { Prim.search (hashing, rules) };
+    ghost respects_eq = { λ path other same. ap hashed (same_text path other (sym same)) };
 
+    /// A path without children, as most are, is hashed as one number.
     fn hash<H: Hasher>(&self, state: &mut H) {
-        self.daemon.hash(state);
-        self.id.hash(state);
+        let root = u64::from(self.id) * 2 + u64::from(self.daemon);
+        root.hash(state);
+        if self.children.is_empty() {
+            return;
+        }
         self.children().hash(state);
     }
 }

@@ -45,3 +45,4 @@ mod TreeParts
 mod TreeSizes
 mod WakingTasks
 mod Watchers
+mod WholeGenerations

@@ -1,7 +1,7 @@
 -- A batch a generation at a time: what one turn does, and where the batch stands between turns.
-use Rattle.std.specs.Prelude.{◌≡◌, ℕ, ◌+◌, ◌*◌, ◌-◌, ◌≤◌, List, [], map, length, Option, Some, None}
+use Rattle.std.specs.Prelude.{◌≡◌, ℕ, ◌+◌, ◌*◌, ◌-◌, ◌≤◌, ◌<◌, List, [], map, length, Option, Some, None, IsTrue, slice_get}
 use Rattle.std.specs.List.{All}
-use Rattle.aerie_base.specs.Paths.{child_limit}
+use Rattle.aerie_base.specs.Paths.{child_limit, children_of, is_path}
 use Rattle.aerie_base.specs.Ranges.{number_limit, step_limit}
 use Rattle.aerie_base.specs.declared.models.model.Parts.{Parts}
 use Rattle.effect_cells.specs.declared.effects.CellState.{CellState}
@@ -113,6 +113,14 @@ pub record Ran (was is : Parts → Type 0) (had has : List Record) (anchor stays
   pub looked : looks ≤ looks_after
 
 -- ---- one frame
+
+-- it is a path, and has room for a child
+pub record HasRoom (path : List ℕ) : Type 0 where
+  pub good : IsTrue (is_path path)
+  pub room : length (children_of path) < child_limit
+
+abbrev pub HaveRoom : List Job → Type 0
+HaveRoom jobs = (at : ℕ) (job : Job) → slice_get jobs at ≡ Some job → HasRoom job.path
 
 -- the frame of a job with those so far, and the jobs that are due then
 abbrev pub AddsFrame : Parts → ℕ × Job → Frame → List Frame → List Frame → List (ℕ × Job) → List (ℕ × Job) → Type 0

@@ -1,6 +1,6 @@
 ghost use Rattle.std.specs.Prelude.{◌≡◌, ◌↔◌, IsTrue, IfOk};
 
-use aerie_base::{List, OutOfMemory, Value, copy_list, same_list};
+use aerie_base::{List, OutOfMemory, Value, same_list};
 use std::alloc::Global;
 
 /// A body of the model.
@@ -28,10 +28,11 @@ impl TaskState {
     pub fn copy(&self, alloc: Global) -> Result<TaskState, OutOfMemory>
         ensures { IfOk result (λ copy. copy ≡ self.now) }
     {
+        let locals = Vec::from_slice(alloc, self.locals.as_slice())?;
         Ok(TaskState {
             kind: self.kind,
             at: self.at,
-            locals: copy_list(alloc, &self.locals)?,
+            locals: List::from_vec(locals),
         })
     }
 

@@ -105,7 +105,7 @@ pub(crate) fn run_jobs<L: Ledger>(
     ensures opened { RoseAlike opened.old steps.old opened.new steps.new }
 {
     budget_decides_the_end_alone();
-    let mut frames = List::new(alloc);
+    let mut frames = List::with_capacity(alloc, jobs.len())?;
     let mut left = fuel;
     for job in jobs {
         match run_job(alloc, model, codes, job, left, steps, opened)? {

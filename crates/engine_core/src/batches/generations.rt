@@ -1,13 +1,13 @@
 //! The frames of a batch a generation at a time.
 
-ghost use Rattle.std.specs.Prelude.{◌≡◌, ℕ, ◌∷◌, ◌++◌, ◌+◌, ◌-◌, ◌*◌, ◌≤◌, ◌<◌, [], Some, min, map, option_map, length, IfOk, OnOk};
+ghost use Rattle.std.specs.Prelude.{◌≡◌, ℕ, ◌∷◌, ◌++◌, ◌+◌, ◌-◌, ◌*◌, ◌≤◌, ◌<◌, [], Some, true, min, map, option_map, length, IfOk, OnOk};
 ghost use Rattle.aerie_base.specs.Ranges.{step_limit};
 ghost use Rattle.aerie_base.specs.declared.models.model.Parts.{Parts};
 ghost use Rattle.run_data.specs.Batches.{cost_of};
 ghost use Rattle.run_data.specs.Waves.{last_count, wave_of, RoseAlike};
 ghost use Rattle.run_data.specs.laws.Generations.{beside_generation};
 ghost use Rattle.engine_core.specs.BatchDues.{AreSeenSteps, IsSeenStep};
-ghost use Rattle.engine_core.specs.BatchGenerations.{so_far, added_by, AddsGeneration, MayRun, IsTurn, PaysForTurn, LooksForTurn, PaysForAll, LooksForAll, Ran, AreDueJobs, AreAllFrames, AddsFrame};
+ghost use Rattle.engine_core.specs.BatchGenerations.{so_far, added_by, AddsGeneration, MayRun, IsTurn, PaysForTurn, LooksForTurn, PaysForAll, LooksForAll, Ran, AreDueJobs, AreAllFrames, AddsFrame, HaveRoom, jobs_of};
 
 use super::children::{deep_frames, with_children};
 use crate::ready_jobs::ReadyJobs;
@@ -58,8 +58,8 @@ fn add_frame(
     Ok(dues)
 }
 
-/// Puts the frames of jobs behind others, and gives the jobs that are due next.
-fn add_frames(
+/// The same for the frames of jobs, one after another.
+fn add_each(
     alloc: Global,
     model: &Model,
     jobs: &ReadyJobs,
@@ -78,6 +78,73 @@ fn add_frames(
         at += 1;
     }
     Ok(dues)
+}
+
+/// Whether the paths of jobs have room for children.
+fn have_room(jobs: &[Job]) -> bool
+    ensures { result ≡ true → HaveRoom jobs.now }
+{
+    for job in jobs {
+        if job.path.children().len() >= CHILD_LIMIT {
+            return false;
+        }
+    }
+    true
+}
+
+/// Puts frames behind others. Where there are no others, no frame is moved.
+fn put_behind(made: &mut Vec<Frame>, frames: List<Frame>) -> Result<(), OutOfMemory>
+    ensures { OnOk result (made.new.items ≡ made.old.items ++ frames) }
+{
+    let mut frames = frames.into_vec();
+    if made.is_empty() {
+        *made = frames;
+        return Ok(());
+    }
+    made.append(&mut frames)?;
+    Ok(())
+}
+
+/// The same as one by one, where the paths of the jobs have room, so that the list of the frames stays as it is.
+fn add_all(
+    alloc: Global,
+    model: &Model,
+    jobs: &ReadyJobs,
+    frames: List<Frame>,
+    made: &mut Vec<Frame>,
+) -> Result<ReadyJobs, OutOfMemory>
+    requires as_many { length frames ≡ length jobs.now }
+    requires seen { AreSeenSteps jobs.now frames }
+    requires room { HaveRoom (jobs_of jobs.now) }
+    ensures { IfOk result (λ dues. AddsGeneration model.now jobs.now frames made.old.items made.new.items dues) }
+{
+    let mut dues = ReadyJobs::new(alloc);
+    for at in 0..jobs.len() {
+        let job = &jobs.jobs()[at];
+        let items = frames.as_slice()[at].items.as_slice();
+        dues = with_children(alloc, model, job, jobs.made(at), items, dues)?;
+    }
+    put_behind(made, frames)?;
+    Ok(dues)
+}
+
+/// Puts the frames of jobs behind others, and gives the jobs that are due next.
+fn add_frames(
+    alloc: Global,
+    model: &Model,
+    jobs: &ReadyJobs,
+    frames: List<Frame>,
+    made: &mut Vec<Frame>,
+) -> Result<ReadyJobs, OutOfMemory>
+    requires as_many { length frames ≡ length jobs.now }
+    requires seen { AreSeenSteps jobs.now frames }
+    ensures { IfOk result (λ dues. AddsGeneration model.now jobs.now frames made.old.items made.new.items dues) }
+{
+    if have_room(jobs.jobs()) {
+        add_all(alloc, model, jobs, frames, made)
+    } else {
+        add_each(alloc, model, jobs, frames, made)
+    }
 }
 
 /// Runs the jobs of a generation and adds their frames to those so far. With the jobs that are due next comes what is left of the
@@ -146,8 +213,7 @@ pub(super) fn all_frames<S: Stepper, L: Ledger, K: Ledger>(
     steps_are_small();
     budget_decides_the_end_alone();
     let _ = model.cells();
-    // a frame is large and the run keeps the list: most batches make a frame for each job, and no more
-    let mut made = Vec::with_capacity(alloc, jobs.len())?;
+    let mut made = Vec::new(alloc);
     let fuel = bound - spent;
     let first = run_generation(
         alloc, model, bound, jobs, fuel, &mut made, stepper, steps, looks,

@@ -10,17 +10,6 @@ use aerie_base::{List, OutOfMemory};
 use effect_cells::{Tree, flag_touched};
 use std::alloc::Global;
 
-/// So many flags that are not set.
-fn blank(alloc: Global, count: usize) -> Result<Vec<bool>, OutOfMemory>
-    ensures { IfOk result (λ flags. flags.items ≡ replicate count false) }
-{
-    let mut flags = Vec::with_capacity(alloc, count)?;
-    for at in 0..count {
-        flags.push(false)?;
-    }
-    Ok(flags)
-}
-
 /// Whether the flag at a place is set.
 fn is_set(flags: &[bool], at: usize) -> bool
     requires { at < length flags.now }
@@ -70,7 +59,7 @@ pub(super) fn touched_cells(
     requires { count ≤ 65536 }
     ensures { IfOk result (AreTouched count tree.now) }
 {
-    let mut flags = blank(alloc, count)?;
+    let mut flags = vec![in alloc; false; count]?;
     let touched = numbers_with(alloc, tree, flags.as_mut_slice())?;
     Ok(touched)
 }

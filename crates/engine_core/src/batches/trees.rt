@@ -54,12 +54,13 @@ fn parts(
     requires number { number ≤ step_limit }
     ensures { IfOk result (λ parts. parts ≡ rebuilt frames.now (room_of path.now) number path.now) }
 {
-    let mut parts = List::new(alloc);
     let Some(frame) = find(frames, path) else {
-        return Ok(parts);
+        return Ok(List::new(alloc));
     };
+    let items = frame.items.as_slice();
+    let mut parts = List::with_capacity(alloc, items.len())?;
     let mut next = number;
-    for item in frame.items.as_slice() {
+    for item in items {
         let part = part(alloc, frames, path, next, item)?;
         parts.push(part)?;
         next += children_in(item);
@@ -132,7 +133,7 @@ pub(super) fn tree(alloc: Global, frames: &[Frame], jobs: &ReadyJobs) -> Result<
     requires made { EachOf (λ job. job.0 ≤ step_limit) jobs.now }
     ensures { IfOk result (λ tree. tree ≡ tree_by_frames frames.now jobs.now) }
 {
-    let mut items = List::new(alloc);
+    let mut items = List::with_capacity(alloc, jobs.len())?;
     for at in 0..jobs.len() {
         let path = &jobs.jobs()[at].path;
         let parts = parts(alloc, frames, path, jobs.made(at))?;

@@ -5,41 +5,35 @@ use Rattle.run_data.specs.declared.frames.Frame.{Frame}
 use Rattle.run_data.specs.Records.{unmatched}
 use Rattle.engine_core.proofs.BatchLoop.{begins, can_run, stopped, turned, one_less, pays_on, looks_on, ended, out_of_turns}
 use Rattle.engine_core.proofs.BatchRuns.{ran_on}
-use Rattle.engine_core.proofs.RunCounts.{ran_not}
 use Rattle.engine_core.proofs.batches.generations.all_frames.Goals as goal
-
-pub returns-in_err-made-clause-ran : goal.returns-in_err-made-clause-ran
-returns-in_err-made-clause-ran g c =
-    ran_not (g.S.Stepper.is_of c.args.stepper.now) (g.S.Stepper.records c.args.stepper.now) (g.S.Stepper.anchor c.args.stepper.now) (g.S.Stepper.opened c.args.stepper.now)
-    c.args.steps.now c.args.looks.now (g.S.Stepper.counted c.args.stepper.now)
 
 pub run_generation-requires-clause-jobs : goal.run_generation-requires-clause-jobs
 run_generation-requires-clause-jobs g c =
-    can_run c.args.model.now c.args.bound c.args.spent c.args.jobs.now child_limit c.in_ok-made.made.items (c.args.bound - c.args.spent) c.args.jobs.now
-    (begins c.args.model.now c.args.bound c.args.spent c.args.jobs.now c.in_ok-made.made.items c.in_ok-made.ensures.items c.requires.spent c.requires.jobs)
+    can_run c.args.model.now c.args.bound c.args.spent c.args.jobs.now child_limit c.new-made.result.items (c.args.bound - c.args.spent) c.args.jobs.now
+    (begins c.args.model.now c.args.bound c.args.spent c.args.jobs.now c.new-made.result.items c.new-made.ensures.items c.requires.spent c.requires.jobs)
     c.steps_are_small.ensures.jobs c.steps_are_small.ensures.small c.budget_decides_the_end_alone.ensures.within c.cells.ensures.valid c.requires.bound (omega arith)
 
 pub returns-in_default-clause-frames : goal.returns-in_default-clause-frames
 returns-in_default-clause-frames g c =
-    stopped c.args.model.now c.args.bound c.args.spent c.args.jobs.now child_limit c.in_ok-made.made.items (c.args.bound - c.args.spent) c.args.jobs.now
-    (begins c.args.model.now c.args.bound c.args.spent c.args.jobs.now c.in_ok-made.made.items c.in_ok-made.ensures.items c.requires.spent c.requires.jobs)
+    stopped c.args.model.now c.args.bound c.args.spent c.args.jobs.now child_limit c.new-made.result.items (c.args.bound - c.args.spent) c.args.jobs.now
+    (begins c.args.model.now c.args.bound c.args.spent c.args.jobs.now c.new-made.result.items c.new-made.ensures.items c.requires.spent c.requires.jobs)
     c.waves_go_by_what_is_left.ensures.limit c.requires.jobs.apart c.run_generation.new.made.items c.in_ok-first.first c.in_default.is c.in_ok-first.ensures.turn
 
 pub loop-turn-init : goal.loop-turn-init
 loop-turn-init g c =
-    let free : unmatched c.in_ok-made.made.items (g.S.Stepper.records c.args.stepper.now) ≡ 0 = ap (λ (l : List Frame). unmatched l (g.S.Stepper.records c.args.stepper.now)) c.in_ok-made.ensures.items in
-    let none : length c.in_ok-made.made.items ≡ 0 = ap (λ (l : List Frame). length l) c.in_ok-made.ensures.items in
+    let free : unmatched c.new-made.result.items (g.S.Stepper.records c.args.stepper.now) ≡ 0 = ap (λ (l : List Frame). unmatched l (g.S.Stepper.records c.args.stepper.now)) c.new-made.ensures.items in
+    let none : length c.new-made.result.items ≡ 0 = ap (λ (l : List Frame). length l) c.new-made.ensures.items in
     record {
       stands =
-          turned c.args.model.now c.args.bound c.args.spent c.args.jobs.now child_limit c.in_ok-made.made.items (c.args.bound - c.args.spent) c.args.jobs.now
-          (begins c.args.model.now c.args.bound c.args.spent c.args.jobs.now c.in_ok-made.made.items c.in_ok-made.ensures.items c.requires.spent c.requires.jobs)
+          turned c.args.model.now c.args.bound c.args.spent c.args.jobs.now child_limit c.new-made.result.items (c.args.bound - c.args.spent) c.args.jobs.now
+          (begins c.args.model.now c.args.bound c.args.spent c.args.jobs.now c.new-made.result.items c.new-made.ensures.items c.requires.spent c.requires.jobs)
           c.waves_go_by_what_is_left.ensures.frames c.same_by_generations.ensures.frames c.steps_are_small.ensures.generation c.cells.ensures.valid c.requires.bound (omega arith)
           c.run_generation.new.made.items c.in_ok-first.first c.in-Some.dues c.in-Some.left c.in-Some.is c.in_ok-first.ensures.turn;
       pays =
-          pays_on c.in_ok-first.first (c.in-Some.dues, c.in-Some.left) (g.S.Stepper.records c.args.stepper.now) (g.S.Stepper.records c.args.stepper.now) c.in_ok-made.made.items c.run_generation.new.made.items
+          pays_on c.in_ok-first.first (c.in-Some.dues, c.in-Some.left) (g.S.Stepper.records c.args.stepper.now) (g.S.Stepper.records c.args.stepper.now) c.new-made.result.items c.run_generation.new.made.items
           c.args.steps.now c.args.steps.now c.run_generation.new.steps c.in-Some.is refl (omega (arith, free)) c.in_ok-first.ensures.pays;
       few_looks =
-          looks_on c.in_ok-first.first (c.in-Some.dues, c.in-Some.left) c.in_ok-made.made.items c.run_generation.new.made.items
+          looks_on c.in_ok-first.first (c.in-Some.dues, c.in-Some.left) c.new-made.result.items c.run_generation.new.made.items
           c.args.looks.now c.args.looks.now c.run_generation.new.looks c.in-Some.is (omega (arith, none)) c.in_ok-first.ensures.few_looks;
       ran = c.run_generation.ensures.ran;
     }
@@ -47,7 +41,7 @@ loop-turn-init g c =
 pub returns-then-len-eq0-clause-frames : goal.returns-then-len-eq0-clause-frames
 returns-then-len-eq0-clause-frames g c =
     ended c.args.model.now c.args.bound c.args.spent c.args.jobs.now (child_limit - c.loop-turn.turn) c.loop-turn.made.items c.loop-turn.left c.loop-turn.dues
-    (sym c.len-in-loop-turn.ensures ∙ c.if-len-eq0.true) c.loop-turn.invariant.stands
+    (sym c.len.ensures ∙ c.if-len-eq0.true) c.loop-turn.invariant.stands
 
 pub run_generation-requires-in-loop-turn-clause-model : goal.run_generation-requires-in-loop-turn-clause-model
 run_generation-requires-in-loop-turn-clause-model g c = (c.loop-turn.invariant.ran.models c.args.model.now).0 c.requires.model

@@ -5,4 +5,4 @@ use Rattle.engine_core.proofs.batches.touching.touched_cells.Goals as goal
 
 pub returns : goal.returns
 returns c =
-    touched_are c.args.tree.now c.as_mut_slice.result.now c.in_ok-touched.touched c.args.count (c.as_mut_slice.ensures.value ∙ c.in_ok-flags.ensures) c.in_ok-touched.ensures
+    touched_are c.args.tree.now c.as_mut_slice.result.now c.in_ok-touched.touched c.args.count (c.as_mut_slice.ensures.value ∙ c.in_ok-flags.ensures.items_if_clones_equal (λ y same. same)) c.in_ok-touched.ensures

@@ -27,28 +27,28 @@ child_parts-returns t c =
 
 pub parts-returns-in_default : goal.parts-returns-in_default
 parts-returns-in_default t c =
-    c.new-parts.ensures ∙ sym (rebuilt_is c.args.frames.now (room_of c.args.path.now) c.args.number c.args.path.now None c.in_default.ensures)
+    c.new.ensures ∙ sym (rebuilt_is c.args.frames.now (room_of c.args.path.now) c.args.number c.args.path.now None c.in_default.ensures)
 
 pub parts-overflow_add-next : goal.parts-overflow_add-next
 parts-overflow_add-next t c =
     let few : length c.in-Some.frame.now.items ≤ step_limit =
     of_found (λ (frame : Frame). length frame.items ≤ step_limit) c.args.frames.now c.args.path.now c.in-Some.frame.now c.requires.few (sym c.in-Some.ensures)
     in
-    let long : length c.as_slice-item-items.result.now ≡ length c.in-Some.frame.now.items = ap length c.as_slice-item-items.ensures in
+    let long : length c.as_slice-items.result.now ≡ length c.in-Some.frame.now.items = ap length c.as_slice-items.ensures in
     omega (arith, few, long, c.loop-item.invariant.next, c.loop-item-test.true, c.requires.number, c.children_in-next.ensures.few)
 
 pub parts-loop-item-preserved : goal.parts-loop-item-preserved
 parts-loop-item-preserved t c = record {
   made =
       rw c.children_in-next.ensures.value
-      (part_turn (parts_below c.args.frames.now (room_of c.args.path.now)) c.args.path.now c.as_slice-item-items.result.now c.loop-item.next c.loop-item.item-index c.item-item.result
+      (part_turn (parts_below c.args.frames.now (room_of c.args.path.now)) c.args.path.now c.as_slice-items.result.now c.loop-item.next c.loop-item.item-index c.item-item.result
       c.loop-item-test.true c.item-item.is c.loop-item.parts _ c.push.new.self c.in_ok-part.part c.in_ok-part.ensures c.in_ok-push.ensures.pushed c.loop-item.invariant.made);
   next = omega (arith, c.loop-item.invariant.next, c.children_in-next.ensures.few);
 }
 
 pub parts-returns : goal.parts-returns
 parts-returns t c =
-    all_parts (parts_below c.args.frames.now (room_of c.args.path.now)) c.args.path.now c.as_slice-item-items.result.now c.loop-item.next c.loop-item.item-index c.loop-item.parts _
+    all_parts (parts_below c.args.frames.now (room_of c.args.path.now)) c.args.path.now c.as_slice-items.result.now c.loop-item.next c.loop-item.item-index c.loop-item.parts _
     c.loop-item-test.false c.loop-item.invariant.made
-    ∙ ap (parts_by (parts_below c.args.frames.now (room_of c.args.path.now)) c.args.path.now c.args.number) c.as_slice-item-items.ensures
+    ∙ ap (parts_by (parts_below c.args.frames.now (room_of c.args.path.now)) c.args.path.now c.args.number) c.as_slice-items.ensures
     ∙ sym (rebuilt_is c.args.frames.now (room_of c.args.path.now) c.args.number c.args.path.now (Some c.in-Some.frame.now) c.in-Some.ensures)

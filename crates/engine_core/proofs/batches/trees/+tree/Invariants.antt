@@ -17,6 +17,6 @@ decreases-child_parts l = 3 * room_of l.path.now
 -- the parts so far and those of the items that are left are those of all items
 abbrev pub invariant-parts-loop-item : goal.invariant-parts-loop-item
 invariant-parts-loop-item l = record {
-  made : l.parts ++ parts_by (parts_below l.frames (room_of l.path)) l.path l.next (drop l.item-index l.item-items) ≡ parts_by (parts_below l.frames (room_of l.path)) l.path l.number l.item-items;
+  made : l.parts ++ parts_by (parts_below l.frames (room_of l.path)) l.path l.next (drop l.item-index l.items) ≡ parts_by (parts_below l.frames (room_of l.path)) l.path l.number l.items;
   next : l.next ≤ l.number + l.item-index;
 }

@@ -3,7 +3,7 @@ use Rattle.std.specs.Vec.Iter.{into_iter_items, into_iter_len}
 use Rattle.run_data.specs.laws.Generations.{beside_generation, pending_of}
 use Rattle.run_data.specs.laws.WaveGenerations.{generation_of}
 use Rattle.engine_core.specs.BatchGenerations.{so_far}
-use Rattle.engine_core.proofs.batches.generations.add_frames.Given as goal
+use Rattle.engine_core.proofs.batches.generations.add_each.Given as goal
 
 -- what there is, with what is left, is all with what there was
 abbrev pub invariant-loop-frame : goal.invariant-loop-frame

@@ -1,0 +1,17 @@
+use Rattle.std.proofs.Common.{arith}
+use Rattle.std.proofs.lemmas.Option.{slice_get_within}
+use Rattle.engine_core.proofs.WholeGenerations.{room_more}
+use Rattle.engine_core.proofs.batches.generations.have_room.Goals as goal
+
+pub loop-job-init : goal.loop-job-init
+loop-job-init c = λ at one less found. absurd (omega (arith, less))
+
+pub loop-job-preserved : goal.loop-job-preserved
+loop-job-preserved c =
+    room_more c.args.jobs.now c.loop-job.job-index c.job-item.result c.loop-job.invariant c.loop-job-test.true c.job-item.is
+    (record { good = c.children.ensures.path; room = rw c.children.ensures.children at c.if-children-ge-CHILD_LIMIT.false })
+
+pub returns : goal.returns
+returns c = λ yes at one found.
+    let within = slice_get_within c.args.jobs.now at one found in
+    c.loop-job.invariant at one (omega (arith, within, c.loop-job-test.false)) found
