@@ -1,7 +1,7 @@
 //! What the operators make of values. Where a value is of another type than the operator takes, which a well-typed
 //! expression never has, it counts as 0 or as false.
 
-ghost use Rattle.std.specs.Prelude.{◌≡◌, ◌+ℤ◌, ◌-ℤ◌, ◌*ℤ◌};
+ghost use Rattle.std.specs.Prelude.{◌≡◌};
 ghost use Rattle.std.specs.Int.RustNames.{int_div, int_rem};
 ghost use Rattle.aerie_base.specs.Ranges.{IsNumber};
 ghost use Rattle.aerie_base.specs.expressions.Arithmetic.{combined, compares, decided, denied, divided, negated, number_in, ranged, same_value, truth_in};

@@ -1,11 +1,11 @@
 //! The text of a duration.
 
-ghost use Rattle.std.specs.Prelude.{◌≡◌, ◌<◌, ◌*◌, ◌^◌, Some, None, if◌then◌else◌, nat_le, IsTrue, IfOk, string_bytes};
+ghost use Rattle.std.specs.Prelude.{◌≡◌, ◌<◌, ◌*◌, Some, None, IsTrue, IfOk, string_bytes};
 ghost use Rattle.std.specs.Char.{is_ascii_digit};
-ghost use Rattle.std.specs.List.{list_all, prefix_len};
+ghost use Rattle.std.specs.List.{list_all};
 ghost use Rattle.std.specs.Str.Parse.{digits_value};
-ghost use Rattle.aerie_base.specs.Ranges.{time_of, time_limit};
-ghost use Rattle.aerie_base.specs.Durations.{digit_count, duration_of, duration_text, of_unit, unit_micros};
+ghost use Rattle.aerie_base.specs.Ranges.{time_of};
+ghost use Rattle.aerie_base.specs.Durations.{digit_count, duration_of, duration_text, unit_micros};
 
 use crate::memory::OutOfMemory;
 use crate::numbers::Time;

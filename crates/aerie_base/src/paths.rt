@@ -5,7 +5,7 @@ ghost use Rattle.std.proofs.Common.{ap, sym};
 ghost use Rattle.std.specs.Ordering.{nat_cmp};
 ghost use Rattle.std.specs.Cmp.{partial_equiv_from_equiv};
 ghost use Rattle.std.specs.Cmp.Lexicographic.{pointwise, slice_cmp, nat_list_eq_equiv, nat_list_cmp_total, same_text, texts_po, texts_ties};
-ghost use Rattle.aerie_base.specs.PathHashes.{hashed};
+ghost use Rattle.aerie_base.specs.PathHashes.{hashed, root_number};
 ghost use Rattle.aerie_base.specs.Paths.{root, daemon_root, comes_from_daemon, id_of, children_of, path_of, is_path, may_have_children, child_of, is_prefix, path_cmp, AnyUnder};
 ghost use Rattle.std.specs.BTreeSet.{contains};
 
@@ -140,6 +140,14 @@ impl Path {
         })
     }
 
+    /// The directive or daemon that the task comes from, as one number.
+    fn root_number(&self) -> u64
+        ensures { result ≡ root_number self.now }
+    {
+        let id = u64::from(self.id);
+        if self.daemon { id * 2 + 1 } else { id * 2 }
+    }
+
     /// Whether the two are the same path.
     pub fn is_same(&self, other: &Path) -> bool
         ensures { IsTrue result ↔ (self.now ≡ other.now) }
@@ -198,11 +206,9 @@ impl Hash for Path {
 
     /// A path without children, as most are, is hashed as one number.
     fn hash<H: Hasher>(&self, state: &mut H) {
-        let root = u64::from(self.id) * 2 + u64::from(self.daemon);
-        root.hash(state);
-        if self.children.is_empty() {
-            return;
+        self.root_number().hash(state);
+        for child in self.children() {
+            child.hash(state);
         }
-        self.children().hash(state);
     }
 }

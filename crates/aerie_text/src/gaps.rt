@@ -1,6 +1,6 @@
 //! White space and comments.
 
-ghost use Rattle.std.specs.Prelude.{◌≡◌, ◌≤◌, length, IsTrue};
+ghost use Rattle.std.specs.Prelude.{◌≡◌, ◌≤◌, length};
 ghost use Rattle.std.specs.List.{prefix_len};
 ghost use Rattle.aerie_text.specs.Gaps.{begins_comment, gap_len, is_in_line};
 

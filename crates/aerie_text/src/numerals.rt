@@ -1,9 +1,9 @@
 //! Runs of digits: numbers and durations.
 
-ghost use Rattle.std.specs.Prelude.{◌≡◌, ◌≤◌, length, take, is_some};
+ghost use Rattle.std.specs.Prelude.{◌≡◌, ◌≤◌, length, is_some};
 ghost use Rattle.std.specs.Str.{IsAscii};
 ghost use Rattle.std.specs.Str.Parse.{AllDigits, digits_value};
-ghost use Rattle.aerie_text.specs.Numerals.{digits_at, duration_len, fits_number, is_duration, unit_len};
+ghost use Rattle.aerie_text.specs.Numerals.{digits_at, fits_number, is_duration, unit_len};
 
 use crate::bytes::{begins_with_word_byte, digit_len};
 use crate::token::TokenKind;

@@ -2,7 +2,7 @@
 
 ghost use Rattle.std.specs.Prelude.{◌≡◌, ◌<◌, ◌≤◌, length};
 ghost use Rattle.std.specs.Str.{IsCharBoundary, chars};
-ghost use Rattle.aerie_text.specs.Places.{chars_before, column_of, line_of, place_of};
+ghost use Rattle.aerie_text.specs.Places.{column_of, line_of, place_of};
 
 use aerie_base::Place;
 

@@ -1,4 +1,4 @@
-ghost use Rattle.std.specs.Prelude.{◌≡◌, ◌<◌, ℕ, List as Items, length, slice_get, Some};
+ghost use Rattle.std.specs.Prelude.{◌≡◌, ◌<◌, List as Items, length, slice_get, Some};
 ghost use Rattle.aerie_base.specs.statements.Places.{left};
 ghost use Rattle.aerie_base.specs.declared.statements.Stmt.{Stmt};
 ghost use Rattle.body_code.specs.Denoting.{Denotes, JumpsEnd, IsCodeOf};

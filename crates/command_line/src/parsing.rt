@@ -1,7 +1,7 @@
 //! The words are read as one simple command.
 
 ghost use Rattle.std.specs.Option.{option_copied};
-ghost use Rattle.std.specs.Prelude.{◌≡◌, IfOk, IfErr, codes, true, false};
+ghost use Rattle.std.specs.Prelude.{◌≡◌, IfOk, IfErr, true, false};
 ghost use Rattle.clap.specs.Words.{app_of, found_of, kind_of, rows_of, rule_of, with_rule};
 ghost use Rattle.command_line.specs.Commands.{are_taken, command as command_by, flag_rule, given, mode_rule, option_rule, plain_command, texts_of, with_every_flag as with_every_flag_by, with_every_option as with_every_option_by};
 ghost use Rattle.command_line.specs.Invocations.{is_set as is_set_by, value_of as value_of_by};

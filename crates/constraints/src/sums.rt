@@ -1,6 +1,6 @@
 //! Sums over time, as straight pieces.
 
-ghost use Rattle.std.specs.Prelude.{◌≡◌, ℕ, ◌+◌, ◌-◌, ◌<◌, ◌≤◌, ◌^◌, drop, length, min, pos, ◌+ℤ◌, ◌*ℤ◌, nat_le, nat_lt, if◌then◌else◌, IsTrue, IfOk};
+ghost use Rattle.std.specs.Prelude.{◌≡◌, ℕ, ◌+◌, ◌-◌, ◌<◌, ◌≤◌, ◌^◌, drop, length, min, pos, ◌+ℤ◌, ◌*ℤ◌, nat_le, nat_lt, if◌then◌else◌, IfOk};
 ghost use Rattle.std.specs.Int.RustNames.{unsigned_abs};
 ghost use Rattle.aerie_base.specs.Ranges.{IsTime};
 ghost use Rattle.constraints.specs.Pieces.{CanBeAdded, IsAdded};

@@ -1,6 +1,6 @@
 //! Datasets are read.
 
-ghost use Rattle.std.specs.Prelude.{◌≡◌, ◌≤◌, IfOk, length, map};
+ghost use Rattle.std.specs.Prelude.{◌≤◌, IfOk, length, map};
 ghost use Rattle.serde_json.specs.View.{view};
 ghost use Rattle.dataset_in.specs.Datasets.{IsAnswerIfMemory, dataset_of, kind_and_rows, form_answer, most_segments, series_of};
 ghost use Rattle.dataset_in.specs.Series.{IsSeries};

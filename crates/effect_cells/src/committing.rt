@@ -1,4 +1,4 @@
-ghost use Rattle.std.specs.Prelude.{◌≡◌, ◌<◌, ◌^◌, true, length, IsTrue, OnOk, OnErr};
+ghost use Rattle.std.specs.Prelude.{◌≡◌, ◌<◌, ◌^◌, true, length, OnOk, OnErr};
 ghost use Rattle.effect_cells.specs.Sums.{sum_limit};
 ghost use Rattle.effect_cells.specs.Worth.{magnitude_of, magnitude_if_any, worth_of};
 ghost use Rattle.effect_cells.specs.States.{applied_if_any, is_in_range};

@@ -1,4 +1,4 @@
-ghost use Rattle.std.specs.Prelude.{◌≡◌, ◌<◌, ◌≤◌, ◌+◌, ◌^◌, ℕ, List, Option, length, slice_set, true, false, None, IsTrue, IfSome, IfOk};
+ghost use Rattle.std.specs.Prelude.{◌≡◌, ◌<◌, ◌+◌, ℕ, List, Option, length, true, false, None, IsTrue, IfSome, IfOk};
 ghost use Rattle.effect_cells.specs.Sums.{sum_limit};
 ghost use Rattle.effect_cells.specs.Worth.{magnitude_of, magnitude, magnitude_if_any};
 ghost use Rattle.effect_cells.specs.Folded.{folded_worth, folded_part_worth, folded_magnitude, folded_part_magnitude, folded_fits, folded_part_fits};

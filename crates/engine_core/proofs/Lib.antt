@@ -43,6 +43,7 @@ mod StartedSimulation
 mod TreeLookup
 mod TreeParts
 mod TreeSizes
+mod UnanchoredTasks
 mod WakingTasks
 mod Watchers
 mod WholeGenerations

@@ -284,3 +284,9 @@ pub none_at_none : (times : List (Option ℕ)) (now : ℕ) → None ≡ least_ti
 none_at_none times now is n at =
     let r = hit times n now (ap (stands_at now) at ∙ is_this now (Some now) refl) in
     let k : None ≡ Some r.0 = is ∙ r.1 in cc
+
+-- what stands there already
+pub put_same : {X : Type 0} (xs : List X) (n : ℕ) (x : X) → slice_get xs n ≡ Some x → put_at xs n x ≡ xs
+put_same [] n x e = absurd (cc)
+put_same (y ∷ ys) zero x e = (let k : y ≡ x = cc in λ i. sym k i ∷ ys)
+put_same (y ∷ ys) (suc n) x e = ap (λ l. y ∷ l) (put_same ys n x e)

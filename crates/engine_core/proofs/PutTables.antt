@@ -1,27 +1,27 @@
 -- The tables stay in step where one task is put.
-use Rattle.std.proofs.Common.{◌≡◌, ◌∷◌, ℕ, zero, suc, ◌<◌, Bool, true, false, cond, ◌&&◌, List, [], length, Option, Some, None, option_map, IsTrue, refl, sym, ap, ◌∙◌, subst, nat_eq, if◌then◌else◌}
+use Rattle.std.proofs.Common.{◌≡◌, ◌∷◌, ℕ, zero, suc, ◌<◌, Bool, true, false, cond, ◌&&◌, List, [], length, Option, Some, None, option_map, IsTrue, refl, sym, ap, ◌∙◌, subst, nat_eq, arith, if◌then◌else◌}
 use Rattle.std.specs.BTreeMap.{BTreeMap}
-use Rattle.std.specs.BTreeMap as map_
-use Rattle.std.specs.BTreeSet as set
 use Rattle.std.specs.BTreeSet.{BTreeSet}
 use Rattle.std.specs.List.{slice_get}
+use Rattle.std.proofs.lemmas.Option.{slice_get-map}
 use Rattle.std.specs.Map.{lookup, values_of}
 use Rattle.std.specs.Cmp.Lexicographic.{pointwise}
 use Rattle.indexmap.specs.Layout.{set_value_at}
-use Rattle.aerie_base.specs.Paths.{path_cmp, is_path}
+use Rattle.aerie_base.specs.Paths.{is_path}
+use Rattle.aerie_base.specs.declared.plans.Edge.{Edge}
 use Rattle.aerie_base.specs.declared.plans.Edge.TheVariants.{Start, End}
 use Rattle.run_data.specs.Endings.{is_open}
 use Rattle.run_data.specs.Tasks.{Task, Table, task_at, children_made}
 use Rattle.run_data.specs.laws.EndedTasks.{open_is}
-use Rattle.run_data.specs.laws.NextTimes.{delay_in}
 use Rattle.run_data.specs.laws.NumberedTasks.{sorted_tasks, Distinct}
 use Rattle.run_data.specs.laws.ReadyTasks.{is_ready_phase, number_of_path}
-use Rattle.engine_core.specs.Indexes.{MarksPath, NumbersPath, id_at_start, id_at_end}
-use Rattle.engine_core.specs.Phases.{anchor_in, is_waiting}
+use Rattle.engine_core.specs.Indexes.{standing_in, SayOf, SayAnew}
+use Rattle.engine_core.specs.Phases.{followed_id, is_waiting}
 use Rattle.engine_core.specs.TaskTables.{tracked_in, AreInStep}
-use Rattle.engine_core.specs.TasksByNumber.{AreIndexed, AreFollowed, HavePaths, KeepsWakes, put_task, number_for, has_path}
+use Rattle.engine_core.specs.TasksByNumber.{anchors_of, AreIndexed, AreFollowed, HavePaths, KeepsWakes, put_task, number_for, has_path}
 use Rattle.engine_core.specs.Times.{put_at}
 use Rattle.engine_core.specs.Watching.{AlsoHas, numbers_by_cell}
+use Rattle.engine_core.specs.declared.indexes.Standing.{Standing}
 use Rattle.engine_core.specs.declared.tasks.TaskTables.{TaskTables}
 use Rattle.engine_core.proofs.PathTables.{at_number}
 use Rattle.engine_core.proofs.GoingOnTasks.{there_below}
@@ -31,18 +31,14 @@ use Rattle.engine_core.proofs.PutIndexes.{indexed_put, kept_put, followed_put, p
 
 module _ (old new : TaskTables) (path : List ℕ) (task : Task) (number : ℕ) (before : AreInStep old) (is : number ≡ number_for old.tasks.entries path)
     (tasks_is : new.tasks.entries ≡ put_task old.tasks.entries path task) (wakes_is : new.waits.wakes ≡ put_at old.waits.wakes number None) where
-  pub in_step : IsTrue (is_path path) → new.indexes.delays ≡ put_at old.indexes.delays number (delay_in task.phase) →
-      MarksPath path (is_open task.phase) old.indexes.opens new.indexes.opens → set.IsOrdered path_cmp new.indexes.opens →
-      NumbersPath path (if is_ready_phase task.phase then Some number else None) old.indexes.readies new.indexes.readies → map_.IsOrdered path_cmp new.indexes.readies →
-      new.indexes.followers.starts ≡ put_at old.indexes.followers.starts number (id_at_start (anchor_in task.phase)) →
-      new.indexes.followers.ends ≡ put_at old.indexes.followers.ends number (id_at_end (anchor_in task.phase)) → AreInStep new
-  in_step is_one delays_is opens_is opens_sorted readies_is readies_sorted starts_is ends_is = record {
+  pub in_step : IsTrue (is_path path) → SayAnew path number (standing_in task.phase) old.indexes new.indexes → AreInStep new
+  in_step is_one anew = record {
     indexed = subst (λ (tasks : Table). AreIndexed tasks new.indexes.delays new.indexes.opens new.indexes.readies) (sym tasks_is)
         (indexed_put old.tasks.entries old.indexes.delays new.indexes.delays old.indexes.opens new.indexes.opens old.indexes.readies new.indexes.readies path task number
-        before.indexed is delays_is opens_is opens_sorted readies_is readies_sorted);
+        before.indexed is anew.delays anew.opens anew.opens_sorted anew.readies anew.readies_sorted);
     long = ap length wakes_is ∙ length_put _ _ _ old.tasks.entries path task before.long is ∙ ap length (sym tasks_is);
     followed = subst (λ (tasks : Table). AreFollowed tasks new.indexes.followers.starts new.indexes.followers.ends) (sym tasks_is)
-        (followed_put old.tasks.entries path task number _ _ _ _ is before.followed starts_is ends_is);
+        (followed_put old.tasks.entries path task number _ _ _ _ is before.followed anew.starts anew.ends);
     paths = subst HavePaths (sym tasks_is) (paths_put old.tasks.entries path task is_one before.paths);
   }
 
@@ -99,6 +95,25 @@ module _ (tasks : Table) (delays : List (Option ℕ)) (opens : BTreeSet (List �
       go (Some n) f =
           let there = indexed.ready_only path n f in
           let k : None ≡ Some there.0 = sym none ∙ at_number tasks n path there.0 indexed.distinct there.1 in absurd (cc)
+
+-- of a path that has none, which is to have the next number
+pub says_none : (tables : TaskTables) (step : AreInStep tables) (path : List ℕ) (number : ℕ) → task_at (sorted_tasks tables.tasks.entries) path ≡ None → number ≡ length tables.tasks.entries →
+    SayOf path number (record { delay = None; is_open = false; is_ready = false; anchor = None }) tables.indexes
+says_none tables step path number none is =
+    let delays = delays_as_long tables step in
+    let starts = starts_as_long tables step in
+    let ends = ends_as_long tables step in
+    record {
+      room = omega (arith, delays, is);
+      opened = none_open tables.tasks.entries tables.indexes.delays tables.indexes.opens tables.indexes.readies step.indexed path none;
+      ready = none_ready_at tables.tasks.entries tables.indexes.delays tables.indexes.opens tables.indexes.readies step.indexed path none;
+      anchored = record {
+        starts_room = omega (arith, starts, is);
+        ends_room = omega (arith, ends, is);
+        start = λ within. absurd (omega (arith, starts, is, within));
+        end = λ within. absurd (omega (arith, ends, is, within));
+      };
+    }
 
 -- ---- paths stay
 
@@ -164,6 +179,34 @@ module _ (old : TaskTables) (before : AreInStep old) (number : ℕ) (task : Task
   pub this_task : (was : Task) → option_map (λ (e : List ℕ × Task). e.1) (slice_get old.tasks.entries number) ≡ Some was → was ≡ was_there
   this_task was found =
       let k : Some was ≡ Some was_there = sym found ∙ ap (λ (o : Option (List ℕ × Task)). option_map (λ (e : List ℕ × Task). e.1) o) at_number_there in cc
+
+  anchor_there : (edge : Edge) → slice_get (anchors_of edge old.tasks.entries) number ≡ Some (followed_id edge was_there.phase)
+  anchor_there edge =
+      slice_get-map (λ (e : List ℕ × Task). followed_id edge e.1.phase) old.tasks.entries number
+      ∙ ap (λ (o : Option (List ℕ × Task)). option_map (λ (e : List ℕ × Task). followed_id edge e.1.phase) o) at_number_there
+
+  -- what the indexes say of it
+  says_there : SayOf path_there number (standing_in was_there.phase) old.indexes
+  says_there =
+      let delays = delays_as_long old before in
+      let starts = starts_as_long old before in
+      let ends = ends_as_long old before in
+      record {
+        room = omega (arith, delays, below);
+        opened = open_there old.tasks.entries old.indexes.delays old.indexes.opens old.indexes.readies before.indexed number path_there was_there at_number_there;
+        ready = ready_there old.tasks.entries old.indexes.delays old.indexes.opens old.indexes.readies before.indexed number path_there was_there at_number_there;
+        anchored = record {
+          starts_room = omega (arith, starts, below);
+          ends_room = omega (arith, ends, below);
+          start = λ within. ap (λ (ids : List (Option ℕ)). slice_get ids number) before.followed.at_start ∙ anchor_there Start;
+          end = λ within. ap (λ (ids : List (Option ℕ)). slice_get ids number) before.followed.at_end ∙ anchor_there End;
+        };
+      }
+
+  pub says_of : (path : List ℕ) (was : Task) (standing : Standing) → path ≡ path_there → was ≡ was_there → standing ≡ standing_in was.phase → SayOf path number standing old.indexes
+  says_of path was standing same is stood =
+      let k : standing ≡ standing_in was_there.phase = stood ∙ ap (λ (t : Task). standing_in t.phase) is in
+      subst (λ (p : List ℕ). SayOf p number standing old.indexes) (sym same) (subst (λ (s : Standing). SayOf path_there number s old.indexes) (sym k) says_there)
 
   pub is_path_there : IsTrue (is_path path_there)
   is_path_there = before.paths number path_there was_there at_number_there

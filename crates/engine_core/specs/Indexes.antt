@@ -1,7 +1,9 @@
 -- How the indexes of tasks change, and what they say of a task.
-use Rattle.std.specs.Prelude.{◌≡◌, ℕ, Bool, List, Option, cond}
+use Rattle.std.specs.Prelude.{◌≡◌, ℕ, ◌≤◌, ◌<◌, Bool, List, Option, Some, None, cond, length, slice_get, if◌then◌else◌}
 use Rattle.std.specs.BTreeMap.{BTreeMap, is_at}
+use Rattle.std.specs.BTreeMap as map_
 use Rattle.std.specs.BTreeSet.{BTreeSet}
+use Rattle.std.specs.BTreeSet as set
 use Rattle.aerie_base.specs.Paths.{path_cmp}
 use Rattle.aerie_base.specs.declared.plans.Anchor.{Anchor}
 use Rattle.aerie_base.specs.declared.plans.Edge.TheVariants.{Start, End}
@@ -11,6 +13,9 @@ use Rattle.run_data.specs.laws.NextTimes.{delay_in}
 use Rattle.run_data.specs.laws.ReadyTasks.{is_ready_phase, number_of_path}
 use Rattle.engine_core.specs.Phases.{anchor_in, id_of_anchor}
 use Rattle.engine_core.specs.TasksByNumber.{has_path}
+use Rattle.engine_core.specs.Times.{put_at}
+use Rattle.engine_core.specs.declared.followers.Followers.{Followers}
+use Rattle.engine_core.specs.declared.indexes.Indexes.{Indexes}
 use Rattle.engine_core.specs.declared.indexes.Standing.{Standing}
 
 -- a path stands in a set, or does not, and the others as before
@@ -22,6 +27,10 @@ abbrev pub NumbersPath : List ℕ → Option ℕ → BTreeMap (List ℕ) ℕ →
 NumbersPath path number before after =
     (p : List ℕ) → number_of_path after p ≡ cond (is_at (path_cmp path) p) number (number_of_path before p)
 
+-- the number of a task that is ready, or none
+abbrev pub ready_number : Standing → ℕ → Option ℕ
+ready_number standing number = if standing.is_ready then Some number else None
+
 -- what they say of a task that is doing this
 abbrev pub standing_in : TaskPhase → Standing
 standing_in phase = record { delay = delay_in phase; is_open = is_open phase; is_ready = is_ready_phase phase; anchor = anchor_in phase }
@@ -32,3 +41,27 @@ id_at_start anchor = id_of_anchor Start anchor
 
 abbrev pub id_at_end : Option Anchor → Option ℕ
 id_at_end anchor = id_of_anchor End anchor
+
+-- this is the anchor of a number that is there, or the number is the next one
+pub record HadAnchor (number : ℕ) (anchor : Option Anchor) (followers : Followers) : Type 0 where
+  pub starts_room : number ≤ length followers.starts
+  pub ends_room : number ≤ length followers.ends
+  pub start : number < length followers.starts → slice_get followers.starts number ≡ Some (id_at_start anchor)
+  pub end : number < length followers.ends → slice_get followers.ends number ≡ Some (id_at_end anchor)
+
+-- what they say of the task of a path, which has this number, or is none and is to have it as the next one
+pub record SayOf (path : List ℕ) (number : ℕ) (standing : Standing) (indexes : Indexes) : Type 0 where
+  pub room : number ≤ length indexes.delays
+  pub opened : has_path indexes.opens path ≡ standing.is_open
+  pub ready : number_of_path indexes.readies path ≡ ready_number standing number
+  pub anchored : HadAnchor number standing.anchor indexes.followers
+
+-- they say this of it from then on, and of the others what they said
+pub record SayAnew (path : List ℕ) (number : ℕ) (standing : Standing) (before after : Indexes) : Type 0 where
+  pub delays : after.delays ≡ put_at before.delays number standing.delay
+  pub opens : MarksPath path standing.is_open before.opens after.opens
+  pub opens_sorted : set.IsOrdered path_cmp after.opens
+  pub readies : NumbersPath path (ready_number standing number) before.readies after.readies
+  pub readies_sorted : map_.IsOrdered path_cmp after.readies
+  pub starts : after.followers.starts ≡ put_at before.followers.starts number (id_at_start standing.anchor)
+  pub ends : after.followers.ends ≡ put_at before.followers.ends number (id_at_end standing.anchor)

@@ -1,6 +1,6 @@
 //! One batch: the steps of its ready tasks and of the children that they make, a generation at a time.
 
-ghost use Rattle.std.specs.Prelude.{◌≡◌, ◌≤◌, ◌<◌, ℕ, Some, IfOk, IsTrue, length};
+ghost use Rattle.std.specs.Prelude.{◌≡◌, ◌≤◌, ◌<◌, Some, IfOk, IsTrue, length};
 ghost use Rattle.aerie_base.specs.Ranges.{step_limit};
 ghost use Rattle.effect_cells.specs.Cells.{AreInRange, fits_cells};
 ghost use Rattle.effect_cells.specs.Sums.{sum_limit};

@@ -1,8 +1,7 @@
-ghost use Rattle.std.specs.Prelude.{◌≡◌, ◌≤◌, ℕ, [], None, Some, length, slice_get, OnOk, IfSome};
-ghost use Rattle.aerie_base.specs.declared.plans.Edge.TheVariants as edge_;
+ghost use Rattle.std.specs.Prelude.{◌≡◌, ◌<◌, [], true, None, Some, length, OnOk};
 ghost use Rattle.engine_core.specs.Phases.{id_of_anchor};
 ghost use Rattle.engine_core.specs.Times.{put_at};
-ghost use Rattle.engine_core.specs.Indexes.{id_at_start, id_at_end};
+ghost use Rattle.engine_core.specs.Indexes.{id_at_start, id_at_end, HadAnchor};
 
 use crate::times::Times;
 use aerie_base::{Anchor, Edge, OutOfMemory};
@@ -40,13 +39,29 @@ impl Followers {
         }
     }
 
-    /// A task with this number has this anchor or none.
-    pub(crate) fn put(&mut self, number: usize, anchor: Option<Anchor>) -> Result<(), OutOfMemory>
-        requires starts { number ≤ length self.old.starts }
-        requires ends { number ≤ length self.old.ends }
+    /// Whether there is such a number.
+    fn has(&self, number: usize) -> bool
+        ensures start { result ≡ true → number < length self.now.starts }
+        ensures end { result ≡ true → number < length self.now.ends }
+    {
+        number < self.starts.len() && number < self.ends.len()
+    }
+
+    /// A task with this number, which had that anchor or none, has this one or none. As most tasks never have one, that is
+    /// told first.
+    pub(crate) fn put(
+        &mut self,
+        number: usize,
+        was: Option<Anchor>,
+        anchor: Option<Anchor>,
+    ) -> Result<(), OutOfMemory>
+        requires { HadAnchor number was self.old }
         ensures starts { OnOk result (self.new.starts ≡ put_at self.old.starts number (id_at_start anchor)) }
         ensures ends { OnOk result (self.new.ends ≡ put_at self.old.ends number (id_at_end anchor)) }
     {
+        if was.is_none() && anchor.is_none() && self.has(number) {
+            return Ok(());
+        }
         self.starts.put(number, id_of(Edge::Start, anchor))?;
         self.ends.put(number, id_of(Edge::End, anchor))?;
         Ok(())

@@ -1,7 +1,7 @@
 //! Callers and anchored directives after a batch.
 
 ghost use Rattle.std.specs.Prelude.{◌≡◌, ℕ, List, [], ◌∷◌, true, false, is_some, Some, None, slice_get, slice_set, IfOk};
-ghost use Rattle.aerie_base.specs.Paths.{child_path, comes_from_daemon, id_of, may_have_children, path_of};
+ghost use Rattle.aerie_base.specs.Paths.{comes_from_daemon, id_of, may_have_children, path_of};
 ghost use Rattle.run_data.specs.Endings.{result_of, has_begun, has_come, gone_on, after_batch};
 ghost use Rattle.run_data.specs.Tasks.{Task, task_at, after_frames};
 ghost use Rattle.run_data.specs.laws.EndedTasks.{is_open_status};
@@ -9,7 +9,7 @@ ghost use Rattle.run_data.specs.laws.GoingOn.{AllQuiet};
 ghost use Rattle.run_data.specs.laws.NumberedTasks.{sorted_tasks};
 ghost use Rattle.engine_core.specs.TasksByNumber.{MadeIsSmall, KeepsWakes, KeepsWakesBut, HasTable};
 ghost use Rattle.engine_core.specs.Phases.{anchor_in, callee_in};
-ghost use Rattle.engine_core.specs.GoingOn.{GoesOnAs, GoOnOf, IsAbove, IsAnchoredTo, IsAt, IsBegunBy, IsOverBy, MayGoOnAfter, returning, falling_due, GoesOnIn, IsFallingDue, IsReturning};
+ghost use Rattle.engine_core.specs.GoingOn.{GoOnOf, IsAbove, IsAnchoredTo, IsAt, IsBegunBy, IsOverBy, MayGoOnAfter, returning, GoesOnIn, IsFallingDue, IsReturning};
 
 use crate::phases::TrackedTask;
 use crate::tasks::IndexedTasks;

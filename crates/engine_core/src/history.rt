@@ -1,9 +1,8 @@
 //! What has happened in a simulation.
 
 ghost use Rattle.std.specs.Prelude.{◌≡◌, ◌≤◌, ◌<◌, ◌++◌, ◌∷◌, [], true, false, length, replicate, slice_get, slice_set, Some, IfOk, OnOk};
-ghost use Rattle.effect_cells.specs.declared.effects.CellState.{CellState as State};
 ghost use Rattle.run_data.specs.Fresh.{states_from};
-ghost use Rattle.engine_core.specs.Flags.{flagged_by_numbers, flagged_state, flagged_states, KeepsState};
+ghost use Rattle.engine_core.specs.Flags.{flagged_by_numbers, flagged_states, KeepsState};
 
 use aerie_base::{List, OutOfMemory, Time};
 use effect_cells::{CellState, Cells};

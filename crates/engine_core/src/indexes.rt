@@ -1,16 +1,11 @@
-ghost use Rattle.std.specs.Prelude.{◌≡◌, ◌≤◌, ℕ, List, [], false, Some, None, cond, length, OnOk, if◌then◌else◌};
-ghost use Rattle.std.specs.BTreeMap.{is_at};
+ghost use Rattle.std.specs.Prelude.{◌≡◌, ℕ, List, [], false, Some, None, OnOk, if◌then◌else◌};
 ghost use Rattle.std.specs.BTreeMap as map_;
 ghost use Rattle.std.specs.BTreeSet as set;
 ghost use Rattle.aerie_base.specs.Paths.{path_cmp};
-ghost use Rattle.aerie_base.specs.declared.plans.Edge.TheVariants as edge_;
 ghost use Rattle.run_data.specs.Endings.{is_open};
-ghost use Rattle.run_data.specs.laws.NextTimes.{delay_in};
-ghost use Rattle.run_data.specs.laws.ReadyTasks.{is_ready_phase, number_of_path};
-ghost use Rattle.engine_core.specs.Phases.{anchor_in, id_of_anchor};
+ghost use Rattle.run_data.specs.laws.ReadyTasks.{number_of_path};
 ghost use Rattle.engine_core.specs.TasksByNumber.{has_path};
-ghost use Rattle.engine_core.specs.Times.{put_at};
-ghost use Rattle.engine_core.specs.Indexes.{id_at_start, id_at_end, standing_in, MarksPath, NumbersPath};
+ghost use Rattle.engine_core.specs.Indexes.{standing_in, MarksPath, NumbersPath, SayOf, SayAnew};
 
 use crate::followers::Followers;
 use crate::phases::TrackedTask;
@@ -114,6 +109,18 @@ fn number_path_anew(
 }
 
 impl Standing {
+    /// What they say of none.
+    pub(crate) fn none() -> Standing
+        ensures { result ≡ record { delay = None; is_open = false; is_ready = false; anchor = None } }
+    {
+        Standing {
+            delay: None,
+            is_open: false,
+            is_ready: false,
+            anchor: None,
+        }
+    }
+
     /// What they say of this one.
     pub(crate) fn of(task: &TrackedTask) -> Standing
         ensures { result ≡ standing_in task.now.phase }
@@ -146,40 +153,29 @@ impl Indexes {
         }
     }
 
-    /// A task comes to stand at a number and a path, where an open body stood or none, and a ready task or none.
+    /// The task of a path, which stood so, or was none, comes to stand so: at its number, or at the next one.
     pub(crate) fn put(
         &mut self,
         alloc: Global,
         path: &Path,
         number: usize,
-        was_open: bool,
-        was_ready: bool,
+        was: Standing,
         standing: Standing,
     ) -> Result<(), OutOfMemory>
-        requires number { number ≤ length self.old.delays }
-        requires open { has_path self.old.opens path.now ≡ was_open }
-        requires ready { number_of_path self.old.readies path.now ≡ (if was_ready then Some number else None) }
-        requires starts { number ≤ length self.old.followers.starts }
-        requires ends { number ≤ length self.old.followers.ends }
-        ensures starts { OnOk result (self.new.followers.starts ≡ put_at self.old.followers.starts number (id_at_start standing.anchor)) }
-        ensures ends { OnOk result (self.new.followers.ends ≡ put_at self.old.followers.ends number (id_at_end standing.anchor)) }
-        ensures delays { OnOk result (self.new.delays ≡ put_at self.old.delays number standing.delay) }
-        ensures opens { OnOk result (MarksPath path.now standing.is_open self.old.opens self.new.opens) }
-        ensures opens_sorted { OnOk result (set.IsOrdered path_cmp self.new.opens) }
-        ensures readies { OnOk result (NumbersPath path.now (if standing.is_ready then Some number else None) self.old.readies self.new.readies) }
-        ensures readies_sorted { OnOk result (map_.IsOrdered path_cmp self.new.readies) }
+        requires { SayOf path.now number was self.old }
+        ensures { OnOk result (SayAnew path.now number standing self.old self.new) }
     {
         self.delays.put(number, standing.delay)?;
-        mark_anew(alloc, &mut self.opens, path, was_open, standing.is_open)?;
+        mark_anew(alloc, &mut self.opens, path, was.is_open, standing.is_open)?;
         number_path_anew(
             alloc,
             &mut self.readies,
             path,
             number,
-            was_ready,
+            was.is_ready,
             standing.is_ready,
         )?;
-        self.followers.put(number, standing.anchor)?;
+        self.followers.put(number, was.anchor, standing.anchor)?;
         Ok(())
     }
 }

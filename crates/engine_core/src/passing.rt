@@ -5,9 +5,9 @@ ghost use Rattle.aerie_base.specs.declared.faults.Fault.TheVariants as fault;
 ghost use Rattle.effect_cells.specs.Cells.{AreInRange};
 ghost use Rattle.run_data.specs.declared.runs.Outcome.TheVariants as outcome;
 ghost use Rattle.run_data.specs.declared.runs.Who.TheVariants as who;
-ghost use Rattle.engine_core.specs.Passing.{run_with, next_due, place_moved, place_at_time, place_at_end, GoesOnFrom, place_of_next, place_then, place_last, IsStageAt};
+ghost use Rattle.engine_core.specs.Passing.{run_with, next_due, GoesOnFrom, place_of_next, place_then, place_last, IsStageAt};
 ghost use Rattle.engine_core.specs.TasksByNumber.{AreFound};
-ghost use Rattle.engine_core.specs.Turns.{state_of, StandsAt};
+ghost use Rattle.engine_core.specs.Turns.{state_of};
 ghost use Rattle.engine_core.specs.declared.simulation.Stage.TheVariants as turn_;
 
 use crate::history::History;

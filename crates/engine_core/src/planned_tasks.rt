@@ -1,12 +1,10 @@
 //! The tasks of a plan before it begins.
 
-ghost use Rattle.std.specs.Prelude.{◌≡◌, ◌<◌, ℕ, List, [], length, false, IfOk};
-ghost use Rattle.aerie_base.specs.Paths.{root, daemon_root};
-ghost use Rattle.effect_cells.specs.declared.effects.CellState.{CellState};
-ghost use Rattle.run_data.specs.Tasks.{planned, with_task, on_each, rested, with_directives, with_daemons};
+ghost use Rattle.std.specs.Prelude.{◌≡◌, ◌<◌, length, false, IfOk};
+ghost use Rattle.run_data.specs.Tasks.{planned, with_directives, with_daemons};
 ghost use Rattle.run_data.specs.laws.NumberedTasks.{sorted_tasks};
-ghost use Rattle.engine_core.specs.PlannedTasks.{directive_task, daemon_task, daemon_put, directive_put, planned_table};
-ghost use Rattle.engine_core.specs.TasksByNumber.{AreKept, KeepsWakes, AreKeptFor, HasTable};
+ghost use Rattle.engine_core.specs.PlannedTasks.{daemon_put, directive_put, planned_table};
+ghost use Rattle.engine_core.specs.TasksByNumber.{KeepsWakes, AreKeptFor, HasTable};
 
 use crate::beginnings::{activity_state, daemon_state};
 use crate::phases::{Phase, TrackedTask, micros};

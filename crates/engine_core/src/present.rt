@@ -10,7 +10,6 @@ ghost use Rattle.run_data.specs.Fresh.{below, least_due};
 ghost use Rattle.run_data.specs.Tasks.{after_frames, on_each, rested, woken};
 ghost use Rattle.run_data.specs.laws.GoingOn.{AllQuiet};
 ghost use Rattle.run_data.specs.laws.NextTimes.{least_delay};
-ghost use Rattle.run_data.specs.laws.NumberedTasks.{sorted_tasks};
 ghost use Rattle.engine_core.specs.TasksByNumber.{AgreeBut, AreKept, AreFound, MadeIsSmall, KeepsWakes};
 ghost use Rattle.engine_core.specs.Times.{IsUpToTime};
 ghost use Rattle.engine_core.specs.Waking.{AreSolvable};

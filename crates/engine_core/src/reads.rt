@@ -1,8 +1,7 @@
 //! The cells that a condition reads.
 
-ghost use Rattle.std.specs.Prelude.{◌≡◌, ◌||◌, ◌++◌, [], ◌∷◌, ℕ, IfOk};
+ghost use Rattle.std.specs.Prelude.{IfOk};
 ghost use Rattle.effect_cells.specs.ReadCells.{reads_operand, reads_side, reads_terms, reads_cell};
-ghost use Rattle.effect_cells.specs.TouchedCells.{is_cell_among};
 ghost use Rattle.engine_core.specs.Waking.{AlsoReads};
 
 use aerie_base::{Cond, Linear, Operand, OutOfMemory, Simple};

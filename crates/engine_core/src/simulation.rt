@@ -1,17 +1,16 @@
 //! A simulation, a turn at a time.
 
-ghost use Rattle.std.specs.Prelude.{◌≡◌, ◌≤◌, [], ℕ, List, Some, IfOk};
+ghost use Rattle.std.specs.Prelude.{◌≡◌, ◌≤◌, [], List, Some, IfOk};
 ghost use Rattle.aerie_base.specs.declared.models.model.Parts.{Parts};
 ghost use Rattle.effect_cells.specs.declared.effects.CellState.{CellState};
 ghost use Rattle.run_data.specs.Fresh.{start, after_outcome};
-ghost use Rattle.run_data.specs.Tasks.{ready_jobs};
 ghost use Rattle.run_data.specs.Waves.{RoseAlike};
 ghost use Rattle.run_data.specs.laws.GoingOn.{AllQuiet};
 ghost use Rattle.run_data.specs.laws.NumberedTasks.{sorted_tasks};
 ghost use Rattle.engine_core.specs.BatchEnds.{batch_as, batch_frames, SpendsWith};
-ghost use Rattle.engine_core.specs.Standing.{PaysForBatch, LooksForBatch, OfSameModels};
+ghost use Rattle.engine_core.specs.Standing.{OfSameModels};
 ghost use Rattle.engine_core.specs.TasksByNumber.{AreKept};
-ghost use Rattle.engine_core.specs.Turns.{state_of, place_in, plan_in, bound_in, are_none, standing_of, AreKeptBefore, AreKeptIn, IsOnCourse, IsTurnFrom, TouchesAll, MakesFew, jobs_at, PaysFrom, LooksFrom};
+ghost use Rattle.engine_core.specs.Turns.{state_of, place_in, plan_in, bound_in, are_none, AreKeptBefore, AreKeptIn, IsOnCourse, IsTurnFrom, TouchesAll, MakesFew, jobs_at, PaysFrom, LooksFrom};
 ghost use Rattle.engine_core.specs.declared.simulation.Stage.TheVariants as turn_;
 
 use crate::batch_ends::BatchEnd;

@@ -4,8 +4,8 @@ ghost use Rattle.std.specs.Prelude.{◌≡◌, ◌≤◌, [], Some, true, IfOk};
 ghost use Rattle.run_data.specs.Transitions.{finished};
 ghost use Rattle.run_data.specs.Waves.{RoseAlike};
 ghost use Rattle.engine_core.specs.BatchEnds.{batch_frames};
-ghost use Rattle.engine_core.specs.Standing.{jobs_in, time_in, batches_in, HasJob, PaysForBatch, LooksForBatch, OfSameModels};
-ghost use Rattle.engine_core.specs.Turns.{place_in, bound_in, is_idle_at, standing_of, IsOnCourse, IsTurnFrom, PaysFrom, LooksFrom};
+ghost use Rattle.engine_core.specs.Standing.{jobs_in, time_in, batches_in, HasJob, OfSameModels};
+ghost use Rattle.engine_core.specs.Turns.{place_in, bound_in, is_idle_at, IsOnCourse, IsTurnFrom, PaysFrom, LooksFrom};
 
 use crate::ready_jobs::ReadyJobs;
 use crate::simulation::{Simulation, Stage};

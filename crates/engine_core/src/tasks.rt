@@ -114,7 +114,8 @@ fn replace_task(
     let was = exchange(&mut tables.tasks, number, task);
     tables.waits.put(number, waiting)?;
     let path = path_of(&tables.tasks, number);
-    tables.indexes.put(alloc, path, number, was.is_open(), was.is_ready(), standing)?;
+    let stood = Standing::of(&was);
+    tables.indexes.put(alloc, path, number, stood, standing)?;
     Ok(())
 }
 
@@ -138,9 +139,8 @@ fn add_task(
     let waiting = task.is_waiting();
     let number = tables.tasks.len();
     tables.waits.put(number, waiting)?;
-    tables
-        .indexes
-        .put(alloc, &path, number, false, false, standing)?;
+    let none = Standing::none();
+    tables.indexes.put(alloc, &path, number, none, standing)?;
     tables.tasks.insert(path, task)?;
     Ok(())
 }

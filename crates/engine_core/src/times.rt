@@ -1,6 +1,6 @@
-ghost use Rattle.std.specs.Prelude.{◌≡◌, ◌<◌, ◌≤◌, ◌++◌, ◌&&◌, ◌||◌, [], ◌∷◌, ℕ, true, false, Some, None, not, length, nat_eq, option_map, slice_get, slice_set, OnOk, OnErr, IfSome};
+ghost use Rattle.std.specs.Prelude.{◌≡◌, ◌<◌, ◌≤◌, ◌++◌, [], ◌∷◌, ℕ, true, false, Some, None, length, option_map, slice_get, slice_set, OnOk, OnErr, IfSome};
 ghost use Rattle.std.specs.BTreeSet as set;
-ghost use Rattle.engine_core.specs.Times.{least_time, is_this_time, put_at, timed_cmp, has_time, HasNone, LeavesOut, ListsToo, ListsAlike};
+ghost use Rattle.engine_core.specs.Times.{least_time, put_at, timed_cmp, HasNone, LeavesOut, ListsToo, ListsAlike};
 
 use aerie_base::OutOfMemory;
 use std::alloc::Global;

@@ -1,7 +1,7 @@
-ghost use Rattle.std.specs.Prelude.{◌≡◌, ◌≤◌, ◌<◌, ◌&&◌, ◌||◌, ◌∷◌, [], ℕ, Some, None, true, false, nat_eq, length, slice_get, slice_set, IfOk, OnOk};
+ghost use Rattle.std.specs.Prelude.{◌≡◌, ◌≤◌, ◌<◌, ◌&&◌, ◌∷◌, [], Some, None, true, false, nat_eq, length, slice_get, slice_set, IfOk, OnOk};
 ghost use Rattle.engine_core.specs.TasksByNumber.{has_number};
 ghost use Rattle.engine_core.specs.Times.{put_at};
-ghost use Rattle.engine_core.specs.Watching.{Drains, Watches, numbers_by_cell, AlsoHas, HasOthers, LosesOne, TouchesWaits, WatchesToo};
+ghost use Rattle.engine_core.specs.Watching.{AlsoHas, HasOthers, LosesOne, TouchesWaits, WatchesToo};
 
 use crate::times::Times;
 use aerie_base::OutOfMemory;

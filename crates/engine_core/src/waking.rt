@@ -1,12 +1,9 @@
 //! Waiting tasks.
 
-ghost use Rattle.std.specs.Prelude.{◌≡◌, ◌<◌, ◌≤◌, ◌-◌, ℕ, true, false, List, Some, None, IfOk, IfSome, length, slice_get};
-ghost use Rattle.effect_cells.specs.declared.effects.CellState.{CellState};
+ghost use Rattle.std.specs.Prelude.{◌≡◌, ◌<◌, ◌≤◌, ◌-◌, true, Some, None, IfOk, IfSome, length, slice_get};
 ghost use Rattle.effect_cells.specs.Cells.{AreInRange};
 ghost use Rattle.effect_cells.specs.Reads.{kind_on};
-ghost use Rattle.effect_cells.specs.TouchedCells.{is_cell_among};
 ghost use Rattle.run_data.specs.Tasks.{on_each, woken};
-ghost use Rattle.run_data.specs.laws.NextTimes.{least_wake};
 ghost use Rattle.engine_core.specs.TasksByNumber.{has_number, AreKept, AreFound, KeepsWakesBut};
 ghost use Rattle.engine_core.specs.Times.{least_time, IsUpToTime, HasNone};
 ghost use Rattle.engine_core.specs.Waking.{AreSolvable, WakesPass, wake_at, reads_at, AreReads, IsLeastWake};

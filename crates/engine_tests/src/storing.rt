@@ -1,6 +1,6 @@
 //! Runs of which the steps are stored: a second run pays for what none of them fits, and for nothing else.
 
-ghost use Rattle.std.specs.Prelude.{◌≡◌, ◌<◌, ◌++◌, ◌∷◌, [], map, IfOk, OnOk};
+ghost use Rattle.std.specs.Prelude.{◌≡◌, ◌<◌, ◌++◌, map, IfOk, OnOk};
 ghost use Rattle.std.specs.List.{All};
 ghost use Rattle.aerie_base.specs.plans.OfModel.{IsPlanOf};
 ghost use Rattle.engine_core.specs.RunFrames.{frames_in_batches, frames_in_instants, PaysForRun};

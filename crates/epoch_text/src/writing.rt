@@ -1,6 +1,6 @@
 //! The text of a time.
 
-ghost use Rattle.std.specs.Prelude.{◌≡◌, ◌++◌, IfOk, OnOk, string_bytes, ℤ, pos, ◌*ℤ◌, ◌≤ℤ◌};
+ghost use Rattle.std.specs.Prelude.{◌≡◌, ◌++◌, IfOk, OnOk, string_bytes, pos, ◌*ℤ◌, ◌≤ℤ◌};
 ghost use Rattle.jiff.specs.Words.{civil_nanos};
 ghost use Rattle.epoch_text.specs.DayTexts.{day_text_of, shown_text, stamp};
 ghost use Rattle.epoch_text.specs.Forms.{digits_in};

@@ -1,6 +1,6 @@
 //! The spans that a goal's template matches.
 
-ghost use Rattle.std.specs.Prelude.{◌≡◌, ◌++◌, [], ◌∷◌, map, IfOk, OnOk, if◌then◌else◌};
+ghost use Rattle.std.specs.Prelude.{◌≡◌, map, IfOk};
 ghost use Rattle.plan_merge.specs.Table.{same_values as equal_values};
 ghost use Rattle.span_table.specs.AsDefined.{defined_span};
 ghost use Rattle.constraints.specs.Meeting.{ByStart};

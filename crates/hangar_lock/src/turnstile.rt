@@ -1,9 +1,8 @@
 //! Turns by tickets.
 
-ghost use Rattle.std.specs.Prelude.{◌≡◌, ◌∷◌, [], ◌++◌, ◌%◌, ◌^◌, ℕ, length, Some, None, true, false, IfOk, OnErr, OnOk};
+ghost use Rattle.std.specs.Prelude.{◌≡◌, ◌∷◌, [], Some, None, true, false, IfOk, OnErr};
 ghost use Rattle.hangar_core.specs.Standing.{IsActionOn};
 ghost use Rattle.hangar_lock.specs.declared.desk.Desk.{Desk};
-ghost use Rattle.hangar_lock.specs.Desks.{IsDesk};
 ghost use Rattle.hangar_lock.specs.Steps.{CanLeave, HasDrawn, HasEntered, HasLeft, HasTaken, HasTurn, IsIdle, IsWaiting, Works};
 ghost use Rattle.hangar_lock.specs.Views.{leaving_with};
 

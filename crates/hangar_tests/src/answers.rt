@@ -1,6 +1,6 @@
 //! Commands of a client, one action each, and what is answered of them.
 
-ghost use Rattle.std.specs.Prelude.{◌≤◌, ◌+◌, length};
+ghost use Rattle.std.specs.Prelude.{◌≤◌};
 ghost use Rattle.hangar_core.specs.Journals.{accepted_in};
 
 use crate::opening::{hangar, named};

@@ -3,7 +3,6 @@
 ghost use Rattle.std.specs.Prelude.{◌≡◌, ◌≤◌, ◌∷◌, [], IfSome};
 ghost use Rattle.aerie_base.specs.declared.models.model.Parts.{Parts};
 ghost use Rattle.aerie_base.specs.plans.OfModel.{IsPlanOf};
-ghost use Rattle.hangar_core.specs.Standing.{AreModels, IsPlanAmong};
 
 use aerie_base::{List, Model, Name, Plan, Shared, Time};
 use aerie_text::tokens;

@@ -1,6 +1,6 @@
 //! How the values of std and of `aerie_base` are written.
 
-ghost use Rattle.std.specs.Prelude.{map, pos, string_bytes};
+ghost use Rattle.std.specs.Prelude.{map, string_bytes};
 ghost use Rattle.std.specs.Fmt.{signed_decimal};
 ghost use Rattle.serde_json.specs.Data.{array, boolean, number, string, unsigned};
 ghost use Rattle.serde_json.specs.Find.{of_integer};

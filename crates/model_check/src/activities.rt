@@ -1,13 +1,10 @@
 //! Activity types are judged and made.
 
 ghost use Rattle.std.specs.Prelude.{◌≡◌, IfOk};
-ghost use Rattle.model_check.specs.BodyScopes.{empty_scope, with_new_local};
-ghost use Rattle.model_check.specs.Diagnostics.{noted, Makes};
-ghost use Rattle.model_check.specs.ModelDiagnostics.{default_diagnostics, parameter_diagnostics, parameter_scope, parameters_diagnostics, result_type_diagnostics, activity_diagnostics_in};
-ghost use Rattle.model_check.specs.MadeStatements.{MakesBehind};
-ghost use Rattle.model_check.specs.ModelMeaning.{model_parameters, result_written, activity_in};
+ghost use Rattle.model_check.specs.Diagnostics.{noted};
+ghost use Rattle.model_check.specs.ModelDiagnostics.{default_diagnostics, parameter_diagnostics, result_type_diagnostics};
+ghost use Rattle.model_check.specs.ModelMeaning.{result_written};
 ghost use Rattle.model_check.specs.ModelSymbols.{type_kind, bare_symbols};
-ghost use Rattle.model_check.specs.CheckedParameters.{parameter_of, with_parameter};
 ghost use Rattle.model_check.specs.Making.{MakesParameter, MakesParameters, MakesActivity};
 
 use crate::bodies::{body, note_end, requirements};

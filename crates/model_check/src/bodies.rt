@@ -2,12 +2,9 @@
 
 ghost use Rattle.std.specs.Prelude.{◌≡◌, None, IfOk};
 ghost use Rattle.model_check.specs.BodyScopes.{empty_scope};
-ghost use Rattle.model_check.specs.CheckedBodies.{checked_body};
-ghost use Rattle.model_check.specs.Diagnostics.{noted, Makes};
-ghost use Rattle.model_check.specs.ModelDiagnostics.{requires_diagnostics, is_return_kind, returns_at_end, end_diagnostics};
-ghost use Rattle.model_check.specs.ModelMeaning.{model_requires};
+ghost use Rattle.model_check.specs.Diagnostics.{noted};
+ghost use Rattle.model_check.specs.ModelDiagnostics.{is_return_kind, returns_at_end, end_diagnostics};
 ghost use Rattle.model_check.specs.ModelSymbols.{bare_symbols};
-ghost use Rattle.model_check.specs.Statements.{block_diagnostics};
 ghost use Rattle.model_check.specs.Making.{MakesBody, MakesRequires};
 
 use crate::diagnostics::{Cause, Diagnostic, note};

@@ -1,6 +1,6 @@
 //! Reads of locals and cells.
 
-ghost use Rattle.std.specs.Prelude.{◌≡◌, ℕ, None};
+ghost use Rattle.std.specs.Prelude.{◌≡◌, None};
 ghost use Rattle.model_reader.specs.declared.raw.reads.RawPart.TheVariants.{Whole};
 ghost use Rattle.model_check.specs.Diagnostics.{noted};
 ghost use Rattle.model_check.specs.CellReads.{sort_kind, flow_sort_kind, flag_sort_kind, part_kind, raw_read_kind, whole_sort, flow_sort, flag_sort, part_diagnostics, read_diagnostics, cell_number, sort_operand, part_operand, read_operand};

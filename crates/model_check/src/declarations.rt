@@ -2,7 +2,7 @@
 
 ghost use Rattle.std.specs.Prelude.{◌≡◌, [], IfOk};
 ghost use Rattle.model_check.specs.Diagnostics.{noted};
-ghost use Rattle.model_check.specs.ModelSymbols.{type_kind, type_diagnostics, with_names, with_enum_symbol, enum_symbols_from, with_cell_symbol, cell_symbols_from, default_value, parameters_from, result_symbol, with_type_symbol, type_symbols_from, bare_symbols, symbols_by, symbols_of};
+ghost use Rattle.model_check.specs.ModelSymbols.{type_kind, type_diagnostics, with_names, with_enum_symbol, enum_symbols_from, with_cell_symbol, cell_symbols_from, default_value, parameters_from, result_symbol, with_type_symbol, type_symbols_from, bare_symbols, symbols_of};
 ghost use Rattle.model_check.specs.NameTables.{no_entries, with_entry};
 
 use crate::diagnostics::{Cause, Diagnostic, note};

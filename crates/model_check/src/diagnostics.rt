@@ -1,6 +1,6 @@
 //! What is wrong with a model as it is written, and where.
 
-ghost use Rattle.std.specs.Prelude.{◌≡◌, ◌∷◌, []};
+ghost use Rattle.std.specs.Prelude.{◌≡◌};
 ghost use Rattle.model_check.specs.Diagnostics.{number_of_cause, is_place_before, is_told_before, sooner};
 
 use aerie_base::Place;

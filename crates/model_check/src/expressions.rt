@@ -2,8 +2,7 @@
 
 ghost use Rattle.std.specs.Prelude.{◌≡◌, IfOk};
 ghost use Rattle.model_check.specs.Diagnostics.{noted, Makes};
-ghost use Rattle.model_check.specs.Statements.{valued_diagnostics};
-ghost use Rattle.model_check.specs.Expressions.{kind_of_operator, side_kind_of, raw_kind, is_wanted, sides_diagnostics, expr_diagnostics, typed_diagnostics, expr_of};
+ghost use Rattle.model_check.specs.Expressions.{kind_of_operator, side_kind_of, raw_kind, is_wanted, sides_diagnostics, expr_diagnostics, expr_of};
 ghost use Rattle.model_check.specs.Making.{MakesTyped, MakesValued};
 
 use crate::cell_reads::{note_read, raw_read_kind, read_operand};

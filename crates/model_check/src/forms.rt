@@ -1,9 +1,9 @@
 //! Linear forms are judged and made.
 
-ghost use Rattle.std.specs.Prelude.{◌≡◌, ◌≤◌, ◌++◌, ℕ, IfOk, length, nat_lt, option_to_list, take};
+ghost use Rattle.std.specs.Prelude.{◌≡◌, ◌≤◌, ◌++◌, IfOk, length, nat_lt, option_to_list, take};
 ghost use Rattle.aerie_base.specs.models.Limits.{term_limit};
-ghost use Rattle.model_check.specs.Diagnostics.{noted, refused_unless, Makes};
-ghost use Rattle.model_check.specs.LinearForms.{plain_number, negated_leaf, sum_sign, joint_sign, operator_leaf, leaves_of, leaf_diagnostics, leaves_diagnostics, form_diagnostics, terms_in, constants_in, sum_of_leaves, linear_of};
+ghost use Rattle.model_check.specs.Diagnostics.{noted, refused_unless};
+ghost use Rattle.model_check.specs.LinearForms.{plain_number, negated_leaf, sum_sign, joint_sign, operator_leaf, leaves_of, leaf_diagnostics, leaves_diagnostics, terms_in, constants_in, sum_of_leaves};
 ghost use Rattle.model_check.specs.declared.diagnostics.Cause.TheVariants.{TooManyTerms};
 ghost use Rattle.model_check.specs.Making.{MakesForm};
 

@@ -1,10 +1,9 @@
 //! Starts of activities are judged and made.
 
-ghost use Rattle.std.specs.Prelude.{◌≡◌, ℕ, ◌||◌, [], Some, None, IfOk, is_some, length, replicate, slice_set};
+ghost use Rattle.std.specs.Prelude.{◌≡◌, ◌||◌, Some, None, IfOk, is_some, length, replicate, slice_set};
 ghost use Rattle.model_check.specs.Diagnostics.{noted, refused_unless, Makes};
-ghost use Rattle.model_check.specs.GivenArguments.{slot_given, put_given, put_found, given_with, given_with_all, name_found, argument_found, arguments_found, missing_found, given_or_default, filled_values};
-ghost use Rattle.model_check.specs.Invokes.{parameter_kind, values_diagnostics, invoke_diagnostics, result_diagnostics, call_kind, invoked_number, known_diagnostics, filled_arguments, invoke_arguments};
-ghost use Rattle.model_check.specs.NameTables.{entry_in};
+ghost use Rattle.model_check.specs.GivenArguments.{slot_given, put_given, put_found, name_found, missing_found, given_or_default, filled_values};
+ghost use Rattle.model_check.specs.Invokes.{parameter_kind, values_diagnostics, result_diagnostics, call_kind, invoked_number};
 ghost use Rattle.model_check.specs.declared.diagnostics.Cause.TheVariants.{WrongType};
 ghost use Rattle.model_check.specs.Making.{AddsArgument, AddsArguments, MakesArguments, MakesInvoke};
 

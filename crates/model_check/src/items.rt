@@ -1,6 +1,6 @@
 //! Declarations of enumerations, cells and resources are judged and made.
 
-ghost use Rattle.std.specs.Prelude.{◌≡◌, [], ◌++◌, IfOk};
+ghost use Rattle.std.specs.Prelude.{◌≡◌, [], IfOk};
 ghost use Rattle.model_check.specs.BodyScopes.{empty_scope};
 ghost use Rattle.model_check.specs.CellReads.{read_operand};
 ghost use Rattle.model_check.specs.Diagnostics.{noted, Makes};
@@ -8,7 +8,6 @@ ghost use Rattle.model_check.specs.DeclaredParts.{enum_type, register_start, acc
 ghost use Rattle.model_check.specs.LinearForms.{linear_of};
 ghost use Rattle.model_check.specs.ModelDiagnostics.{repeated_diagnostics, typed_literal_diagnostics, rate_diagnostics, shown_diagnostics, discrete_diagnostics, linear_diagnostics};
 ghost use Rattle.model_check.specs.ModelMeaning.{names_of, kind_written, rate_of, read_of};
-ghost use Rattle.model_check.specs.ModelSymbols.{type_diagnostics};
 ghost use Rattle.model_check.specs.NameTables.{entry_in};
 ghost use Rattle.model_check.specs.declared.leaves.FormUse.TheVariants.{Resource as InResource};
 ghost use Rattle.model_check.specs.Making.{MakesRegister};

@@ -1,8 +1,8 @@
 //! The leaves of linear forms.
 
-ghost use Rattle.std.specs.Prelude.{◌≡◌, ◌++◌, Some, IfOk, IfSome};
+ghost use Rattle.std.specs.Prelude.{◌≡◌, Some, IfSome};
 ghost use Rattle.aerie_base.specs.Ranges.{IsNumber};
-ghost use Rattle.model_check.specs.LinearForms.{is_whole_number, is_counter_sort, is_summed_part, may_stand, is_leaf_read, unfit_leaf, constant_leaf, coefficient_wrong, signed_by, read_leaf, no_number_leaf, literal_leaf, literal_number, plain_number, negated_number, signed_number, read_in, product_leaf, leaves_of};
+ghost use Rattle.model_check.specs.LinearForms.{is_whole_number, is_counter_sort, is_summed_part, may_stand, is_leaf_read, unfit_leaf, constant_leaf, coefficient_wrong, signed_by, read_leaf, no_number_leaf, literal_leaf, literal_number, plain_number, negated_number, signed_number, read_in, product_leaf};
 
 use crate::cell_reads::{raw_read_kind, read_operand};
 use crate::diagnostics::{Cause, Diagnostic};

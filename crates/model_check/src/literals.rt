@@ -1,6 +1,6 @@
 //! Literals, and types where other types are wanted.
 
-ghost use Rattle.std.specs.Prelude.{◌≡◌, ℕ};
+ghost use Rattle.std.specs.Prelude.{◌≡◌};
 ghost use Rattle.aerie_base.specs.expressions.Typing.{same_kind};
 ghost use Rattle.model_check.specs.Diagnostics.{noted};
 ghost use Rattle.model_check.specs.Literals.{short, mismatch, literal_kind, literal_diagnostics, literal_value};

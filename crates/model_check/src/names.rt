@@ -1,6 +1,6 @@
 //! Names with numbers, looked up by hash.
 
-ghost use Rattle.std.specs.Prelude.{◌≡◌, ℕ, [], not, length, take, map, Option, option_map, IfOk, Some, None};
+ghost use Rattle.std.specs.Prelude.{◌≡◌, ℕ, [], not, length, take, IfOk};
 ghost use Rattle.aerie_base.specs.models.Names.{is_name_among};
 ghost use Rattle.model_check.specs.NameLists.{with_name, name_number};
 

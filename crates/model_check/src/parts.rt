@@ -1,9 +1,9 @@
 //! The parts of a model are judged and made, declaration by declaration.
 
-ghost use Rattle.std.specs.Prelude.{◌≡◌, ◌++◌, ◌∷◌, [], IfOk};
-ghost use Rattle.model_check.specs.CheckedParts.{no_parts, with_checked_cell, with_checked_resource, with_checked_item, with_checked_items, checked_parts};
-ghost use Rattle.model_check.specs.Diagnostics.{noted, Makes};
-ghost use Rattle.model_check.specs.ModelDiagnostics.{item_diagnostics, items_diagnostics, model_diagnostics};
+ghost use Rattle.std.specs.Prelude.{◌≡◌, IfOk};
+ghost use Rattle.model_check.specs.CheckedParts.{no_parts, with_checked_cell, with_checked_resource, with_checked_items, checked_parts};
+ghost use Rattle.model_check.specs.Diagnostics.{Makes};
+ghost use Rattle.model_check.specs.ModelDiagnostics.{items_diagnostics, model_diagnostics};
 ghost use Rattle.model_check.specs.ModelSymbols.{bare_symbols};
 ghost use Rattle.model_check.specs.Making.{AddsItem};
 

@@ -1,13 +1,9 @@
 //! Names that may stand but once.
 
-ghost use Rattle.std.specs.Prelude.{◌≡◌, [], not, option_map, option_to_list, IfOk};
-ghost use Rattle.aerie_base.specs.models.Names.{is_name_among};
-ghost use Rattle.model_check.specs.declared.diagnostics.Cause.TheVariants.{Duplicate};
-ghost use Rattle.model_check.specs.Diagnostics.{noted, refused_unless};
+ghost use Rattle.std.specs.Prelude.{◌≡◌, [], option_map, option_to_list, IfOk};
+ghost use Rattle.model_check.specs.Diagnostics.{noted};
 ghost use Rattle.model_check.specs.ModelDiagnostics.{repeated_diagnostics, shared_name, resource_name, names_in};
-ghost use Rattle.model_check.specs.ModelSymbols.{with_names};
 ghost use Rattle.model_check.specs.NameGroups.{cell_name, group_name};
-ghost use Rattle.model_check.specs.NameLists.{with_name};
 ghost use Rattle.model_check.specs.Making.{AddsName, AddsNames};
 
 use crate::diagnostics::{Cause, Diagnostic, note};

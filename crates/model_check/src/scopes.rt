@@ -1,6 +1,6 @@
 //! The locals of a body.
 
-ghost use Rattle.std.specs.Prelude.{◌≡◌, ℕ, not, length, option_map, OnOk};
+ghost use Rattle.std.specs.Prelude.{◌≡◌, not, length, option_map, OnOk};
 ghost use Rattle.aerie_base.specs.models.Names.{is_name_among};
 ghost use Rattle.model_check.specs.BodyScopes.{empty_scope, next_slot, with_new_local, later_place, clash, enum_place, cell_place, local_diagnostics, let_diagnostics};
 ghost use Rattle.model_check.specs.Diagnostics.{noted, refused_unless};

@@ -1,6 +1,6 @@
 //! Values that go by names.
 
-ghost use Rattle.std.specs.Prelude.{◌≡◌, ℕ, [], not, option_map, IfOk};
+ghost use Rattle.std.specs.Prelude.{◌≡◌, not, option_map, IfOk};
 ghost use Rattle.aerie_base.specs.models.Names.{is_name_among};
 ghost use Rattle.model_check.specs.NameTables.{no_entries, with_entry, entry_in, first_entries};
 

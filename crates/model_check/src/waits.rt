@@ -4,7 +4,7 @@ ghost use Rattle.std.specs.Prelude.{◌≡◌, true, false, IfOk};
 ghost use Rattle.aerie_base.specs.declared.conditions.Cond.{Literal};
 ghost use Rattle.model_check.specs.Diagnostics.{noted, at_place, refused_unless, Makes};
 ghost use Rattle.model_check.specs.declared.diagnostics.Cause.TheVariants.{NotLinear};
-ghost use Rattle.model_check.specs.Waits.{is_side_part, is_side, side_diagnostics, side_of, is_int, are_numbers, compares_forms, is_equal, compared_diagnostics, forms_compared, compared_of, is_truth, literal_truth, junction, joint_of, plain_operator_of, plain_operator_diagnostics, cond_of, cond_diagnostics, wait_diagnostics};
+ghost use Rattle.model_check.specs.Waits.{is_side_part, is_side, side_diagnostics, side_of, is_int, are_numbers, compares_forms, is_equal, forms_compared, is_truth, literal_truth, junction, joint_of, cond_of, cond_diagnostics, wait_diagnostics};
 ghost use Rattle.model_check.specs.Making.{MakesComparison, MakesCompared, MakesPlainOperator};
 
 use crate::cell_reads::{raw_read_kind, read_operand};

@@ -1,6 +1,6 @@
 //! Plans are taken to another model.
 
-ghost use Rattle.std.specs.Prelude.{◌≡◌, ◌<◌, IsTrue, Some, Ok, IfOk, IfErr, OnOk, OnErr, length, map, option_copied, option_and_then, slice_get};
+ghost use Rattle.std.specs.Prelude.{◌≡◌, ◌<◌, IsTrue, Some, Ok, IfOk, IfErr, OnOk, OnErr, length, option_copied, option_and_then, slice_get};
 ghost use Rattle.std.specs.List.{list_all};
 ghost use Rattle.aerie_base.specs.plans.OfModel.{IsPlanOf};
 ghost use Rattle.plan_edit.specs.Mappings.{IsMappingOf, is_type_rule};

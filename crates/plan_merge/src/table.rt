@@ -1,7 +1,6 @@
 //! What becomes of a directive of the base.
 
-ghost use Rattle.std.specs.Prelude.{◌≡◌, None, Some, option_copied};
-ghost use Rattle.plan_merge.specs.Table.{same};
+ghost use Rattle.std.specs.Prelude.{None, Some, option_copied};
 ghost use Rattle.plan_merge.specs.Chosen.{IsChoice};
 
 use crate::answers::ConflictKind;

@@ -1,7 +1,6 @@
 //! States of cells from instant to instant.
 
 ghost use Rattle.std.specs.Prelude.{◌≡◌, ◌≤◌, ◌-◌, true, Some, None, unwrap_or, nat_lt, if◌then◌else◌};
-ghost use Rattle.aerie_base.specs.expressions.Readings.{cell_of};
 ghost use Rattle.aerie_base.specs.Ranges.{IsTime};
 ghost use Rattle.effect_cells.specs.Cells.{first_state, initial};
 ghost use Rattle.effect_cells.specs.States.{is_in_range, state_after};

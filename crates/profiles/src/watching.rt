@@ -1,11 +1,11 @@
 //! The cells that a linear resource reads.
 
-ghost use Rattle.std.specs.Prelude.{◌≡◌, ◌≤◌, ◌<◌, ◌*◌, ◌*ℤ◌, ◌+ℤ◌, ◌+◌, ◌^◌, ◌++◌, List, length, map, true, IfOk, OnOk};
+ghost use Rattle.std.specs.Prelude.{◌≡◌, ◌≤◌, ◌<◌, ◌*◌, ◌*ℤ◌, ◌+ℤ◌, ◌+◌, ◌^◌, ◌++◌, length, map, IfOk, OnOk};
 ghost use Rattle.std.specs.List.{All};
 ghost use Rattle.std.specs.Int.RustNames.{unsigned_abs};
 ghost use Rattle.effect_cells.specs.Cells.{initial};
 ghost use Rattle.profiles.specs.States.{RiseFrom};
-ghost use Rattle.profiles.specs.Watching.{IsModerate, IsWatchable, advanced, summed_line, read_number, read_rate, rates_sum, values_sum, watched_on, watched_term};
+ghost use Rattle.profiles.specs.Watching.{IsModerate, IsWatchable, advanced, summed_line, read_number, read_rate, watched_on, watched_term};
 
 use crate::states::{next_state, state_at_start};
 use aerie_base::{CellRead, Model, Operand, OutOfMemory, Term, Time};

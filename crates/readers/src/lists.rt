@@ -1,6 +1,6 @@
 //! Lists: parts in a row, or with commas between them. The time is linear in their tokens.
 
-ghost use Rattle.std.specs.Prelude.{◌≡◌, []};
+ghost use Rattle.std.specs.Prelude.{◌≡◌};
 ghost use Rattle.aerie_text.specs.declared.sorts.Sort.TheVariants.{Comma};
 ghost use Rattle.readers.specs.Implements.{Consumes, MayConsume};
 ghost use Rattle.readers.specs.Lists.{limit_passed, pushed_at, one_more_at, listed_at, optional_list_at, parenthesized_at, one_more_of, row_at};

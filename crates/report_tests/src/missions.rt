@@ -6,7 +6,6 @@ ghost use Rattle.aerie_base.specs.Ranges.{step_limit};
 ghost use Rattle.aerie_base.specs.declared.models.model.Parts.{Parts};
 ghost use Rattle.aerie_base.specs.plans.OfModel.{IsPlanOf};
 ghost use Rattle.constraints.specs.OfModel.{is_constraint};
-ghost use Rattle.run_data.specs.Fresh.{IsFresh};
 ghost use Rattle.seq_expand.specs.OfModel.{have_shifts};
 
 use aerie_base::{List, Model, Plan, Shared, Steps, Time};

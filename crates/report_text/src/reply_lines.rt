@@ -2,7 +2,7 @@
 
 ghost use Rattle.std.specs.Prelude.{◌≡◌, ◌++◌, OnOk, codes};
 ghost use Rattle.json_line.specs.Parts.{data_tokens, member_tokens};
-ghost use Rattle.report_text.specs.EditRefusals.{edit_data, migrate_data};
+ghost use Rattle.report_text.specs.EditRefusals.{migrate_data};
 ghost use Rattle.report_text.specs.Fields.{named_data};
 ghost use Rattle.report_text.specs.Replies.{added_data, branch_data, loaded_data, merged_data, reply_member, revision_data, shown_data, stale_data};
 

@@ -1,8 +1,6 @@
 //! How the commands of an expansion are written.
 
-ghost use Rattle.std.specs.Prelude.{◌≡◌, ◌++◌, OnOk, map};
-ghost use Rattle.serde_json.specs.Data.{array};
-ghost use Rattle.serde_json.specs.View.{items_of};
+ghost use Rattle.std.specs.Prelude.{◌≡◌, ◌++◌, OnOk};
 ghost use Rattle.json_line.specs.Parts.{data_tokens};
 ghost use Rattle.report_text.specs.SequenceLines.{sent_data, sent_outside_data, sequence_data, utc_data};
 

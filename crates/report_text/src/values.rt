@@ -1,6 +1,5 @@
 //! How values are written.
 
-ghost use Rattle.std.specs.Prelude.{◌≡◌};
 ghost use Rattle.plan_edit.specs.ShownPlan.{json_of_value};
 
 use crate::wordings::Wording;

@@ -1,6 +1,6 @@
 //! A model, as its reports are worded.
 
-ghost use Rattle.std.specs.Prelude.{◌≡◌, ◌++◌, ◌∷◌, [], IfOk, OnOk, map, option_map, slice_get, unwrap_or};
+ghost use Rattle.std.specs.Prelude.{◌≡◌, ◌++◌, ◌∷◌, [], IfOk, map, slice_get, unwrap_or};
 ghost use Rattle.plan_edit.specs.Arguments.{written_variant};
 ghost use Rattle.plan_edit.specs.ShownPlan.{word_of_variant};
 ghost use Rattle.report_text.specs.Outcomes.{cell_name};

@@ -1,8 +1,7 @@
 //! The first wave of a mission with a daemon, over a stepper that stores nothing. What its frames are the clauses say; that
 //! memory suffices is tried here.
 
-ghost use Rattle.std.specs.Prelude.{◌≡◌, ◌≤◌, ◌<◌, [], ◌∷◌, pos, length, IsTrue, IfOk};
-ghost use Rattle.std.specs.List.{All};
+ghost use Rattle.std.specs.Prelude.{◌≡◌, ◌≤◌, ◌<◌, [], ◌∷◌, pos, IsTrue, IfOk};
 ghost use Rattle.aerie_base.specs.Names.{is_name};
 ghost use Rattle.body_code.specs.ModelCodes.{AreCodesOf};
 ghost use Rattle.effect_cells.specs.declared.effects.CellState.TheVariants.{Counter};

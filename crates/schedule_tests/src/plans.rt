@@ -1,6 +1,6 @@
 //! Models of texts, and plans of few directives.
 
-ghost use Rattle.std.specs.Prelude.{◌≡◌, ◌≤◌, IfSome};
+ghost use Rattle.std.specs.Prelude.{◌≤◌, IfSome};
 ghost use Rattle.aerie_base.specs.declared.models.model.Parts.{Parts};
 ghost use Rattle.aerie_base.specs.plans.OfModel.{IsPlanOf};
 

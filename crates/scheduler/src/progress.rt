@@ -5,7 +5,6 @@ ghost use Rattle.std.specs.List.{list_all};
 ghost use Rattle.run_data.specs.Fresh.{IsFresh};
 ghost use Rattle.span_table.specs.SpanLaws.{AreSpansOf};
 ghost use Rattle.constraints.specs.OfModel.{is_constraint};
-ghost use Rattle.goals.specs.Goals.{is_goal_met};
 ghost use Rattle.goals.specs.OfModel.{is_goal};
 ghost use Rattle.scheduler.specs.FreshRuns.{fresh_run};
 ghost use Rattle.scheduler.specs.Scheduling.{goals_placed, goal_status as goal_status_by, statuses_on, trial_limit};

@@ -1,6 +1,6 @@
 //! The commands of a run.
 
-ghost use Rattle.std.specs.Prelude.{◌≡◌, IfOk, OnOk, map, not, IsTrue};
+ghost use Rattle.std.specs.Prelude.{◌≡◌, IfOk, map, not, IsTrue};
 ghost use Rattle.std.specs.List.{filter, list_all};
 ghost use Rattle.run_data.specs.Fresh.{IsFresh};
 ghost use Rattle.span_table.specs.AsDefined.{defined_span};

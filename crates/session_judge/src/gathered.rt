@@ -1,6 +1,6 @@
 //! The rules of a sort, gathered model by model.
 
-ghost use Rattle.std.specs.Prelude.{◌≡◌, ◌++◌, ◌∷◌, [], Some, None, IfOk};
+ghost use Rattle.std.specs.Prelude.{◌≡◌, ◌++◌, [], Some, None, IfOk};
 ghost use Rattle.session_judge.specs.FirstRefused.{first_of_both, first_of_two, in_front_of, refusal_in, unless_section_refused};
 
 use aerie_base::{List, OutOfMemory};

@@ -1,7 +1,6 @@
 //! The sections of a session's models.
 
 ghost use Rattle.std.specs.Prelude.{◌≡◌, ◌≤◌, ◌-◌, length};
-ghost use Rattle.aerie_text.specs.Marks.{AreTokensWithin};
 ghost use Rattle.session_judge.specs.FirstRefused.{begin_of as begin_of_by};
 ghost use Rattle.session_judge.specs.Rules.{tokens_in as tokens_in_by};
 

@@ -1,6 +1,6 @@
 //! The names of datasets are judged.
 
-ghost use Rattle.std.specs.Prelude.{◌≡◌, IfOk, ℕ};
+ghost use Rattle.std.specs.Prelude.{◌≡◌, IfOk};
 ghost use Rattle.session_reader.specs.DatasetNames.{has_resource as has_resource_by, is_resource_name as is_resource_name_by, dataset_diagnostics, datasets_diagnostics};
 ghost use Rattle.session_reader.specs.Diagnostics.{noted, all_of};
 

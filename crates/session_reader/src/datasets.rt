@@ -3,7 +3,7 @@
 ghost use Rattle.std.specs.Prelude.{◌≡◌, ◌≤◌, IfOk, length, Ok, Err};
 ghost use Rattle.dataset_in.specs.Datasets.{IsAnswerIfMemory, dataset_of};
 ghost use Rattle.dataset_in.specs.Series.{IsSeries};
-ghost use Rattle.session_reader.specs.Answers.{IsMade, IsRefusal};
+ghost use Rattle.session_reader.specs.Answers.{IsMade};
 ghost use Rattle.session_reader.specs.Quotes.{unquoted as unquoted_by};
 ghost use Rattle.session_reader.specs.DatasetAnswers.{AreSeries, fault_refusal, dataset_answer, datasets_answer};
 

@@ -1,6 +1,6 @@
 //! What parameters of new types get: each feed is judged.
 
-ghost use Rattle.std.specs.Prelude.{◌≡◌, map, option_copied};
+ghost use Rattle.std.specs.Prelude.{◌≡◌, option_copied};
 ghost use Rattle.std.specs.List.{list_any};
 ghost use Rattle.aerie_base.specs.models.Names.{same_name};
 ghost use Rattle.plan_edit.specs.Mappings.{may_feed as may_feed_by, same_variants as same_variants_by};

@@ -1,6 +1,6 @@
 //! Literals of mappings, by the enumerations of the new model.
 
-ghost use Rattle.std.specs.Prelude.{◌≡◌, ℕ, IfSome, option_copied, length};
+ghost use Rattle.std.specs.Prelude.{◌≡◌, option_copied};
 ghost use Rattle.aerie_base.specs.expressions.Typing.{same_kind as same_kind_by};
 ghost use Rattle.model_check.specs.Literals.{short as short_by};
 ghost use Rattle.aerie_base.specs.models.Names.{is_name_among};

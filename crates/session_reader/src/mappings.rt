@@ -1,6 +1,6 @@
 //! Mappings are judged.
 
-ghost use Rattle.std.specs.Prelude.{◌≡◌, ◌≤◌, [], not, take, IfOk, option_copied, length};
+ghost use Rattle.std.specs.Prelude.{◌≡◌, [], IfOk, option_copied};
 ghost use Rattle.std.specs.List.{list_all, list_any};
 ghost use Rattle.session_reader.specs.Diagnostics.{noted, all_of};
 ghost use Rattle.session_reader.specs.MappingDiagnostics.{feeds_diagnostics, between_diagnostics, rule_diagnostics, rules_diagnostics, among_diagnostics, mapping_diagnostics, same_models as same_models_by, repeated_mappings, mappings_diagnostics, gets_a_value as gets_a_value_by};

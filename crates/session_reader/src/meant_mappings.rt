@@ -1,6 +1,6 @@
 //! Mappings are made.
 
-ghost use Rattle.std.specs.Prelude.{◌≡◌, IfOk, ℕ, find, map, option_copied};
+ghost use Rattle.std.specs.Prelude.{◌≡◌, IfOk, find, map, option_copied};
 ghost use Rattle.aerie_base.specs.models.Names.{same_name};
 ghost use Rattle.session_reader.specs.MeantMappings.{number_at as number_at_by, default_of as default_of_by, feed_written as feed_written_by, feed_or_default as feed_or_default_by, feed_for as feed_for_by, feeds_between as feeds_between_by, rule_meant, rules_among as rules_among_by, mapping_meant, mappings_meant};
 

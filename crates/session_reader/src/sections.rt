@@ -1,8 +1,8 @@
 //! The sections of rules, by model.
 
-ghost use Rattle.std.specs.Prelude.{◌≡◌, ℕ, None, IfOk, is_some, slice_set, Some, replicate};
+ghost use Rattle.std.specs.Prelude.{◌≡◌, None, IfOk, is_some, slice_set, Some};
 ghost use Rattle.session_reader.specs.Diagnostics.{noted};
-ghost use Rattle.session_reader.specs.Sections.{TokenRange as Range, no_sections as no_sections_by, section_of, model_of_section as model_of_section_by, place_of_section as place_of_section_by, section_diagnostics, diagnostics_of_section, section_put, with_section, MakesSections};
+ghost use Rattle.session_reader.specs.Sections.{no_sections as no_sections_by, section_of, model_of_section as model_of_section_by, place_of_section as place_of_section_by, section_diagnostics, diagnostics_of_section, section_put, with_section, MakesSections};
 
 use crate::diagnostics::{Cause, Diagnostic, note, note_unless};
 use crate::known_parts::model_place;

@@ -5,7 +5,6 @@ ghost use Rattle.session_reader.specs.declared.session_error.SessionError.TheVar
 ghost use Rattle.session_reader.specs.Answers.{IsMade, check_error, then_made_of};
 ghost use Rattle.session_reader.specs.CheckedModels.{AreValid, models_answer};
 ghost use Rattle.session_reader.specs.DatasetAnswers.{datasets_answer};
-ghost use Rattle.session_reader.specs.Diagnostics.{noted};
 ghost use Rattle.session_reader.specs.FewClients.{HasFewClients};
 ghost use Rattle.session_reader.specs.Sections.{section_of as section_of_by};
 ghost use Rattle.session_reader.specs.Sessions.{all_sections as all_sections_by, MakesAllSections, JudgesNames, model_part as model_part_by, model_parts as model_parts_by, session_made, session_planned, session_started, session_over as session_over_by, session_answer};

@@ -1,11 +1,10 @@
 //! Each client's commands on a thread of its own, with a pass of its own.
 
-ghost use Rattle.std.specs.Prelude.{◌≡◌, ◌<◌, ◌^◌, IfOk, length, map, slice_get, Some};
+ghost use Rattle.std.specs.Prelude.{◌≡◌, ◌<◌, ◌^◌, IfOk, length, map, Some};
 ghost use Rattle.std.specs.List.{AllByRecursion};
 ghost use Rattle.std.specs.String.{string_bytes};
 ghost use Rattle.hangar_lock.specs.laws.JoinedPasses.{joined_with_all};
 ghost use Rattle.hangar_lock.specs.Passes.{first_pass};
-ghost use Rattle.session_reader.specs.FewClients.{AreFewClients};
 ghost use Rattle.client_work.specs.Working.{IsAtWork, IsWorkDone};
 ghost use Rattle.session_run.specs.Texts.{client_numbered};
 ghost use Rattle.session_run.specs.Works.{AreDone, AreOf, AreWorksOf, CanWork, HasDoneWork, passes_of, split_often, works_texts};

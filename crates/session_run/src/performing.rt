@@ -1,6 +1,6 @@
 //! A session is performed.
 
-ghost use Rattle.std.specs.Prelude.{◌≡◌, ◌≤◌, IfOk};
+ghost use Rattle.std.specs.Prelude.{◌≤◌, IfOk};
 ghost use Rattle.std.specs.String.{string_bytes};
 ghost use Rattle.aerie_base.specs.Ranges.{step_limit};
 ghost use Rattle.session_run.specs.Performed.{IsPerformed, IsPerformedInTurn};

@@ -1,8 +1,7 @@
 //! What is counted of the answers to the commands of a session.
 
-ghost use Rattle.std.specs.Prelude.{◌≡◌, ◌∷◌, ◌++◌, [], List, OnOk, min};
+ghost use Rattle.std.specs.Prelude.{◌≡◌, ◌∷◌, ◌++◌, [], List, OnOk};
 ghost use Rattle.report_text.specs.declared.answers.Answer.{Answer as AnswerView};
-ghost use Rattle.run_data.specs.Waves.{last_count};
 ghost use Rattle.session_summary.specs.Summaries.{HasItsConstraints, summary_of};
 
 use crate::counting::counted;

@@ -1,9 +1,10 @@
 //! What the frames of a run tell, one after another.
 
-ghost use Rattle.std.specs.Prelude.{◌≡◌, ◌++◌, [], ◌∷◌, List, None, OnOk, map, not};
+ghost use Rattle.std.specs.Prelude.{◌≡◌, ◌++◌, [], ◌∷◌, List, None, OnOk, is_some, map};
+ghost use Rattle.std.specs.HashMap as hash;
 ghost use Rattle.std.specs.List.{list_any};
 ghost use Rattle.aerie_base.specs.declared.models.model.Parts.{Parts};
-ghost use Rattle.run_data.specs.Spans.{Timed, with_time, in_batches, timed, is_of_path, result_in};
+ghost use Rattle.run_data.specs.Spans.{Timed, with_time, in_batches, timed, is_of_path, result_in, same_path};
 ghost use Rattle.span_table.specs.AsDefined.{defined_span};
 ghost use Rattle.span_table.specs.Begun.{begun_from, finished_span, last_after, with_end};
 ghost use Rattle.span_table.specs.Progress.{KnowsFrames, KnowsTasks};
@@ -49,18 +50,25 @@ impl BodyTable {
         }
     }
 
-    /// Whether no frame was of the path.
-    fn is_new(&self, path: &Path) -> bool
-        ensures { (frames : List Timed) → KnowsTasks frames self.now → result ≡ not (list_any (is_of_path path.now) frames) }
+    /// How far the body of a path has come; none where no frame was of the path.
+    fn state(&self, path: &Path) -> Option<BodyState>
+        ensures is { result ≡ hash.get same_path self.now.bodies path.now }
+        ensures came { (frames : List Timed) → KnowsTasks frames self.now → is_some result ≡ list_any (is_of_path path.now) frames }
     {
-        !self.bodies.contains_key(path)
+        self.bodies.get(path).copied()
     }
 
-    /// Takes in the next frame.
-    fn note(&mut self, alloc: Global, time: Time, frame: &Frame) -> Result<(), OutOfMemory>
+    /// Takes in the next frame, of a path whose body has come so far.
+    fn note(
+        &mut self,
+        alloc: Global,
+        time: Time,
+        frame: &Frame,
+        before: Option<BodyState>,
+    ) -> Result<(), OutOfMemory>
+        requires { before ≡ hash.get same_path self.old.bodies frame.now.path }
         ensures { OnOk result ((frames : List Timed) → KnowsTasks frames self.old → KnowsTasks (frames ++ (time, frame.now) ∷ []) self.new) }
     {
-        let before = self.bodies.get(&frame.path).copied();
         note_time(alloc, &mut self.last, &frame.path, time)?;
         if stays(&before, &frame.status) {
             return Ok(());
@@ -124,9 +132,9 @@ impl Progress {
     ) -> Result<(), OutOfMemory>
         ensures { OnOk result ((frames : List Timed) → KnowsFrames model.now frames self.old → KnowsFrames model.now (frames ++ (time, frame.now) ∷ []) self.new) }
     {
-        let is_new = self.tasks.is_new(&frame.path);
-        note_begin(alloc, &mut self.begun, model, time, frame, is_new)?;
-        self.tasks.note(alloc, time, frame)?;
+        let before = self.tasks.state(&frame.path);
+        note_begin(alloc, &mut self.begun, model, time, frame, before.is_none())?;
+        self.tasks.note(alloc, time, frame, before)?;
         Ok(())
     }
 

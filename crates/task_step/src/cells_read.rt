@@ -49,7 +49,7 @@ pub(crate) fn cells_read(
 {
     let cells = sight.read_flags.len();
     let mut reads = List::new(alloc);
-    for group in 0..16 {
+    for group in 0..cells.div_ceil(16) {
         if sight.read_flags.is_any_read(group) {
             let end = begin_of(group + 1, cells);
             add_read(&mut reads, sight, begin_of(group, cells), end)?;

@@ -1,6 +1,6 @@
 //! A wave of jobs, one after another.
 
-ghost use Rattle.std.specs.Prelude.{◌≡◌, ◌+◌, ◌<◌, ◌≤◌, ◌^◌, min, [], Some, None, IsTrue, IfOk, IfSome, OnErr, length, slice_get};
+ghost use Rattle.std.specs.Prelude.{◌≡◌, ◌+◌, ◌<◌, ◌≤◌, ◌^◌, min, [], Some, None, IsTrue, IfOk, length, slice_get};
 ghost use Rattle.std.specs.List.{All};
 ghost use Rattle.aerie_base.specs.Ranges.{step_limit};
 ghost use Rattle.body_code.specs.ModelCodes.{AreCodesOf};

@@ -1,8 +1,7 @@
 //! What a step has done so far.
 
-ghost use Rattle.std.specs.Prelude.{◌≡◌, ◌+◌, ◌^◌, ◌<◌, ◌≤◌, [], ◌∷◌, ◌++◌, length, replicate, false, All, IfOk, IsSome, OnOk, OnErr};
+ghost use Rattle.std.specs.Prelude.{◌≡◌, ◌+◌, ◌^◌, ◌<◌, ◌≤◌, length, All, IfOk, OnOk};
 ghost use Rattle.aerie_base.specs.Ranges.{number_limit};
-ghost use Rattle.aerie_base.specs.expressions.Typing.{kind_of, slot_kinds};
 ghost use Rattle.run_data.specs.declared.frames.Item.TheVariants.{Emit, Child};
 ghost use Rattle.run_data.specs.StepStates.{starting, valued, with_flags, assigned, giving, paid};
 ghost use Rattle.run_data.specs.Frames.{frame_of};

@@ -1,6 +1,6 @@
 //! What a condition answers at a time, and how long at least it answers so.
 
-ghost use Rattle.std.specs.Prelude.{◌≡◌, ◌≤◌, ◌<◌, ◌^◌, None, IfSome};
+ghost use Rattle.std.specs.Prelude.{◌≡◌, ◌<◌, None};
 ghost use Rattle.aerie_base.specs.TimeOrder.{earlier, later};
 ghost use Rattle.wait_solver.specs.Outlooks.{of_negation, of_conjunction, of_disjunction, IsSoon};
 

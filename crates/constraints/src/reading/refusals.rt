@@ -1,6 +1,6 @@
 //! What is refused of rules as they are written, and where.
 
-ghost use Rattle.std.specs.Prelude.{◌≡◌, ◌∷◌, []};
+ghost use Rattle.std.specs.Prelude.{◌≡◌};
 ghost use Rattle.constraints.specs.reading.Refusals.{number_of_wrong, stands_before, is_refused_before, earlier_refusal, found_with, wrong_unless};
 
 use aerie_base::Place;

@@ -1,8 +1,8 @@
 //! What is refused of windows is found. The time is linear in a window, but for looking up its names.
 
-ghost use Rattle.std.specs.Prelude.{◌≡◌, option_copied, length};
+ghost use Rattle.std.specs.Prelude.{◌≡◌, option_copied};
 ghost use Rattle.constraints.specs.reading.Refusals.{found_with};
-ghost use Rattle.constraints.specs.reading.WindowRefusals.{refusals_of_name, refusals_of_type, is_bound, refusals_of_span, refusals_of_named_variant, refusals_beside, refusals_of_tested, is_coefficient_within, refusals_of_factor, refusals_of_term, refusals_of_terms, refusals_of_sums, refusals_of_window};
+ghost use Rattle.constraints.specs.reading.WindowRefusals.{refusals_of_name, refusals_of_type, is_bound, refusals_of_span, refusals_of_named_variant, refusals_beside, refusals_of_tested, is_coefficient_within, refusals_of_term, refusals_of_terms, refusals_of_sums, refusals_of_window};
 
 use crate::reading::names::{is_of_kind, name_kind, place_of_enum, place_of_type, variant_place};
 use crate::reading::refusals::{RuleRefusal, WrongRule, refuse, refuse_unless};

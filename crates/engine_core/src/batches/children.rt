@@ -1,6 +1,6 @@
 //! The jobs of the children that a step makes, and the frames of those that are too deep.
 
-ghost use Rattle.std.specs.Prelude.{◌≡◌, ◌∷◌, ◌++◌, ◌+◌, ◌<◌, ◌^◌, [], true, map, length, IfOk, OnOk};
+ghost use Rattle.std.specs.Prelude.{◌≡◌, ◌∷◌, ◌++◌, ◌+◌, ◌<◌, ◌^◌, [], true, length, IfOk};
 ghost use Rattle.aerie_base.specs.Paths.{may_have_children};
 ghost use Rattle.run_data.specs.Frames.{child_job};
 ghost use Rattle.run_data.specs.laws.Generations.{child_jobs, deep_frame};

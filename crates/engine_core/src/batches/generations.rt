@@ -1,13 +1,11 @@
 //! The frames of a batch a generation at a time.
 
-ghost use Rattle.std.specs.Prelude.{◌≡◌, ℕ, ◌∷◌, ◌++◌, ◌+◌, ◌-◌, ◌*◌, ◌≤◌, ◌<◌, [], Some, true, min, map, option_map, length, IfOk, OnOk};
+ghost use Rattle.std.specs.Prelude.{◌≡◌, ◌++◌, ◌+◌, ◌-◌, ◌*◌, ◌≤◌, ◌<◌, Some, true, min, option_map, length, IfOk, OnOk};
 ghost use Rattle.aerie_base.specs.Ranges.{step_limit};
-ghost use Rattle.aerie_base.specs.declared.models.model.Parts.{Parts};
 ghost use Rattle.run_data.specs.Batches.{cost_of};
-ghost use Rattle.run_data.specs.Waves.{last_count, wave_of, RoseAlike};
-ghost use Rattle.run_data.specs.laws.Generations.{beside_generation};
+ghost use Rattle.run_data.specs.Waves.{last_count};
 ghost use Rattle.engine_core.specs.BatchDues.{AreSeenSteps, IsSeenStep};
-ghost use Rattle.engine_core.specs.BatchGenerations.{so_far, added_by, AddsGeneration, MayRun, IsTurn, PaysForTurn, LooksForTurn, PaysForAll, LooksForAll, Ran, AreDueJobs, AreAllFrames, AddsFrame, HaveRoom, jobs_of};
+ghost use Rattle.engine_core.specs.BatchGenerations.{AddsGeneration, MayRun, IsTurn, PaysForTurn, LooksForTurn, PaysForAll, LooksForAll, Ran, AreDueJobs, AreAllFrames, AddsFrame, HaveRoom, jobs_of};
 
 use super::children::{deep_frames, with_children};
 use crate::ready_jobs::ReadyJobs;

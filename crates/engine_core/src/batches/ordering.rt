@@ -1,8 +1,6 @@
 //! Frames in order of path.
 
-ghost use Rattle.std.specs.Prelude.{◌≡◌, ◌<◌, ◌+◌, IsTrue, IfOk, true, false, length, slice_get, Some, None};
-ghost use Rattle.std.specs.Ordering.{is_lt};
-ghost use Rattle.aerie_base.specs.Paths.{path_cmp};
+ghost use Rattle.std.specs.Prelude.{◌≡◌, ◌<◌, IfOk, true, false};
 ghost use Rattle.run_data.specs.Batches.{by_path};
 ghost use Rattle.engine_core.specs.BatchOrders.{is_before, AreByPath};
 

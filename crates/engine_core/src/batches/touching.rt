@@ -1,9 +1,7 @@
 //! The cells on which a batch had an effect.
 
-ghost use Rattle.std.specs.Prelude.{◌≡◌, ℕ, ◌<◌, ◌≤◌, ◌++◌, List, false, length, replicate, slice_get, Some, IfOk, OnOk};
-ghost use Rattle.effect_cells.specs.declared.effects.CellState.{CellState};
+ghost use Rattle.std.specs.Prelude.{◌≡◌, ◌<◌, ◌≤◌, ◌++◌, List, false, length, slice_get, Some, IfOk, OnOk};
 ghost use Rattle.effect_cells.specs.Touched.{also_touched};
-ghost use Rattle.run_data.specs.Batches.{touched_from};
 ghost use Rattle.engine_core.specs.BatchNumbers.{number_if, numbers_from, AreTouched};
 
 use aerie_base::{List, OutOfMemory};

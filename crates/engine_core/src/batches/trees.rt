@@ -1,6 +1,6 @@
 //! The tree of a batch from its frames, each of which is found by its path.
 
-ghost use Rattle.std.specs.Prelude.{◌≡◌, ◌≤◌, IfOk, length};
+ghost use Rattle.std.specs.Prelude.{◌≡◌, ◌≤◌, IfOk};
 ghost use Rattle.std.specs.Option.{option_copied};
 ghost use Rattle.std.specs.Ordering.{is_lt};
 ghost use Rattle.aerie_base.specs.Paths.{child_path, path_cmp};

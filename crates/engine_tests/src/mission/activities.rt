@@ -1,6 +1,6 @@
 //! The mission's activity types.
 
-ghost use Rattle.std.specs.Prelude.{◌≡◌, ◌++◌, [], ◌∷◌, IsTrue, IfOk, OnOk, take};
+ghost use Rattle.std.specs.Prelude.{◌≡◌, ◌++◌, [], ◌∷◌, IsTrue, IfOk, OnOk};
 ghost use Rattle.aerie_base.specs.Names.{is_name};
 ghost use Rattle.engine_tests.specs.TriedMission.{activities, activity, bump, child, divide, fill, leaf, loop_, mid, mild_parent, outer, parameter, parent, pass, put, spin};
 

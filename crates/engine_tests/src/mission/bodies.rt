@@ -1,6 +1,6 @@
 //! The bodies of the mission's activity types.
 
-ghost use Rattle.std.specs.Prelude.{◌≡◌, [], ◌∷◌, pos, unsigned_abs, ◌≤◌, true, IfOk};
+ghost use Rattle.std.specs.Prelude.{◌≡◌, [], ◌∷◌, unsigned_abs, ◌≤◌, true, IfOk};
 ghost use Rattle.engine_tests.specs.TriedMission.{add, alone, bump, child, clock, delay, divide, fill, forever, leaf, literal, local, loop_, mid, mild_parent, outer, parent, pass, put, set, spin, wait_for};
 
 use aerie_base::{

@@ -1,6 +1,6 @@
 //! Literals, and numbers with their places.
 
-ghost use Rattle.std.specs.Prelude.{◌≡◌, neg_ℤ};
+ghost use Rattle.std.specs.Prelude.{◌≡◌};
 ghost use Rattle.readers.specs.Implements.{Consumes, MayConsume};
 ghost use Rattle.model_reader.specs.reading.Literals.{sign_at, with_minus, amount_at, amount_literal_at, truth_literal_at, variant_literal_at, literal_at};
 ghost use Rattle.rule_grammar.specs.reading.Templates.{raw_number_at, placed_duration_at};

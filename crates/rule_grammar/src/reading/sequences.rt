@@ -1,6 +1,6 @@
 //! Sequences. The time is linear in their tokens.
 
-ghost use Rattle.std.specs.Prelude.{◌≡◌, [], Bool};
+ghost use Rattle.std.specs.Prelude.{◌≡◌};
 ghost use Rattle.aerie_text.specs.declared.sorts.Sort.TheVariants.{Comma};
 ghost use Rattle.readers.specs.Implements.{Consumes, MayConsume};
 ghost use Rattle.readers.specs.Lists.{pushed_at};

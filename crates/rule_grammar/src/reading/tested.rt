@@ -3,7 +3,7 @@
 ghost use Rattle.std.specs.Prelude.{◌≡◌, ◌<◌, ◌≤◌, ◌+◌, IfOk};
 ghost use Rattle.readers.specs.Implements.{Consumes, MayConsume};
 ghost use Rattle.readers.specs.Parsed.{next_fits};
-ghost use Rattle.rule_grammar.specs.reading.Tested.{comparison_of, is_compare_sign, is_same_sign, is_order_sign, begins_named_tail, order_sign_at, compare_sign_at, right_side_at, comparison_at, unnamed_atom_at, longer_left_at, ordered_at, same_sign_at, same_window, equality, equal_window, same_truth_at, same_variant_at, equal_named_at, named_operand_at, unnamed_operand_at, same_operand_at, same_at, named_tail_at, truth_window, named_atom_at};
+ghost use Rattle.rule_grammar.specs.reading.Tested.{comparison_of, is_compare_sign, is_same_sign, is_order_sign, begins_named_tail, order_sign_at, compare_sign_at, right_side_at, comparison_at, unnamed_atom_at, longer_left_at, ordered_at, same_sign_at, same_window, equal_window, same_truth_at, same_variant_at, equal_named_at, named_operand_at, unnamed_operand_at, same_operand_at, same_at, named_tail_at, truth_window, named_atom_at};
 
 use crate::raw::{RawTested, RawWindow};
 use crate::reading::leveled::{LeveledSum, LeveledWindow};

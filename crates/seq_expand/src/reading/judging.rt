@@ -3,7 +3,7 @@
 
 ghost use Rattle.std.specs.Prelude.{◌≡◌, ◌≤◌, length, option_copied};
 ghost use Rattle.std.specs.List.{list_any};
-ghost use Rattle.aerie_base.specs.expressions.Typing.{may_compare, same_kind};
+ghost use Rattle.aerie_base.specs.expressions.Typing.{may_compare};
 ghost use Rattle.constraints.specs.reading.Refusals.{found_with};
 ghost use Rattle.seq_expand.specs.reading.SequenceRefusals.{refusals_of_parameter, refusals_of_word, refusals_of_words, may_be_compared, kind_of_parameter, refusals_of_test, refusals_of_step, refusals_of_steps, refusals_of_type_steps, is_for, is_spacing_of, refusals_of_sequence_rule, refusals_of_rules_from};
 

@@ -1,7 +1,7 @@
 //! The rules of a sequence that are meant.
 
 ghost use Rattle.std.specs.Prelude.{◌≡◌, ◌++◌, IfOk, OnOk, map, option_map};
-ghost use Rattle.seq_expand.specs.reading.SequenceMeaning.{number_of_parameter, meant_word, meant_words, meant_test, meant_step, meant_rules, meant_spacings, rules_of, spacings_of, sequencing_of};
+ghost use Rattle.seq_expand.specs.reading.SequenceMeaning.{number_of_parameter, meant_word, meant_words, meant_test, meant_step, meant_rules, meant_spacings, sequencing_of};
 
 use crate::rules::{SendStep, SendTest, SendWord, Sequencing, SpanRule};
 use aerie_base::{List, Model, Name, Number, OutOfMemory, Parameter, Time};

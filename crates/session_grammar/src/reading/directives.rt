@@ -1,6 +1,6 @@
 //! When directives start, and what they give.
 
-ghost use Rattle.std.specs.Prelude.{◌≡◌, neg_ℤ, IfOk, ◌++◌};
+ghost use Rattle.std.specs.Prelude.{◌≡◌, IfOk};
 ghost use Rattle.readers.specs.Implements.{Consumes};
 ghost use Rattle.readers.specs.Parsed.{next_fits};
 ghost use Rattle.session_grammar.specs.reading.Directives.{id_at, duration_at, edge_word_at, edge_at, anchored_at, unanchored_at, when_at, amount_at, with_sign, signed_amount_at, truth_at, variant_word, variant_at, begins_amount, length_of_time, value_at, argument_at, given_at};

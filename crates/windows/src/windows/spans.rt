@@ -2,7 +2,7 @@
 
 ghost use Rattle.std.specs.Prelude.{◌≡◌, IfOk, IsPermutation};
 ghost use Rattle.std.specs.List.Sorted.{IsNonDecreasingBy};
-ghost use Rattle.windows.specs.Times.{Interval, contains, AreIntervals};
+ghost use Rattle.windows.specs.Times.{contains, AreIntervals};
 
 use super::Windows;
 use crate::ends::earlier;
