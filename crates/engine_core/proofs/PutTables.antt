@@ -108,8 +108,8 @@ says_none tables step path number none is =
       opened = none_open tables.tasks.entries tables.indexes.delays tables.indexes.opens tables.indexes.readies step.indexed path none;
       ready = none_ready_at tables.tasks.entries tables.indexes.delays tables.indexes.opens tables.indexes.readies step.indexed path none;
       anchored = record {
-        starts_room = omega (arith, starts, is);
-        ends_room = omega (arith, ends, is);
+        long = starts ∙ sym ends;
+        room = omega (arith, starts, is);
         start = λ within. absurd (omega (arith, starts, is, within));
         end = λ within. absurd (omega (arith, ends, is, within));
       };
@@ -196,8 +196,8 @@ module _ (old : TaskTables) (before : AreInStep old) (number : ℕ) (task : Task
         opened = open_there old.tasks.entries old.indexes.delays old.indexes.opens old.indexes.readies before.indexed number path_there was_there at_number_there;
         ready = ready_there old.tasks.entries old.indexes.delays old.indexes.opens old.indexes.readies before.indexed number path_there was_there at_number_there;
         anchored = record {
-          starts_room = omega (arith, starts, below);
-          ends_room = omega (arith, ends, below);
+          long = starts ∙ sym ends;
+          room = omega (arith, starts, below);
           start = λ within. ap (λ (ids : List (Option ℕ)). slice_get ids number) before.followed.at_start ∙ anchor_there Start;
           end = λ within. ap (λ (ids : List (Option ℕ)). slice_get ids number) before.followed.at_end ∙ anchor_there End;
         };

@@ -10,21 +10,21 @@ use Rattle.run_data.specs.declared.jobs.Job.{Job}
 use Rattle.run_data.specs.laws.Generations.{child_jobs, beside_generation, pending_of}
 use Rattle.run_data.specs.laws.WaveGenerations.{generation_of}
 use Rattle.engine_core.specs.BatchDues.{fresh}
-use Rattle.engine_core.specs.BatchGenerations.{so_far, jobs_of, AddsGeneration, HasRoom, HaveRoom}
+use Rattle.engine_core.specs.BatchGenerations.{so_far, jobs_of, AddsGeneration, HasRoomForChild, HaveRoomForChildren}
 use Rattle.engine_core.proofs.BatchTurns.{adds_due, frame_turn, frames_end}
 
 -- the jobs up to a place have room
-abbrev pub HaveRoomTo : List Job → ℕ → Type 0
-HaveRoomTo jobs end = (at : ℕ) (one : Job) → at < end → slice_get jobs at ≡ Some one → HasRoom one.path
+abbrev pub HaveRoomUpTo : List Job → ℕ → Type 0
+HaveRoomUpTo jobs end = (at : ℕ) (one : Job) → at < end → slice_get jobs at ≡ Some one → HasRoomForChild one.path
 
-pub room_more : (jobs : List Job) (index : ℕ) (job : Job) → HaveRoomTo jobs index → index < length jobs → job ≡ get_or jobs index job → HasRoom job.path → HaveRoomTo jobs (index + 1)
+pub room_more : (jobs : List Job) (index : ℕ) (job : Job) → HaveRoomUpTo jobs index → index < length jobs → job ≡ get_or jobs index job → HasRoomForChild job.path → HaveRoomUpTo jobs (index + 1)
 room_more jobs index job before within is here at one less found = by (nat_eq at index) refl
   where
-    by : (b : Bool) → nat_eq at index ≡ b → HasRoom one.path
+    by : (b : Bool) → nat_eq at index ≡ b → HasRoomForChild one.path
     by true e =
         let same : at ≡ index = grind (arith, nat_tests) in
         let both : Some one ≡ Some job = sym found ∙ ap (slice_get jobs) same ∙ slice_get_read jobs _ index job refl within is in
-        let k : one ≡ job = cc in subst (λ (j : Job). HasRoom j.path) (sym k) here
+        let k : one ≡ job = cc in subst (λ (j : Job). HasRoomForChild j.path) (sym k) here
     by false e = before at one (grind (arith, nat_tests)) found
 
 -- one frame more
@@ -47,7 +47,7 @@ adds_none model jobs frames made dues none =
     λ i. beside_generation (so_far (append-nil made i) (none i)) (generation_of model (map pending_of jobs) frames)
 
 pub adds_more : (model : Parts) (jobs : List (ℕ × Job)) (frames made : List Frame) (at : ℕ) (job : ℕ × Job) (frame : Frame) (dues all : List (ℕ × Job)) → slice_get jobs at ≡ Some job → slice_get frames at ≡ Some frame →
-    HasRoom job.1.path → all ≡ dues ++ fresh (child_jobs model job.1.path job.0 job.1.view frame.items) → AddsSoFar model jobs frames made at dues → AddsSoFar model jobs frames made (at + 1) all
+    HasRoomForChild job.1.path → all ≡ dues ++ fresh (child_jobs model job.1.path job.0 job.1.view frame.items) → AddsSoFar model jobs frames made at dues → AddsSoFar model jobs frames made (at + 1) all
 adds_more model jobs frames made at job frame dues all j f room is before =
     frame_turn model jobs frames (made ++ take at frames) (made ++ take (at + 1) frames) dues all _ at job frame j f
     (adds_due model job frame (made ++ take at frames) (made ++ take (at + 1) frames) dues all room.good room.room (taken_more made frames at frame f) is) before
@@ -59,5 +59,5 @@ adds_all model jobs frames made after at dues past long is before =
     ∙ ap (λ (l : List Frame). so_far l dues) (ap (λ (l : List Frame). made ++ l) (take_all at frames (omega (arith, past, long))) ∙ sym is)
 
 -- the job at a place has room
-pub room_at : (jobs : List (ℕ × Job)) (at : ℕ) (job : ℕ × Job) → HaveRoom (jobs_of jobs) → slice_get jobs at ≡ Some job → HasRoom job.1.path
+pub room_at : (jobs : List (ℕ × Job)) (at : ℕ) (job : ℕ × Job) → HaveRoomForChildren (jobs_of jobs) → slice_get jobs at ≡ Some job → HasRoomForChild job.1.path
 room_at jobs at job room found = room at job.1 (slice_get-map (λ (one : ℕ × Job). one.1) jobs at ∙ ap (option_map (λ (one : ℕ × Job). one.1)) found)

@@ -115,12 +115,12 @@ pub record Ran (was is : Parts → Type 0) (had has : List Record) (anchor stays
 -- ---- one frame
 
 -- it is a path, and has room for a child
-pub record HasRoom (path : List ℕ) : Type 0 where
+pub record HasRoomForChild (path : List ℕ) : Type 0 where
   pub good : IsTrue (is_path path)
   pub room : length (children_of path) < child_limit
 
-abbrev pub HaveRoom : List Job → Type 0
-HaveRoom jobs = (at : ℕ) (job : Job) → slice_get jobs at ≡ Some job → HasRoom job.path
+abbrev pub HaveRoomForChildren : List Job → Type 0
+HaveRoomForChildren jobs = (at : ℕ) (job : Job) → slice_get jobs at ≡ Some job → HasRoomForChild job.path
 
 -- the frame of a job with those so far, and the jobs that are due then
 abbrev pub AddsFrame : Parts → ℕ × Job → Frame → List Frame → List Frame → List (ℕ × Job) → List (ℕ × Job) → Type 0

@@ -44,8 +44,8 @@ id_at_end anchor = id_of_anchor End anchor
 
 -- this is the anchor of a number that is there, or the number is the next one
 pub record HadAnchor (number : ℕ) (anchor : Option Anchor) (followers : Followers) : Type 0 where
-  pub starts_room : number ≤ length followers.starts
-  pub ends_room : number ≤ length followers.ends
+  pub long : length followers.starts ≡ length followers.ends
+  pub room : number ≤ length followers.starts
   pub start : number < length followers.starts → slice_get followers.starts number ≡ Some (id_at_start anchor)
   pub end : number < length followers.ends → slice_get followers.ends number ≡ Some (id_at_end anchor)
 

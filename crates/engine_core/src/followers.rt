@@ -1,4 +1,4 @@
-ghost use Rattle.std.specs.Prelude.{◌≡◌, ◌<◌, [], true, None, Some, length, OnOk};
+ghost use Rattle.std.specs.Prelude.{◌≡◌, ◌<◌, [], None, Some, OnOk};
 ghost use Rattle.engine_core.specs.Phases.{id_of_anchor};
 ghost use Rattle.engine_core.specs.Times.{put_at};
 ghost use Rattle.engine_core.specs.Indexes.{id_at_start, id_at_end, HadAnchor};
@@ -39,14 +39,6 @@ impl Followers {
         }
     }
 
-    /// Whether there is such a number.
-    fn has(&self, number: usize) -> bool
-        ensures start { result ≡ true → number < length self.now.starts }
-        ensures end { result ≡ true → number < length self.now.ends }
-    {
-        number < self.starts.len() && number < self.ends.len()
-    }
-
     /// A task with this number, which had that anchor or none, has this one or none. As most tasks never have one, that is
     /// told first.
     pub(crate) fn put(
@@ -59,7 +51,7 @@ impl Followers {
         ensures starts { OnOk result (self.new.starts ≡ put_at self.old.starts number (id_at_start anchor)) }
         ensures ends { OnOk result (self.new.ends ≡ put_at self.old.ends number (id_at_end anchor)) }
     {
-        if was.is_none() && anchor.is_none() && self.has(number) {
+        if was.is_none() && anchor.is_none() && number < self.starts.len() {
             return Ok(());
         }
         self.starts.put(number, id_of(Edge::Start, anchor))?;

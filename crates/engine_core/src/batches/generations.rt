@@ -1,11 +1,11 @@
 //! The frames of a batch a generation at a time.
 
-ghost use Rattle.std.specs.Prelude.{◌≡◌, ◌++◌, ◌+◌, ◌-◌, ◌*◌, ◌≤◌, ◌<◌, Some, true, min, option_map, length, IfOk, OnOk};
+ghost use Rattle.std.specs.Prelude.{◌≡◌, ◌++◌, ◌+◌, ◌-◌, ◌*◌, ◌≤◌, ◌<◌, Some, true, false, min, option_map, length, IfOk, OnOk};
 ghost use Rattle.aerie_base.specs.Ranges.{step_limit};
 ghost use Rattle.run_data.specs.Batches.{cost_of};
 ghost use Rattle.run_data.specs.Waves.{last_count};
 ghost use Rattle.engine_core.specs.BatchDues.{AreSeenSteps, IsSeenStep};
-ghost use Rattle.engine_core.specs.BatchGenerations.{AddsGeneration, MayRun, IsTurn, PaysForTurn, LooksForTurn, PaysForAll, LooksForAll, Ran, AreDueJobs, AreAllFrames, AddsFrame, HaveRoom, jobs_of};
+ghost use Rattle.engine_core.specs.BatchGenerations.{AddsGeneration, MayRun, IsTurn, PaysForTurn, LooksForTurn, PaysForAll, LooksForAll, Ran, AreDueJobs, AreAllFrames, AddsFrame, HaveRoomForChildren, jobs_of};
 
 use super::children::{deep_frames, with_children};
 use crate::ready_jobs::ReadyJobs;
@@ -80,7 +80,8 @@ fn add_each(
 
 /// Whether the paths of jobs have room for children.
 fn have_room(jobs: &[Job]) -> bool
-    ensures { result ≡ true → HaveRoom jobs.now }
+    ensures room { result ≡ true → HaveRoomForChildren jobs.now }
+    ensures full { result ≡ false → HaveRoomForChildren jobs.now → ⊥ }
 {
     for job in jobs {
         if job.path.children().len() >= CHILD_LIMIT {
@@ -113,7 +114,7 @@ fn add_all(
 ) -> Result<ReadyJobs, OutOfMemory>
     requires as_many { length frames ≡ length jobs.now }
     requires seen { AreSeenSteps jobs.now frames }
-    requires room { HaveRoom (jobs_of jobs.now) }
+    requires room { HaveRoomForChildren (jobs_of jobs.now) }
     ensures { IfOk result (λ dues. AddsGeneration model.now jobs.now frames made.old.items made.new.items dues) }
 {
     let mut dues = ReadyJobs::new(alloc);

@@ -6,7 +6,7 @@ use Rattle.run_data.specs.declared.frames.Frame.{Frame}
 use Rattle.run_data.specs.declared.frames.Item.{Item}
 use Rattle.run_data.specs.laws.Generations.{child_jobs}
 use Rattle.engine_core.specs.BatchDues.{IsSeenStep, fresh}
-use Rattle.engine_core.specs.BatchGenerations.{HasRoom}
+use Rattle.engine_core.specs.BatchGenerations.{HasRoomForChild}
 use Rattle.engine_core.specs.BatchViews.{CanEmitAll}
 use Rattle.engine_core.proofs.BatchTurns.{pair_here}
 use Rattle.engine_core.proofs.WholeGenerations.{adds_none, adds_more, adds_all, room_at}
@@ -18,7 +18,7 @@ record Here (c : goal.After-made) : Type 0 where
   frame : slice_get c.args.frames c.loop-at.at ≡ Some c.index-as_slice-at.result
   items : c.as_slice-items.result.now ≡ c.index-as_slice-at.result.items
   seen : IsSeenStep (c.made.result, c.index-jobs-at.result) c.index-as_slice-at.result
-  room : HasRoom c.index-jobs-at.result.path
+  room : HasRoomForChild c.index-jobs-at.result.path
 
 here : (c : goal.After-made) → Here c
 here c =
