@@ -1,11 +1,11 @@
 -- A file of lemmas: what it proves need not be read to trust a clause.
 --
 -- The cells of some numbers, by flags.
-use Rattle.std.proofs.Common.{◌≡◌, ℕ, zero, suc, ◌+◌, ◌<◌, ◌≤◌, Bool, true, false, ◌||◌, cond, if◌then◌else◌, List, [], ◌∷◌, ◌++◌, length, drop, replicate, Some, nat_eq, nat_lt, slice_get, slice_set, get_or, refl, sym, ap, ◌∙◌, append_assoc, arith}
+use Rattle.std.proofs.Common.{IsTrue, not, take, ◌≡◌, ℕ, zero, suc, ◌+◌, ◌<◌, ◌≤◌, Bool, true, false, ◌||◌, cond, if◌then◌else◌, List, [], ◌∷◌, ◌++◌, length, drop, replicate, Some, nat_eq, nat_lt, slice_get, slice_set, get_or, refl, sym, ap, ◌∙◌, append_assoc, arith}
 use Rattle.std.proofs.lemmas.Bool.Decides.{nat_tests}
 use Rattle.std.proofs.lemmas.Bool.{ltb-true, ltb-false}
 use Rattle.std.proofs.lemmas.List.{at_drop_all, append-nil, length-set}
-use Rattle.std.specs.List.{list_any}
+use Rattle.std.specs.List.{list_all, list_any}
 use Rattle.effect_cells.specs.declared.effects.CellState.{CellState}
 use Rattle.run_data.specs.Fresh.{states_from}
 use Rattle.engine_core.specs.Flags.{flagged_by_numbers, flagged_state, flagged_states}
@@ -70,6 +70,13 @@ flag_at (number ∷ rest) flags at was is = by (λ set there. flag_at rest (slic
     by further false e =
         let differs : nat_eq number at ≡ false = grind (arith, nat_tests) in
         further was (stays differs) ∙ ap (λ t. Some (was || (t || list_any (nat_eq at) rest))) (sym e)
+
+-- the first of flags that are not set
+pub unset_first : (count : ℕ) (flags : List Bool) → count ≤ length flags → IsTrue (list_all not flags) → take count flags ≡ replicate count false
+unset_first zero flags few none = refl
+unset_first (suc count) [] few none = absurd (omega (arith, few))
+unset_first (suc count) (false ∷ flags) few none = ap (λ (f : List Bool). false ∷ f) (unset_first count flags (omega (arith, few)) none)
+unset_first (suc count) (true ∷ flags) few none = absurd (cc)
 
 unset_at : (count at : ℕ) → at < count → slice_get (replicate count false) at ≡ Some false
 unset_at zero at less = absurd (omega (arith, less))

@@ -141,11 +141,12 @@ number_of_none tasks path none = go tasks (look_is tasks path ∙ none)
         by true f further = absurd (cc)
         by false f further = ap suc (further f)
 
--- what stands at a number is the value there
-pub value_at : (tasks : Table) (n : ℕ) → option_map (λ (e : List ℕ × Task). e.1) (slice_get tasks n) ≡ slice_get (values_of tasks) n
-value_at [] n = refl
-value_at (entry ∷ rest) zero = refl
-value_at (entry ∷ rest) (suc n) = value_at rest n
+-- what the indexes say of the task at a number is what they say of the value there
+pub standing_at : (tasks : Table) (n : ℕ) →
+    option_map (λ (e : List ℕ × Task). standing_in e.1.phase) (slice_get tasks n) ≡ option_map (λ (t : Task). standing_in t.phase) (slice_get (values_of tasks) n)
+standing_at [] n = refl
+standing_at (entry ∷ rest) zero = refl
+standing_at (entry ∷ rest) (suc n) = standing_at rest n
 
 -- ---- one task put at its number
 
@@ -175,10 +176,11 @@ module _ (old : TaskTables) (before : AreInStep old) (number : ℕ) (task : Task
       sym found ∙ ap (λ (ts : Table). option_map (λ (e : List ℕ × Task). e.0) (slice_get ts number)) is ∙ path_stays old.tasks.entries number task
       ∙ ap (λ (o : Option (List ℕ × Task)). option_map (λ (e : List ℕ × Task). e.0) o) at_number_there in cc
 
-  -- the task that stood there
-  pub this_task : (was : Task) → option_map (λ (e : List ℕ × Task). e.1) (slice_get old.tasks.entries number) ≡ Some was → was ≡ was_there
-  this_task was found =
-      let k : Some was ≡ Some was_there = sym found ∙ ap (λ (o : Option (List ℕ × Task)). option_map (λ (e : List ℕ × Task). e.1) o) at_number_there in cc
+  -- what the indexes say of the task that stood there
+  pub this_standing : (standing : Standing) → option_map (λ (e : List ℕ × Task). standing_in e.1.phase) (slice_get old.tasks.entries number) ≡ Some standing →
+      standing ≡ standing_in was_there.phase
+  this_standing standing found =
+      let k : Some standing ≡ Some (standing_in was_there.phase) = sym found ∙ ap (λ (o : Option (List ℕ × Task)). option_map (λ (e : List ℕ × Task). standing_in e.1.phase) o) at_number_there in cc
 
   anchor_there : (edge : Edge) → slice_get (anchors_of edge old.tasks.entries) number ≡ Some (followed_id edge was_there.phase)
   anchor_there edge =
@@ -203,10 +205,9 @@ module _ (old : TaskTables) (before : AreInStep old) (number : ℕ) (task : Task
         };
       }
 
-  pub says_of : (path : List ℕ) (was : Task) (standing : Standing) → path ≡ path_there → was ≡ was_there → standing ≡ standing_in was.phase → SayOf path number standing old.indexes
-  says_of path was standing same is stood =
-      let k : standing ≡ standing_in was_there.phase = stood ∙ ap (λ (t : Task). standing_in t.phase) is in
-      subst (λ (p : List ℕ). SayOf p number standing old.indexes) (sym same) (subst (λ (s : Standing). SayOf path_there number s old.indexes) (sym k) says_there)
+  pub says_of : (path : List ℕ) (standing : Standing) → path ≡ path_there → standing ≡ standing_in was_there.phase → SayOf path number standing old.indexes
+  says_of path standing same stood =
+      subst (λ (p : List ℕ). SayOf p number standing old.indexes) (sym same) (subst (λ (s : Standing). SayOf path_there number s old.indexes) (sym stood) says_there)
 
   pub is_path_there : IsTrue (is_path path_there)
   is_path_there = before.paths number path_there was_there at_number_there

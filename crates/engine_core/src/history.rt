@@ -4,6 +4,7 @@ ghost use Rattle.std.specs.Prelude.{◌≡◌, ◌≤◌, ◌<◌, ◌++◌, ◌
 ghost use Rattle.run_data.specs.Fresh.{states_from};
 ghost use Rattle.engine_core.specs.Flags.{flagged_by_numbers, flagged_states, KeepsState};
 
+use crate::flags::{is_set, no_flags};
 use aerie_base::{List, OutOfMemory, Time};
 use effect_cells::{CellState, Cells};
 use run_data::{Frame, Instant};
@@ -17,42 +18,34 @@ pub(crate) struct History {
     pub(crate) touched: List<u16>,
 }
 
-/// The numbers, and others behind them.
+/// The numbers, and others behind them. Where there are none, as at the first batch of a time, the others stay as they are.
 fn joined(mut numbers: List<u16>, others: List<u16>) -> Result<List<u16>, OutOfMemory>
     ensures { IfOk result (λ all. all ≡ numbers ++ others) }
 {
+    if numbers.is_empty() {
+        return Ok(others);
+    }
     numbers.items.extend_from_slice(others.as_slice())?;
     Ok(numbers)
 }
 
-/// The flags, that of a number set, if there is one.
-fn with_flag(mut flags: Vec<bool>, number: u16) -> Vec<bool>
-    ensures { result.items ≡ slice_set flags.items number true }
+/// Sets the flag of a number, if there is one.
+fn set_flag(flags: &mut [bool], number: u16)
+    ensures { flags.new ≡ slice_set flags.old number true }
 {
     let number = usize::from(number);
     if number < flags.len() {
         flags[number] = true;
     }
-    flags
 }
 
-/// Flags for so many cells, those of some numbers set.
-fn flags_of(alloc: Global, count: usize, touched: &[u16]) -> Result<Vec<bool>, OutOfMemory>
-    ensures { IfOk result (λ flags. flags.items ≡ flagged_by_numbers (replicate count false) touched.now) }
+/// Sets the flags of some numbers.
+fn set_flags(flags: &mut [bool], touched: &[u16])
+    ensures { flags.new ≡ flagged_by_numbers flags.old touched.now }
 {
-    let mut flags = vec![in alloc; false; count]?;
     for number in touched {
-        flags = with_flag(flags, *number);
+        set_flag(flags, *number);
     }
-    Ok(flags)
-}
-
-/// Whether the flag at a place is set.
-fn is_set(flags: &[bool], at: usize) -> bool
-    requires { at < length flags.now }
-    ensures { slice_get flags.now at ≡ Some result }
-{
-    flags[at]
 }
 
 /// Puts the state of a cell with its number behind others where its flag is set.
@@ -78,7 +71,7 @@ fn flagged_states(
     flags: &[bool],
 ) -> Result<List<(u16, CellState)>, OutOfMemory>
     requires count { length flags.now ≡ length cells.now }
-    requires few { length flags.now ≤ 65536 }
+    requires few { length flags.now ≤ 256 }
     ensures { IfOk result (λ states. states ≡ flagged_states 0 flags.now cells.now) }
 {
     let mut states = List::new(alloc);
@@ -96,11 +89,13 @@ fn changed_states(
     touched: &[u16],
 ) -> Result<List<(u16, CellState)>, OutOfMemory>
     requires count { count ≡ length cells.now }
-    requires few { count ≤ 65536 }
+    requires few { count ≤ 256 }
     ensures { IfOk result (λ states. states ≡ states_from 0 touched.now cells.now) }
 {
-    let flags = flags_of(alloc, count, touched)?;
-    let states = flagged_states(alloc, cells, flags.as_slice())?;
+    let mut room = no_flags();
+    let flags = &mut room[..count];
+    set_flags(flags, touched);
+    let states = flagged_states(alloc, cells, flags)?;
     Ok(states)
 }
 
@@ -149,7 +144,7 @@ impl History {
         count: usize,
     ) -> Result<History, OutOfMemory>
         requires count { count ≡ length cells.now }
-        requires few { count ≤ 65536 }
+        requires few { count ≤ 256 }
         ensures instants { IfOk result (λ all. all.instants ≡
             self.instants ++ (record { time = time; batches = self.batches; changed = states_from 0 self.touched cells.now }) ∷ []) }
         ensures batches { IfOk result (λ all. all.batches ≡ []) }

@@ -5,6 +5,7 @@ mod batch_ends;
 mod batches;
 mod beginnings;
 mod engine;
+mod flags;
 mod followers;
 mod going_on;
 mod history;

@@ -8,6 +8,7 @@ ghost use Rattle.run_data.specs.Endings.{has_ended};
 ghost use Rattle.run_data.specs.Tasks.{Task, task_at, ready_jobs, children_made, children_in, after_frame, after_frames, on_each, rested};
 ghost use Rattle.run_data.specs.laws.NextTimes.{least_delay};
 ghost use Rattle.run_data.specs.laws.ReadyTasks.{job_of};
+ghost use Rattle.engine_core.specs.Indexes.{standing_in};
 ghost use Rattle.engine_core.specs.Phases.{may_resume, is_waiting};
 ghost use Rattle.engine_core.specs.Times.{IsUpToTime, least_time, put_at, HasNone};
 ghost use Rattle.run_data.specs.laws.NumberedTasks.{sorted_tasks, Distinct};
@@ -26,7 +27,6 @@ use run_data::Frame;
 use run_data::laws::{endings_go_by_open_bodies, ready_by_index, tasks_stand_by_number};
 use std::alloc::Global;
 use std::marker::Model;
-use std::mem;
 
 /// The tasks by number, and what goes with them.
 #[derive(Drop)]
@@ -67,18 +67,18 @@ pub(crate) struct Changed {
     pub(crate) task: TrackedTask,
 }
 
-/// Puts a task in the place of that of a number, which is given back.
-fn exchange(
-    tasks: &mut IndexMap<Path, TrackedTask>,
-    number: usize,
-    task: TrackedTask,
-) -> TrackedTask
+/// Puts a task in the place of that of a number, and tells what the indexes say of the one that stood there.
+fn exchange(tasks: &mut IndexMap<Path, TrackedTask>, number: usize, task: TrackedTask) -> Standing
     requires { number < length tasks.old.entries }
-    ensures was { option_map (λ entry. entry.1) (slice_get tasks.old.entries number) ≡ Some result }
+    ensures stood { option_map (λ entry. standing_in entry.1.phase) (slice_get tasks.old.entries number) ≡ Some result }
     ensures is { tasks.new.entries ≡ set_value_at tasks.old.entries number task }
 {
     match tasks.get_index_mut(number) {
-        Some(place) => mem::replace(place, task),
+        Some(place) => {
+            let stood = Standing::of(place);
+            *place = task;
+            stood
+        }
         None => unreachable!(),
     }
 }
@@ -111,10 +111,9 @@ fn replace_task(
 {
     let standing = Standing::of(&task);
     let waiting = task.is_waiting();
-    let was = exchange(&mut tables.tasks, number, task);
+    let stood = exchange(&mut tables.tasks, number, task);
     tables.waits.put(number, waiting)?;
     let path = path_of(&tables.tasks, number);
-    let stood = Standing::of(&was);
     tables.indexes.put(alloc, path, number, stood, standing)?;
     Ok(())
 }

@@ -26,7 +26,7 @@ use Rattle.run_data.specs.Steps.{Stepped}
 use Rattle.run_data.specs.TaskStates.{activity_body, daemon_body, body_of}
 use Rattle.run_data.specs.Waves.{with_step, frames_of, unless_spent, wave_of, last_count, RoseAlike}
 use Rattle.run_data.specs.laws.Budgets.{CostIsWithin, SameWithinCost}
-use Rattle.task_step.specs.Directs.{code_place}
+use Rattle.task_step.specs.Directs.{code_place, PutsFrame}
 
 -- ---- codes
 
@@ -90,6 +90,19 @@ pub rose_within : (count steps count_after steps_after : ℕ) → RoseAlike coun
 rose_within count steps count_after steps_after rose =
     let is = rose.1 (steps_after - steps) (omega (arith, rose.0)) in
     omega (arith, is)
+
+-- ---- one frame more behind others
+
+-- where a cost is told there is a frame, which has it
+pub added : (frame : Option Frame) (told : Option ℕ) (cost : ℕ) (before after : List Frame) → PutsFrame frame told before after → told ≡ Some cost →
+    (its : Frame) × (frame ≡ Some its) × (cost ≡ its.cost) × (after ≡ before ++ its ∷ [])
+added None told cost before after adds is = nothing cost (sym adds ∙ is)
+added (Some its) told cost before after adds is = (its, refl, value_is cost its.cost (sym is ∙ adds.0), adds.1)
+
+-- where none is told there is no frame
+pub none_added : (frame : Option Frame) (told : Option ℕ) (before after : List Frame) → PutsFrame frame told before after → told ≡ None → frame ≡ None
+none_added None told before after adds is = refl
+none_added (Some its) told before after adds is = nothing its.cost (sym is ∙ adds.0)
 
 -- ---- costs
 

@@ -1,5 +1,5 @@
 -- A stepper that runs one job after another: what contracts see of it, and the steps of a wave.
-use Rattle.std.specs.Prelude.{ℕ, ◌+◌, List, Option, Some, None, length}
+use Rattle.std.specs.Prelude.{◌≡◌, ℕ, ◌+◌, List, [], ◌∷◌, ◌++◌, Option, Some, None, length}
 use Rattle.aerie_base.specs.declared.models.model.Parts.{Parts}
 use Rattle.body_code.specs.declared.instructions.Instruction.{Instruction}
 use Rattle.run_data.specs.declared.tasks.BodyId.{BodyId}
@@ -21,3 +21,8 @@ code_place model (body.Daemon number) = length model.activities + number
 abbrev pub cost_in : Option Frame → ℕ
 cost_in None = 0
 cost_in (Some frame) = frame.cost
+
+-- the frame of a step, where there is one, is put behind others and its cost is known; else no cost is
+abbrev pub PutsFrame : Option Frame → Option ℕ → List Frame → List Frame → Type 0
+PutsFrame None cost before after = cost ≡ None
+PutsFrame (Some frame) cost before after = (cost ≡ Some frame.cost) × (after ≡ before ++ frame ∷ [])

@@ -1,6 +1,6 @@
 //! A wave of jobs, one after another.
 
-ghost use Rattle.std.specs.Prelude.{◌≡◌, ◌+◌, ◌<◌, ◌≤◌, ◌^◌, min, [], Some, None, IsTrue, IfOk, length, slice_get};
+ghost use Rattle.std.specs.Prelude.{◌≡◌, ◌+◌, ◌<◌, ◌≤◌, ◌^◌, min, [], Some, None, IsTrue, IfOk, OnOk, length, slice_get};
 ghost use Rattle.std.specs.List.{All};
 ghost use Rattle.aerie_base.specs.Ranges.{step_limit};
 ghost use Rattle.body_code.specs.ModelCodes.{AreCodesOf};
@@ -9,7 +9,7 @@ ghost use Rattle.run_data.specs.Frames.{job_frame};
 ghost use Rattle.run_data.specs.Jobs.{IsJobOf, is_state_of};
 ghost use Rattle.run_data.specs.TaskStates.{body_of};
 ghost use Rattle.run_data.specs.Waves.{wave_of, last_count, IsFrugal, RoseAlike};
-ghost use Rattle.task_step.specs.Directs.{code_place, cost_in};
+ghost use Rattle.task_step.specs.Directs.{code_place, cost_in, PutsFrame};
 
 use crate::running::run_step;
 use crate::step_end::StepEnd;
@@ -55,30 +55,35 @@ fn risen(count: u64, by: u64) -> u64
     count.saturating_add(by)
 }
 
-/// The frame of a job, or `None` where its cost passes the fuel.
+/// Runs a job and puts its frame behind others, where no frame is moved again. Gives its cost, or `None` where that passes the
+/// fuel.
+#[allow(clippy::too_many_arguments)]
 fn run_job<L: Ledger>(
     alloc: Global,
     model: &Model,
     codes: &[Code],
     job: &Job,
     fuel: u64,
+    frames: &mut List<Frame>,
     steps: &mut Steps<L>,
     opened: &mut u64,
-) -> Result<Option<Frame>, OutOfMemory>
+) -> Result<Option<u64>, OutOfMemory>
     requires codes { AreCodesOf model.now codes.now }
     requires job { IsJobOf model.now job.now }
     requires fuel { fuel ≤ step_limit }
     requires opened { opened.old ≤ last_count }
-    ensures frame { IfOk result (λ frame. job_frame model.now fuel job.now ≡ frame) }
-    ensures steps { IfOk result (λ frame. steps.new ≡ steps.old + cost_in frame) }
+    ensures frame { IfOk result (λ cost. PutsFrame (job_frame model.now fuel job.now) cost frames.old frames.new) }
+    ensures steps { OnOk result (steps.new ≡ steps.old + cost_in (job_frame model.now fuel job.now)) }
     ensures opened { RoseAlike opened.old steps.old opened.new steps.new }
 {
     let code = code_of(model, codes, &job.state);
     match run_step(alloc, model, code, job, fuel) {
         Ok(fresh) => {
             let frame = fresh.open(steps);
-            *opened = risen(*opened, frame.cost);
-            Ok(Some(frame))
+            let cost = frame.cost;
+            *opened = risen(*opened, cost);
+            frames.push(frame)?;
+            Ok(Some(cost))
         }
         Err(StepEnd::Fuel) => Ok(None),
         Err(StepEnd::OutOfMemory) => Err(OutOfMemory),
@@ -108,11 +113,8 @@ pub(crate) fn run_jobs<L: Ledger>(
     let mut frames = List::with_capacity(alloc, jobs.len())?;
     let mut left = fuel;
     for job in jobs {
-        match run_job(alloc, model, codes, job, left, steps, opened)? {
-            Some(frame) => {
-                left -= frame.cost;
-                frames.push(frame)?;
-            }
+        match run_job(alloc, model, codes, job, left, &mut frames, steps, opened)? {
+            Some(cost) => left -= cost,
             None => return Ok(Wave::Spent),
         }
     }

@@ -102,21 +102,6 @@ fn take(
     }
 }
 
-/// The frame of a step that ends so at a place.
-fn finish(
-    alloc: Global,
-    job: &Job,
-    at: u32,
-    so_far: StepState,
-    end: End,
-) -> Result<Fresh, OutOfMemory>
-    requires { at + 1 < 2 ^ 32 }
-    ensures { IfOk result (λ fresh. fresh ≡ frame_of job.now (status_of end job.now.state.kind at so_far.entry) so_far.entry) }
-{
-    let frame = so_far.finish(alloc, job, at, end)?;
-    Ok(Fresh::new(frame))
-}
-
 /// The frame of a job's step, or that it costs more than the fuel.
 fn step(alloc: Global, model: &Model, code: &Code, job: &Job, fuel: u64) -> Result<Fresh, StepEnd>
     requires job { IsJobOf model.now job.now }
@@ -135,14 +120,14 @@ fn step(alloc: Global, model: &Model, code: &Code, job: &Job, fuel: u64) -> Resu
     'places: loop {
         let here = land(model, code, kind, at);
         if is_end(code, here) {
-            return Ok(finish(alloc, job, here, so_far, End::Done(None))?);
+            return so_far.finish(alloc, job, here, End::Done(None));
         }
         if so_far.cost() == fuel {
             return Err(StepEnd::Fuel);
         }
         match take(alloc, model, code, kind, here, &mut so_far)? {
             Way::Onward(to) => at = to,
-            Way::Ended(end) => return Ok(finish(alloc, job, here, so_far, end)?),
+            Way::Ended(end) => return so_far.finish(alloc, job, here, end),
         }
     }
 }

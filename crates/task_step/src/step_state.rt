@@ -1,6 +1,6 @@
 //! What a step has done so far.
 
-ghost use Rattle.std.specs.Prelude.{◌≡◌, ◌+◌, ◌^◌, ◌<◌, ◌≤◌, length, All, IfOk, OnOk};
+ghost use Rattle.std.specs.Prelude.{◌≡◌, ◌+◌, ◌^◌, ◌<◌, ◌≤◌, length, All, Err, IfOk, OnOk};
 ghost use Rattle.aerie_base.specs.Ranges.{number_limit};
 ghost use Rattle.run_data.specs.declared.frames.Item.TheVariants.{Emit, Child};
 ghost use Rattle.run_data.specs.StepStates.{starting, valued, with_flags, assigned, giving, paid};
@@ -10,10 +10,13 @@ ghost use Rattle.task_step.specs.Doable.{HasType, cells_of};
 ghost use Rattle.run_data.specs.Magnitudes.{effect_magnitude};
 ghost use Rattle.task_step.specs.Ends.{status_of};
 ghost use Rattle.task_step.specs.OwnCells.{most_items};
+ghost use Rattle.task_step.specs.declared.step_end.StepEnd.TheVariants.{Fuel};
 
 use crate::cells_read::cells_read;
 use crate::ends::{End, status_of};
+use crate::fresh::Fresh;
 use crate::sight::Sight;
+use crate::step_end::StepEnd;
 use aerie_base::{Expr, Fault, List, OutOfMemory, Value, eval};
 use effect_cells::{Cells, Effect};
 use run_data::{Frame, Item, Job};
@@ -137,27 +140,28 @@ impl<'a> StepState<'a> {
         job: &Job,
         at: u32,
         end: End,
-    ) -> Result<Frame, OutOfMemory>
+    ) -> Result<Fresh, StepEnd>
         requires { at + 1 < 2 ^ 32 }
-        ensures { IfOk result (λ frame. frame ≡ frame_of job.now (status_of end job.now.state.kind at self.entry) self.entry) }
+        ensures frame { IfOk result (λ fresh. fresh ≡ frame_of job.now (status_of end job.now.state.kind at self.entry) self.entry) }
+        ensures paid { result ≡ Err Fuel → ⊥ }
     {
+        let reads = cells_read(alloc, &self.sight)?;
+        let path = job.path.copy(alloc)?;
+        let before = job.state.copy(alloc)?;
         let StepState {
-            sight,
+            sight: _,
             locals,
             items,
             cost,
         } = self;
-        let path = job.path.copy(alloc)?;
-        let before = job.state.copy(alloc)?;
-        let reads = cells_read(alloc, &sight)?;
         let status = status_of(end, job.state.kind, at, locals);
-        Ok(Frame {
+        Ok(Fresh::new(Frame {
             path,
             before,
             reads,
             items,
             status,
             cost,
-        })
+        }))
     }
 }

@@ -4,17 +4,10 @@ ghost use Rattle.std.specs.Prelude.{◌≡◌, ◌<◌, ◌≤◌, ◌++◌, Lis
 ghost use Rattle.effect_cells.specs.Touched.{also_touched};
 ghost use Rattle.engine_core.specs.BatchNumbers.{number_if, numbers_from, AreTouched};
 
+use crate::flags::{is_set, no_flags};
 use aerie_base::{List, OutOfMemory};
 use effect_cells::{Tree, flag_touched};
 use std::alloc::Global;
-
-/// Whether the flag at a place is set.
-fn is_set(flags: &[bool], at: usize) -> bool
-    requires { at < length flags.now }
-    ensures { slice_get flags.now at ≡ Some result }
-{
-    flags[at]
-}
 
 /// Puts a number behind others where its flag is set.
 fn keep(numbers: &mut List<u16>, number: u16, flag: bool) -> Result<(), OutOfMemory>
@@ -28,7 +21,7 @@ fn keep(numbers: &mut List<u16>, number: u16, flag: bool) -> Result<(), OutOfMem
 
 /// The numbers of the flags that are set, in order.
 fn numbers(alloc: Global, flags: &[bool]) -> Result<List<u16>, OutOfMemory>
-    requires { length flags.now ≤ 65536 }
+    requires { length flags.now ≤ 256 }
     ensures { IfOk result (λ numbers. numbers ≡ numbers_from 0 flags.now) }
 {
     let mut numbers = List::new(alloc);
@@ -40,7 +33,7 @@ fn numbers(alloc: Global, flags: &[bool]) -> Result<List<u16>, OutOfMemory>
 
 /// Sets the flags of the cells on which the tree has an effect, and gives the numbers of all that are set.
 fn numbers_with(alloc: Global, tree: &Tree, flags: &mut [bool]) -> Result<List<u16>, OutOfMemory>
-    requires { length flags.old ≤ 65536 }
+    requires { length flags.old ≤ 256 }
     ensures { IfOk result (λ numbers. numbers ≡ numbers_from 0 (also_touched tree.now flags.old)) }
 {
     flag_touched(tree, flags);
@@ -54,10 +47,10 @@ pub(super) fn touched_cells(
     count: usize,
     tree: &Tree,
 ) -> Result<List<u16>, OutOfMemory>
-    requires { count ≤ 65536 }
+    requires { count ≤ 256 }
     ensures { IfOk result (AreTouched count tree.now) }
 {
-    let mut flags = vec![in alloc; false; count]?;
-    let touched = numbers_with(alloc, tree, flags.as_mut_slice())?;
+    let mut room = no_flags();
+    let touched = numbers_with(alloc, tree, &mut room[..count])?;
     Ok(touched)
 }

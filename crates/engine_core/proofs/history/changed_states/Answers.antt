@@ -1,18 +1,12 @@
-use Rattle.std.proofs.Common.{◌∙◌, arith}
-use Rattle.engine_core.proofs.FlaggedCells.{as_long, touched_states}
+use Rattle.std.proofs.Common.{List, Bool, ◌∙◌, length, ap, arith, ◌≤◌}
+use Rattle.engine_core.specs.Flags.{flagged_by_numbers}
+use Rattle.engine_core.proofs.FlaggedCells.{touched_states, unset_first}
 use Rattle.engine_core.proofs.history.changed_states.Goals as goal
-
-pub flagged_states-requires-clause-count : goal.flagged_states-requires-clause-count
-flagged_states-requires-clause-count c =
-    as_long c.as_slice.result.now c.args.touched.now c.args.count (c.as_slice.ensures.value ∙ c.in_ok-flags.ensures) ∙ c.requires.count
 
 pub returns : goal.returns
 returns c =
+    let room : c.args.count ≤ length c.no_flags-room.result = omega (arith, c.no_flags-room.ensures.long, c.requires.few) in
+    let none = unset_first c.args.count c.no_flags-room.result room c.no_flags-room.ensures.none in
     c.in_ok-states.ensures
-    ∙ touched_states c.args.touched.now c.args.count c.args.cells.now c.as_slice.result.now c.requires.count (c.as_slice.ensures.value ∙ c.in_ok-flags.ensures)
-
-pub flagged_states-requires-clause-few : goal.flagged_states-requires-clause-few
-flagged_states-requires-clause-few c =
-    let same = as_long c.as_slice.result.now c.args.touched.now c.args.count (c.as_slice.ensures.value ∙ c.in_ok-flags.ensures) in
-    let few = c.requires.few in
-    omega (arith, same, few)
+    ∙ touched_states c.args.touched.now c.args.count c.args.cells.now _ c.requires.count
+    (c.set_flags.ensures ∙ ap (λ (f : List Bool). flagged_by_numbers f c.args.touched.now) none)

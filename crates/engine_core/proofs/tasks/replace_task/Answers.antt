@@ -4,7 +4,7 @@ use Rattle.engine_core.specs.Indexes.{standing_in, SayAnew}
 use Rattle.engine_core.specs.TasksByNumber.{has_number}
 use Rattle.engine_core.specs.declared.indexes.Standing.{Standing}
 use Rattle.engine_core.specs.declared.tasks.TaskTables.{TaskTables}
-use Rattle.engine_core.proofs.PutTables.{in_step, keeps, says_of, path_there, number_there, put_there, this_path, this_task, is_path_there, long_stays}
+use Rattle.engine_core.proofs.PutTables.{in_step, keeps, says_of, path_there, number_there, put_there, this_path, this_standing, is_path_there, long_stays}
 use Rattle.engine_core.proofs.tasks.replace_task.Goals as goal
 
 pub put-requires : goal.put-requires
@@ -16,23 +16,23 @@ pub path_of-path-requires : goal.path_of-path-requires
 path_of-path-requires c =
     let below = c.requires.number in
     let long = long_stays c.args.tables.now.tasks.entries c.args.number c.args.task in
-    subst (λ (ts : Table). c.args.number < length ts) (sym c.exchange-was.ensures.is) (omega (arith, below, long))
+    subst (λ (ts : Table). c.args.number < length ts) (sym c.exchange-stood.ensures.is) (omega (arith, below, long))
 
 pub put-requires-2 : goal.put-requires-2
 put-requires-2 c =
     let old = c.args.tables.now in
-    says_of old c.requires.before c.args.number c.args.task c.requires.number c.path_of-path.result.now c.exchange-was.result c.of-stood.result
-    (this_path old c.requires.before c.args.number c.args.task c.requires.number c.path_of-path.result.now c.exchange-was.new.tasks.entries c.exchange-was.ensures.is c.path_of-path.ensures)
-    (this_task old c.requires.before c.args.number c.args.task c.requires.number c.exchange-was.result c.exchange-was.ensures.was) c.of-stood.ensures
+    says_of old c.requires.before c.args.number c.args.task c.requires.number c.path_of-path.result.now c.exchange-stood.result
+    (this_path old c.requires.before c.args.number c.args.task c.requires.number c.path_of-path.result.now c.exchange-stood.new.tasks.entries c.exchange-stood.ensures.is c.path_of-path.ensures)
+    (this_standing old c.requires.before c.args.number c.args.task c.requires.number c.exchange-stood.result c.exchange-stood.ensures.stood)
 
 pub returns-clause-after : goal.returns-clause-after
 returns-clause-after c =
     let old : TaskTables = c.args.tables.now in
     let path = path_there old c.requires.before c.args.number c.args.task c.requires.number in
-    let same = this_path old c.requires.before c.args.number c.args.task c.requires.number c.path_of-path.result.now c.exchange-was.new.tasks.entries c.exchange-was.ensures.is c.path_of-path.ensures in
-    in_step old (record { tasks = c.exchange-was.new.tasks; indexes = c.put-2.new.self; waits = c.put.new.self }) path c.args.task c.args.number c.requires.before
+    let same = this_path old c.requires.before c.args.number c.args.task c.requires.number c.path_of-path.result.now c.exchange-stood.new.tasks.entries c.exchange-stood.ensures.is c.path_of-path.ensures in
+    in_step old (record { tasks = c.exchange-stood.new.tasks; indexes = c.put-2.new.self; waits = c.put.new.self }) path c.args.task c.args.number c.requires.before
     (number_there old c.requires.before c.args.number c.args.task c.requires.number)
-    (c.exchange-was.ensures.is ∙ put_there old c.requires.before c.args.number c.args.task c.requires.number)
+    (c.exchange-stood.ensures.is ∙ put_there old c.requires.before c.args.number c.args.task c.requires.number)
     c.in_ok-put.ensures.wakes
     (is_path_there old c.requires.before c.args.number c.args.task c.requires.number)
     (subst (λ (p : List ℕ). SayAnew p c.args.number (standing_in c.args.task.phase) old.indexes c.put-2.new.self) same
@@ -41,10 +41,10 @@ returns-clause-after c =
 pub returns-clause-kept : goal.returns-clause-kept
 returns-clause-kept c =
     let old : TaskTables = c.args.tables.now in
-    keeps old (record { tasks = c.exchange-was.new.tasks; indexes = c.put-2.new.self; waits = c.put.new.self })
+    keeps old (record { tasks = c.exchange-stood.new.tasks; indexes = c.put-2.new.self; waits = c.put.new.self })
     (path_there old c.requires.before c.args.number c.args.task c.requires.number) c.args.task c.args.number c.requires.before
     (number_there old c.requires.before c.args.number c.args.task c.requires.number)
-    (c.exchange-was.ensures.is ∙ put_there old c.requires.before c.args.number c.args.task c.requires.number)
+    (c.exchange-stood.ensures.is ∙ put_there old c.requires.before c.args.number c.args.task c.requires.number)
     c.in_ok-put.ensures.wakes
     (λ n. c.in_ok-put.ensures.stale n ∙ ap (λ b. has_number old.waits.stale.keys n || (b && nat_eq c.args.number n)) c.is_waiting-waiting.ensures)
     c.in_ok-put.ensures.watchers

@@ -1,4 +1,5 @@
 use Rattle.std.proofs.Common.{◌∙◌, sym, ap, arith, ◌≢◌, length, subst}
+use Rattle.std.proofs.lemmas.Result.{IfOk-weaker}
 use Rattle.run_data.specs.StepStates.{starting}
 use Rattle.task_step.specs.Ways.{TakesWay}
 use Rattle.task_step.proofs.Landing.{over, spent, ends, goes_on, works}
@@ -23,7 +24,9 @@ places-init c =
 
 pub returns-then-is_end-clause-frame : goal.returns-then-is_end-clause-frame
 returns-then-is_end-clause-frame c =
-    over c.args.model.now c.args.code.now c.args.job.now _ _ _ _ c.requires.code c.places.invariant.same c.land-here.ensures.left _ (sym c.is_end.ensures ∙ c.if-is_end.true) c.in_ok-finish.ensures
+    IfOk-weaker c.finish.result _ _
+    (λ frame is. over c.args.model.now c.args.code.now c.args.job.now _ _ _ _ c.requires.code c.places.invariant.same c.land-here.ensures.left frame (sym c.is_end.ensures ∙ c.if-is_end.true) is)
+    c.finish.ensures.frame
 
 pub returns-then-cost-fuel-clause-fuel : goal.returns-then-cost-fuel-clause-fuel
 returns-then-cost-fuel-clause-fuel c =
@@ -54,4 +57,6 @@ returns-in-Ended-clause-frame c =
     let g = subst (λ way. TakesWay c.args.model.now c.args.code.now c.args.job.now.state.kind c.land-here.result c.places.so_far way c.take.new.so_far) c.in-Ended.is c.in_ok-to.ensures in
     let i = c.places.invariant in
     let ne : c.places.so_far.cost ≢ c.args.fuel = omega (arith, c.cost.ensures, c.if-cost-fuel.false) in
-    ends c.args.model.now c.args.code.now c.args.job.now _ _ _ _ c.requires.code i.same c.land-here.ensures.left _ _ _ i.paid ne g c.in_ok-finish-in-Ended.ensures
+    IfOk-weaker c.finish-in-Ended.result _ _
+    (λ frame is. ends c.args.model.now c.args.code.now c.args.job.now _ _ _ _ c.requires.code i.same c.land-here.ensures.left frame _ _ i.paid ne g is)
+    c.finish-in-Ended.ensures.frame
