@@ -1,8 +1,6 @@
-//! Sources and sinks that fail, and sessions that are too large.
+//! Sources and sinks that fail.
 
-use crate::tests::{
-    FIRST, FIRST_TEXT, changed, check_with, is_done, joined, repeated, status_with,
-};
+use crate::tests::{FIRST, is_done, status_with};
 use aerie_edge::{MemorySink, MemorySource};
 use std::alloc::{AllocError, Global};
 use std::sync::Wait;
@@ -73,83 +71,5 @@ fn each_write_may_fail(rt: HostRuntime) -> Result<(), Fail> {
             );
         }
     }
-    Ok(())
-}
-
-/// A session with parts of which one is too many: what stands in front of them, a part, how many of them there are, the column
-/// and the line at which the last is refused, and what there are too many of.
-type Growing = (
-    &'static str,
-    &'static str,
-    usize,
-    usize,
-    usize,
-    &'static str,
-);
-
-const GROWING: [Growing; 7] = [
-    ("model m {\n", "counter c = 0;\n", 257, 1, 258, "cells"),
-    (
-        "model m { counter n = 0;\n",
-        "discrete r = n;\n",
-        257,
-        1,
-        258,
-        "resources",
-    ),
-    ("model m {\n", "activity A() { }\n", 257, 1, 258, "types"),
-    (
-        "model m { counter n = 0; activity A() {\n",
-        "n += 1;\n",
-        4097,
-        1,
-        4098,
-        "statements",
-    ),
-    ("model m { daemon {\n", "if true {\n", 65, 9, 66, "depth"),
-    (
-        "model m { } plan p { start \"2030-01-01T00:00:00Z\"; duration 1us; }\n",
-        "client a { }\n",
-        17,
-        1,
-        18,
-        "clients",
-    ),
-    (
-        "model m { } plan p { start \"2030-01-01T00:00:00Z\"; duration 1us; } client a {\n",
-        "show p;\n",
-        4097,
-        1,
-        4098,
-        "commands",
-    ),
-];
-
-/// The first part that is one too many is refused.
-#[test]
-fn sessions_may_be_too_large(rt: HostRuntime) -> Result<(), Fail> {
-    let alloc = rt.alloc();
-    for (front, part, count, column, line, what) in GROWING {
-        let session = joined(alloc, front, &repeated(alloc, part, count)?)?;
-        let text = format!(in alloc;
-            "{{\"refused\":{{\"column\":{column},\"line\":{line},\"name\":\"TooMany\",\"what\":\"{what}\"}}}}\n"
-        )?;
-        check_with(&rt, alloc, "run", &session, 3, &text)?;
-    }
-    Ok(())
-}
-
-/// A counter at the end of its range, and one past it.
-#[test]
-fn counters_have_a_range(rt: HostRuntime) -> Result<(), Fail> {
-    let alloc = rt.alloc();
-    let full = changed(&rt, alloc, "n = 0;", "n = 1000000000000000000;")?;
-    let text = is_done(&rt, alloc, "run", &full)?;
-    let stopped = "\"outcome\":{\"failed\":{\"cell\":\"n\",\"fault\":\"Range\",\"time\":5}}";
-    assert!(&rt; text.contains(stopped), "{stopped} in {text}");
-    let past = changed(&rt, alloc, "n = 0;", "n = 1000000000000000001;")?;
-    let refused = "{\"refused\":{\"column\":23,\"line\":1,\"name\":\"Syntax\"}}\n";
-    check_with(&rt, alloc, "run", &past, 3, refused)?;
-    assert_eq!(&rt; is_done(&rt, alloc, "run", FIRST)?.as_str(), FIRST_TEXT);
     Ok(())
 }

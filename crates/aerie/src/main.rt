@@ -7,14 +7,8 @@ mod exit_status;
 #[cfg(test)]
 mod hostile;
 mod input;
-#[cfg(test)]
-mod made;
 mod output;
 mod program;
-#[cfg(test)]
-mod refused;
-#[cfg(test)]
-mod rows;
 #[cfg(test)]
 mod simulations_overlap;
 #[cfg(test)]

@@ -1,2 +1,0 @@
-mod Single
-pub mod InOrder

@@ -1,9 +1,9 @@
-//! Each trait used through its bound, and the cells of a model.
+//! Each trait of effects and cells used through its bound.
 
 ghost use Rattle.std.specs.Prelude.{◌≡◌};
 
-use aerie_base::{CellStart, Model, Name, Number, Time, Value};
-use effect_cells::{CellKind, CellState, Cells, Change, Counter, EffectTrait, Register};
+use aerie_base::{Time, Value};
+use effect_cells::{CellKind, Change, Counter, EffectTrait, Register};
 use std::test::Fail;
 
 /// What two effects come to, one after the other and concurrently.
@@ -55,26 +55,5 @@ fn applies_and_passes_each_kind(rt: HostRuntime) -> Result<(), Fail> {
         applied_and_passed::<Register>(&register, &Change::Mark, dt),
         (Value::Truth(false), true)
     );
-    Ok(())
-}
-
-#[test]
-fn begins_as_declared(rt: HostRuntime) -> Result<(), Fail> {
-    let name = Name::new(rt.alloc(), "tanks")?.ok_or("no name")?;
-    let tank = Name::new(rt.alloc(), "tank")?.ok_or("no name")?;
-    let volume = Number::new(5).ok_or("no number")?;
-    let _in_range = volume.get();
-    let cells = vec![in rt.alloc(); (tank, CellStart::Accumulator { volume, rate: 3 })]?;
-    let model = Model::new(
-        name,
-        Vec::new(rt.alloc()),
-        cells,
-        Vec::new(rt.alloc()),
-        Vec::new(rt.alloc()),
-        Vec::new(rt.alloc()),
-    );
-    let cells = Cells::initial(rt.alloc(), &model)?;
-    let copy = cells.copy(rt.alloc())?;
-    assert_eq!(&rt; copy.state(0), CellState::Volume { volume: 5, rate: 3 });
     Ok(())
 }

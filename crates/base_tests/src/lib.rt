@@ -1,10 +1,9 @@
-//! Tests of the lowest crates, through their public calls. They stand here since a crate with tests inside is proved twice.
+//! Tests of the lowest crates, of what only a call can show: generic functions, traits and keys at a type. They stand here since
+//! a crate with tests inside is proved twice.
 #![tactic(auto)]
 
 #[cfg(test)]
 mod containers;
-#[cfg(test)]
-mod datasets;
 #[cfg(test)]
 mod durations;
 #[cfg(test)]
@@ -12,22 +11,10 @@ mod effects;
 #[cfg(test)]
 mod keys;
 #[cfg(test)]
-mod merges;
-#[cfg(test)]
-mod model;
-#[cfg(test)]
 mod names;
 #[cfg(test)]
 mod paths;
 #[cfg(test)]
-mod plain_data;
-#[cfg(test)]
-mod sessions;
-#[cfg(test)]
-mod starts;
-#[cfg(test)]
 mod steps;
 #[cfg(test)]
 mod values;
-#[cfg(test)]
-mod windows_of_spans;

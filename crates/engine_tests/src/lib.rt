@@ -1,13 +1,11 @@
-//! Tests of the engine over the plain stepper and over one with stored steps, and of the spans and profiles that are read
-//! off its runs, through their public calls. They stand here since a crate with tests inside is proved twice.
+//! Tests of the engine over a stepper with stored steps, and with frames that the caller gives, through its public calls: the
+//! instants and what is paid, which the program does not print. They stand here since a crate with tests inside is proved twice.
 #![tactic(auto)]
 
 #[cfg(test)]
 mod mission;
 #[cfg(test)]
 mod plans;
-#[cfg(test)]
-mod runs;
 #[cfg(test)]
 mod stored;
 #[cfg(test)]

@@ -1,23 +1,14 @@
-//! Plans of the mission, and their runs.
+//! Plans of the mission.
 
-ghost use Rattle.std.specs.Prelude.{◌≡◌, ◌≤◌, ◌<◌, IfOk, IfSome};
+ghost use Rattle.std.specs.Prelude.{◌≤◌, IfSome};
 ghost use Rattle.aerie_base.specs.declared.models.model.Parts.{Parts};
 ghost use Rattle.aerie_base.specs.plans.OfModel.{IsPlanOf};
-ghost use Rattle.aerie_base.specs.Ranges.{step_limit};
-ghost use Rattle.run_data.specs.Fresh.{IsFresh};
 
 use aerie_base::{
-    Anchor, Edge, List, Model, Name, Number, OutOfMemory, Plan, RawArgument, RawValue, Steps, Time,
-    When,
+    Anchor, Edge, List, Model, Name, Number, Plan, RawArgument, RawValue, Time, When,
 };
-use body_code::compile_all;
-use engine_core::simulate;
 use plan_edit::add;
-use run_data::Run;
-use run_data::laws::fresh_runs;
 use std::alloc::Global;
-use std::sync::ledger::{Blank, Ledger};
-use task_step::Direct;
 
 /// The activity types of the mission that plans name.
 #[derive(Clone, Copy)]
@@ -148,36 +139,4 @@ pub(crate) fn plan(alloc: Global, model: &Model, duration: i64, planned: &[Plann
         put(alloc, model, &mut plan, *each)?;
     }
     Some(plan)
-}
-
-/// The run of a plan over the plain stepper.
-pub(crate) fn simulated<L: Ledger, K: Ledger>(
-    steps: Blank,
-    looks: Blank,
-    alloc: Global,
-    model: &Model,
-    plan: &Plan,
-    bound: u64,
-) -> Result<Run, OutOfMemory>
-    requires steps { (steps.name ≡ L.name) × (steps.parts ≡ L.parts) × (0 < L.parts) }
-    requires looks { (looks.name ≡ K.name) × (looks.parts ≡ K.parts) × (0 < K.parts) }
-    requires plan { IsPlanOf model.now plan.now }
-    requires bound { bound ≤ step_limit }
-    ensures { IfOk result (λ run. IsFresh model.now run.plan run.bound run) }
-{
-    fresh_runs();
-    let codes = compile_all(alloc, model)?;
-    let mut direct = Direct::new(codes.as_slice());
-    let mut steps = Steps::<L>::open(steps);
-    let mut looks = Steps::<K>::open(looks);
-    let run = simulate(
-        alloc,
-        model,
-        plan,
-        bound,
-        &mut direct,
-        &mut steps,
-        &mut looks,
-    )?;
-    Ok(run)
 }

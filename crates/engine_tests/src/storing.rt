@@ -8,10 +8,10 @@ ghost use Rattle.run_data.specs.Fresh.{IsFresh};
 ghost use Rattle.run_data.specs.Records.{IsValid, record_of};
 
 use crate::mission::mission;
-use crate::plans::{Planned, Type, bare, plan, with};
+use crate::plans::{Planned, Type, bare, bump_after, plan, with};
 use crate::stored::Stored;
 use crate::telling;
-use aerie_base::{List, Model, OutOfMemory, Plan, Steps, copy_list};
+use aerie_base::{Edge, List, Model, OutOfMemory, Plan, Steps, copy_list};
 use body_code::compile_all;
 use engine_core::simulate;
 use run_data::laws::fresh_runs;
@@ -112,7 +112,7 @@ fn first<L: Ledger, K: Ledger>(
     Ok((records, made.1))
 }
 
-/// What is run for a plan and for another one over the steps of the first, and the instants of this.
+/// What is run for a plan and for another one over the steps of the first, and the instants of this, which are told of a copy.
 fn told<L: Ledger, K: Ledger>(
     steps: Blank,
     looks: Blank,
@@ -125,7 +125,7 @@ fn told<L: Ledger, K: Ledger>(
 {
     let mut steps = Steps::<L>::open(steps);
     let mut looks = Steps::<K>::open(looks);
-    let model = mission(alloc, false).ok()?;
+    let model = mission(alloc, false).ok()?.copy(alloc).ok()?;
     let stored = plan(alloc, &model, 100, stored)?;
     let stored = first(alloc, &model, &stored, &mut steps, &mut looks).ok()?;
     let plan = plan(alloc, &model, 100, planned)?;
@@ -138,7 +138,8 @@ fn told<L: Ledger, K: Ledger>(
         &mut looks,
     )
     .ok()?;
-    let instants = telling::instants(alloc, &run.0).ok()?;
+    let copy = run.0.copy(alloc).ok()?;
+    let instants = telling::instants(alloc, &copy).ok()?;
     format!(in alloc; "{}, {}; {}", stored.1, run.1, instants.as_str()).ok()
 }
 
@@ -183,5 +184,32 @@ fn stored_steps_are_not_run_again(rt: HostRuntime) {
         &[with(5, Type::Put, 1), bare(6, Type::Child)],
         &[bare(5, Type::MildParent)],
         "4, 2; 0/0 5/1,1=2,2=1",
+    );
+}
+
+#[test]
+fn instants_have_batches_and_what_changed(rt: HostRuntime) {
+    let alloc = rt.alloc();
+    // equal values that are set at once are in conflict
+    gives(
+        &rt,
+        alloc,
+        &[],
+        &[with(5, Type::Put, 7), with(5, Type::Put, 7)],
+        "0, 2; 0/0 5/1,1=0!",
+    );
+    // a condition that holds lets its task go on in the next batch
+    gives(&rt, alloc, &[], &[bare(0, Type::Pass)], "0, 2; 0/2,0=1");
+    // in the next batch after the start of one, and never where one does not end
+    gives(
+        &rt,
+        alloc,
+        &[],
+        &[
+            with(95, Type::Bump, 3),
+            bump_after(1, Edge::End, 0, 1),
+            bump_after(1, Edge::Start, 0, 2),
+        ],
+        "0, 4; 0/0 95/2,0=5",
     );
 }

@@ -97,7 +97,11 @@ fn taken_over(alloc: Global) -> Result<Option<Run>, OutOfMemory> {
     let plan = one_put(alloc)?;
     let frames = put_frames(alloc)?;
     let engine = Engine::begin(alloc, &model, &plan, 1000)?;
-    if engine.ready().is_empty() {
+    let Some(job) = engine.ready().first() else {
+        return Ok(None);
+    };
+    let copy = job.copy(alloc)?;
+    if !copy.path.is_same(&job.path) {
         return Ok(None);
     }
     let engine = engine.take_over(alloc, frames.as_slice())?;

@@ -1,12 +1,9 @@
-//! What a run, its spans and its profiles are, as one line of text each.
+//! How a run ended and what its instants are, as one line of text each.
 
-use aerie_base::{Fault, Path, Time, Value};
+use aerie_base::{Fault, Path, Value};
 use effect_cells::CellState;
-use profiles::{Profile, Sample};
 use run_data::{Instant, Outcome, Run, Who};
-use span_table::Span;
 use std::alloc::{AllocError, Global};
-use windows::Segment;
 
 fn value(alloc: Global, value: &Value) -> Result<String, AllocError> {
     match value {
@@ -101,100 +98,4 @@ pub(crate) fn instants(alloc: Global, run: &Run) -> Result<String, AllocError> {
         put(&mut text, word.as_str())?;
     }
     Ok(text)
-}
-
-fn end(alloc: Global, end: &Option<Time>) -> Result<String, AllocError> {
-    match end {
-        Some(end) => format!(in alloc; "{}", end.get()),
-        None => String::from_str(alloc, "-"),
-    }
-}
-
-/// Values with commas between them, in parentheses: `(3)`; nothing of none.
-fn arguments(alloc: Global, values: &[Value]) -> Result<String, AllocError> {
-    let mut text = String::new(alloc);
-    for each in values {
-        let mark = if text.is_empty() { "(" } else { "," };
-        let of = value(alloc, each)?;
-        text.push_str(mark)?;
-        text.push_str(of.as_str())?;
-    }
-    if !text.is_empty() {
-        text.push_str(")")?;
-    }
-    Ok(text)
-}
-
-/// What a body returned: `=3`; nothing of none.
-fn returned(alloc: Global, given: &Option<Value>) -> Result<String, AllocError> {
-    match given {
-        Some(of) => {
-            let of = value(alloc, of)?;
-            format!(in alloc; "={}", of.as_str())
-        }
-        None => Ok(String::new(alloc)),
-    }
-}
-
-fn span(alloc: Global, span: &Span) -> Result<String, AllocError> {
-    let of = path(alloc, &span.path)?;
-    let given = arguments(alloc, span.arguments.as_slice())?;
-    let to = end(alloc, &span.end)?;
-    let result = returned(alloc, &span.result)?;
-    format!(in alloc;
-        "{}:{}{}:{}..{}{}",
-        of.as_str(),
-        span.kind,
-        given.as_str(),
-        span.start.get(),
-        to.as_str(),
-        result.as_str()
-    )
-}
-
-/// The spans: of each its path, type, arguments, start and end, and what it returned, as `1:0(3):5..15`.
-pub(crate) fn spans(alloc: Global, spans: &[Span]) -> Result<String, AllocError> {
-    let mut text = String::new(alloc);
-    for each in spans {
-        let word = span(alloc, each)?;
-        put(&mut text, word.as_str())?;
-    }
-    Ok(text)
-}
-
-fn step(alloc: Global, step: &(Time, Value)) -> Result<String, AllocError> {
-    let of = value(alloc, &step.1)?;
-    format!(in alloc; "{}:{}", step.0.get(), of.as_str())
-}
-
-fn line(alloc: Global, line: &Segment) -> Result<String, AllocError> {
-    format!(in alloc; "{}:{}{:+}", line.from.get(), line.value, line.rate)
-}
-
-/// The segments: of each its start and value, of a linear one its rate too, as `5:3` and `0:0+3`.
-pub(crate) fn profile(alloc: Global, profile: &Profile) -> Result<String, AllocError> {
-    let mut text = String::new(alloc);
-    match profile {
-        Profile::Discrete(steps) => {
-            for each in steps.as_slice() {
-                let word = step(alloc, each)?;
-                put(&mut text, word.as_str())?;
-            }
-        }
-        Profile::Linear(lines) => {
-            for each in lines.as_slice() {
-                let word = line(alloc, each)?;
-                put(&mut text, word.as_str())?;
-            }
-        }
-    }
-    Ok(text)
-}
-
-/// A sample: its value or its sum.
-pub(crate) fn sample(alloc: Global, sample: &Sample) -> Result<String, AllocError> {
-    match sample {
-        Sample::Value(of) => value(alloc, of),
-        Sample::Sum(sum) => format!(in alloc; "{sum}"),
-    }
 }

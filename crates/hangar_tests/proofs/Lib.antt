@@ -1,5 +1,4 @@
 pub mod EmptyPlans
 pub mod Fetched
 pub mod FewAccepted
-pub mod FirstActions
 pub mod OneModel

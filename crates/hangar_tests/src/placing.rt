@@ -4,7 +4,6 @@ ghost use Rattle.std.specs.Prelude.{◌≡◌, ◌≤◌, ◌<◌, ◌+◌, IfSo
 ghost use Rattle.hangar_core.specs.Standing.{IsActionOn, IsOfSameSession, IsPlanIn, IsStepped};
 
 use crate::opening::{hangar, named};
-use crate::telling;
 use aerie_base::Plan;
 use hangar_core::{Action, Entry, Hangar, Reply};
 use plan_edit::copy_plan;
@@ -50,7 +49,7 @@ fn fetched(alloc: Global, hangar: &mut Hangar, client: u32) -> Option<(u64, Plan
 }
 
 /// What is answered of a plan that a client places on the branch `main`, where it saw a revision.
-fn placed(alloc: Global, hangar: &mut Hangar, client: u32, seen: u64, plan: Plan) -> Option<String>
+fn placed(alloc: Global, hangar: &mut Hangar, client: u32, seen: u64, plan: Plan) -> Option<Reply>
     requires few { hangar.old.accepted < 1000 }
     requires plan { IsPlanIn hangar.old.workspace.models hangar.old.workspace.duration plan }
     ensures few { hangar.new.accepted ≤ hangar.old.accepted + 1 }
@@ -59,7 +58,7 @@ fn placed(alloc: Global, hangar: &mut Hangar, client: u32, seen: u64, plan: Plan
     let branch = named(alloc, "main")?;
     let action = Action::Place { branch, seen, plan };
     let reply = stepped(alloc, hangar, client, action)?;
-    telling::reply(alloc, &reply).ok()
+    Some(reply)
 }
 
 #[test]
@@ -71,9 +70,9 @@ fn the_second_of_two_places_is_stale(rt: HostRuntime) {
     let (other_seen, other) = fetched(alloc, &mut hangar, 1).expect(&rt, "the branch");
     assert_eq!(&rt; (one_seen, other_seen), (0, 0));
     let first = placed(alloc, &mut hangar, 0, one_seen, one).expect(&rt, "memory");
-    assert_eq!(&rt; first.as_str(), "Placed 1");
+    assert!(&rt; matches!(first, Reply::Placed { revision: 1 }));
     let second = placed(alloc, &mut hangar, 1, other_seen, other).expect(&rt, "memory");
-    assert_eq!(&rt; second.as_str(), "Stale 0 1");
+    assert!(&rt; matches!(second, Reply::Stale { seen: 0, now: 1 }));
     // nothing was changed by what came too late
     let (seen, plan) = fetched(alloc, &mut hangar, 1).expect(&rt, "the branch");
     assert_eq!(&rt; (seen, plan.directives.len()), (1, 0));

@@ -4,7 +4,7 @@ ghost use Rattle.std.specs.Prelude.{◌≡◌, IfOk};
 ghost use Rattle.model_check.specs.CheckedParts.{no_parts, with_checked_cell, with_checked_resource, with_checked_items, checked_parts};
 ghost use Rattle.model_check.specs.Diagnostics.{Makes};
 ghost use Rattle.model_check.specs.ModelDiagnostics.{items_diagnostics, model_diagnostics};
-ghost use Rattle.model_check.specs.ModelSymbols.{bare_symbols};
+ghost use Rattle.model_check.specs.ModelSymbols.{bare_symbols, symbols_of};
 ghost use Rattle.model_check.specs.Making.{AddsItem};
 
 use crate::activities::activity;
@@ -163,6 +163,20 @@ fn items(
     Ok(parts)
 }
 
+/// Makes what declarations make whose names stand for these, and notes what is wrong with them.
+fn items_of(
+    alloc: Global,
+    symbols: &Symbols,
+    declared: &[RawItem],
+    found: &mut Option<Diagnostic>,
+) -> Result<CheckedParts, OutOfMemory>
+    requires { symbols.now ≡ symbols_of declared.now }
+    ensures { IfOk result (Makes (with_checked_items symbols.now no_parts declared.now) (items_diagnostics symbols.now declared.now) found.old found.new) }
+{
+    let bare = bare_symbols(alloc, declared)?;
+    items(alloc, symbols, &bare, declared, found)
+}
+
 /// Makes the parts of a model, and notes what is wrong with it. It goes over the model a few times, and over each body once; a name
 /// is looked up by hash.
 pub(crate) fn parts(
@@ -173,9 +187,8 @@ pub(crate) fn parts(
     ensures { IfOk result (Makes (checked_parts raw.now) (model_diagnostics raw.now) found.old found.new) }
 {
     let declared = raw.items.as_slice();
-    let symbols = symbols(alloc, declared)?;
-    let bare = bare_symbols(alloc, declared)?;
     note_repeated_items(alloc, NameGroup::Declared, declared, found)?;
     note_repeated_items(alloc, NameGroup::Shown, declared, found)?;
-    items(alloc, &symbols, &bare, declared, found)
+    let symbols = symbols(alloc, declared)?;
+    items_of(alloc, &symbols, declared, found)
 }

@@ -1,4 +1,3 @@
-pub mod Models
 pub mod LoadedDirectives
 pub mod PlanForms
 pub mod ShownPlans

@@ -1,13 +1,3 @@
-//! Tests of the edits of plans, through their public calls.
+//! Worked cases of plans that are shown, written and loaded, computed from the definitions of `plan_edit`. They stand here, and not
+//! in its `specs/`, since every crate above it would load them.
 #![tactic(auto)]
-
-#[cfg(test)]
-mod edits;
-#[cfg(test)]
-mod loads;
-#[cfg(test)]
-mod migrations;
-#[cfg(test)]
-mod models;
-#[cfg(test)]
-mod words;

@@ -1,11 +1,9 @@
-//! Tests of schedules, and of what goals lack on runs, from the text on. They stand here since a crate with tests inside is
-//! proved twice.
+//! Tests of schedules from the text on, of what the program does not print: how many plans were simulated, and a plan whose ids
+//! have come to their end. They stand here since a crate with tests inside is proved twice.
 #![tactic(auto)]
 
 #[cfg(test)]
 mod counting;
-#[cfg(test)]
-mod gaps;
 #[cfg(test)]
 mod plans;
 #[cfg(test)]

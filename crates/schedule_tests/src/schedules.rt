@@ -3,16 +3,14 @@
 ghost use Rattle.std.specs.Prelude.{◌≡◌, ◌<◌, IsTrue};
 ghost use Rattle.std.specs.List.{list_all};
 ghost use Rattle.aerie_base.specs.plans.OfModel.{IsPlanOf};
-ghost use Rattle.constraints.specs.OfModel.{is_constraint};
 ghost use Rattle.goals.specs.OfModel.{is_goal};
 
 use crate::counting::Counting;
 use crate::plans::{Outline, Planned, compiled_in, plan_of};
-use crate::rules::{constraints_in, goals_in};
+use crate::rules::goals_in;
 use crate::telling::told;
 use aerie_base::{Plan, Steps};
 use bench::CompiledModel;
-use constraints::Constraint;
 use goals::Goal;
 use scheduler::{Schedule, schedule};
 use std::alloc::Global;
@@ -20,12 +18,11 @@ use std::marker::Brand;
 use std::process::Abort;
 use std::sync::ledger::{Blank, Ledger};
 
-/// A plan of a model with constraints and goals.
+/// A plan of a model with goals.
 #[derive(Clone, Copy)]
 struct Case {
     model: &'static str,
     outline: Outline,
-    constraints: &'static str,
     goals: &'static str,
 }
 
@@ -40,13 +37,11 @@ fn scheduled<L: Ledger, K: Ledger>(
     compiled: &CompiledModel,
     plan: &Plan,
     goals: &[Goal],
-    constraints: &[Constraint],
 ) -> Option<Counted>
     requires steps { (steps.name ≡ L.name) × (steps.parts ≡ L.parts) × (0 < L.parts) }
     requires looks { (looks.name ≡ K.name) × (looks.parts ≡ K.parts) × (0 < K.parts) }
     requires plan { IsPlanOf compiled.now plan.now }
     requires goals { IsTrue (list_all (is_goal compiled.now) goals.now) }
-    requires constraints { IsTrue (list_all (is_constraint compiled.now) constraints.now) }
 {
     let mut counting = Counting::new(compiled, 1000);
     let mut steps = Steps::<L>::open(steps);
@@ -56,7 +51,7 @@ fn scheduled<L: Ledger, K: Ledger>(
         compiled.model().get(),
         plan,
         goals,
-        constraints,
+        &[],
         &mut counting,
         &mut steps,
         &mut looks,
@@ -70,19 +65,9 @@ fn schedule_of(alloc: Global, case: &Case) -> Option<Counted> {
     let compiled = compiled_in(alloc, case.model)?;
     let model = compiled.model().get();
     let plan = plan_of(alloc, model, &case.outline)?;
-    let constraints = constraints_in(alloc, case.constraints, model)?;
-    let kept = constraints.as_slice();
-    let goals = goals_in(alloc, case.goals, model, kept, plan.duration)?;
+    let goals = goals_in(alloc, case.goals, model, plan.duration)?;
     let (steps, looks) = (Blank::new(1), Blank::new(1));
-    scheduled::<Brand, Brand>(
-        steps,
-        looks,
-        alloc,
-        &compiled,
-        &plan,
-        goals.as_slice(),
-        kept,
-    )
+    scheduled::<Brand, Brand>(steps, looks, alloc, &compiled, &plan, goals.as_slice())
 }
 
 /// The schedule of a case is told so: the goals with what is placed, trials, plans that were simulated, directives.
@@ -117,65 +102,11 @@ const FOUR_HOURS: Outline = Outline {
 };
 
 /// Each hour a tick.
-fn hourly(constraints: &'static str, goals: &'static str) -> Case {
-    Case {
-        model: TICKS,
-        outline: FOUR_HOURS,
-        constraints,
-        goals,
-    }
-}
-
-#[test]
-fn a_tick_is_placed_each_hour(rt: HostRuntime) {
-    let alloc = rt.alloc();
-    gives(
-        &rt,
-        alloc,
-        &hourly("", "g: recurrence Tick() every 1h in [0us, 4h);"),
-        "g met [2 3 4]; 3 trials, 4 runs; 1@1800000000 2@5400000000 3@9000000000 4@12600000000",
-    );
-    // where two ticks are one too many each candidate is tried in vain
-    gives(
-        &rt,
-        alloc,
-        &hourly(
-            "few: t <= 1;",
-            "g: recurrence Tick() every 1h in [0us, 4h) keeping few;",
-        ),
-        "g unmet []; 100 trials, 101 runs; 1@1800000000",
-    );
-    // where three are, the first placement stays
-    gives(
-        &rt,
-        alloc,
-        &hourly(
-            "few: t <= 2;",
-            "g: recurrence Tick() every 1h in [0us, 4h) keeping few;",
-        ),
-        "g unmet [2]; 101 trials, 102 runs; 1@1800000000 2@5400000000",
-    );
-    // unless what was placed is taken back
-    gives(
-        &rt,
-        alloc,
-        &hourly(
-            "few: t <= 2;",
-            "g: recurrence Tick() every 1h in [0us, 4h) keeping few rollback;",
-        ),
-        "g unmet []; 101 trials, 102 runs; 1@1800000000",
-    );
-    // a constraint that is not named is no matter
-    gives(
-        &rt,
-        alloc,
-        &hourly(
-            "few: t <= 2; some: t >= 0;",
-            "g: recurrence Tick() every 1h in [0us, 4h) keeping some;",
-        ),
-        "g met [2 3 4]; 3 trials, 4 runs; 1@1800000000 2@5400000000 3@9000000000 4@12600000000",
-    );
-}
+const HOURLY: Case = Case {
+    model: TICKS,
+    outline: FOUR_HOURS,
+    goals: "g: recurrence Tick() every 1h in [0us, 4h);",
+};
 
 /// A plan of 100 microseconds with these directives.
 fn short(first_id: u32, planned: &'static [Planned], goals: &'static str) -> Case {
@@ -186,46 +117,19 @@ fn short(first_id: u32, planned: &'static [Planned], goals: &'static str) -> Cas
             first_id,
             planned,
         },
-        constraints: "",
         goals,
     }
 }
 
+/// A plan is simulated once for each trial and once more.
 #[test]
-fn goals_are_placed_in_their_order(rt: HostRuntime) {
+fn no_plan_is_simulated_twice_in_a_row(rt: HostRuntime) {
     let alloc = rt.alloc();
-    // beside the rise of a counter
     gives(
         &rt,
         alloc,
-        &short(
-            1,
-            &[(5, "Bump", Some(3))],
-            "g: coexistence Bump(by = 0) for window(n >= 3) from 2us to 4us;",
-        ),
-        "g met [2]; 1 trials, 2 runs; 1@5 2@7",
-    );
-    // what is placed for a later goal may leave an earlier one unmet
-    gives(
-        &rt,
-        alloc,
-        &short(
-            1,
-            &[(5, "Bump", Some(3))],
-            "g: coexistence Bump(by = 0) for window(n >= 3) from 2us to 4us; h: cardinality Bump(by = 3) count 2 in [0us, 6us);",
-        ),
-        "g unmet [2]; h met [3]; 2 trials, 3 runs; 1@5 2@7 3@0",
-    );
-    // ids that were taken back are given again
-    gives(
-        &rt,
-        alloc,
-        &short(
-            1,
-            &[],
-            "g: cardinality Bump(by = 1) count 3 in [0us, 2us) rollback; h: cardinality Bump(by = 2) count 1 in [4us, 5us);",
-        ),
-        "g unmet []; h met [1]; 3 trials, 4 runs; 1@4",
+        &HOURLY,
+        "g met [2 3 4]; 3 trials, 4 runs; 1@1800000000 2@5400000000 3@9000000000 4@12600000000",
     );
     // without goals nothing is simulated
     gives(
@@ -233,22 +137,6 @@ fn goals_are_placed_in_their_order(rt: HostRuntime) {
         alloc,
         &short(1, &[(5, "Bump", Some(3))], ""),
         "0 trials, 0 runs; 1@5",
-    );
-}
-
-#[test]
-fn what_cannot_be_tried_is_left(rt: HostRuntime) {
-    let alloc = rt.alloc();
-    // on a run that stops nothing is lacking, and no goal is met
-    gives(
-        &rt,
-        alloc,
-        &short(
-            1,
-            &[(5, "Loop", None)],
-            "g: cardinality Bump(by = 1) count 1 in [0us, 9us);",
-        ),
-        "g unmet []; 0 trials, 1 runs; 1@5",
     );
     // with its last id the plan is full, and what cannot be added is no trial
     gives(

@@ -1,18 +1,12 @@
-//! Tests of the crates that read and write texts, through their public calls. They stand here since a crate with tests
-//! inside is proved twice.
+//! Tests of the crates that read and write texts, of what only a call can show: sources and sinks, and calls that the program
+//! does not make. They stand here since a crate with tests inside is proved twice.
 #![tactic(auto)]
 
 #[cfg(test)]
-mod clients;
+mod copied_models;
 #[cfg(test)]
 mod edges;
 #[cfg(test)]
+mod lines_of_json;
+#[cfg(test)]
 mod lists_of_entries;
-#[cfg(test)]
-mod models;
-#[cfg(test)]
-mod readers_of_tokens;
-#[cfg(test)]
-mod sessions;
-#[cfg(test)]
-mod tokens_and_lines;

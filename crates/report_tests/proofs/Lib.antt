@@ -1,2 +1,0 @@
-pub mod EmptyPlans
-pub mod OneModel

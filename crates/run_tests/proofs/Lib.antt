@@ -1,2 +1,0 @@
-pub mod CounterJobs
-pub mod IdleRuns

@@ -1,2 +1,0 @@
-pub mod CounterMission
-pub mod IdleRuns
