@@ -1,16 +1,12 @@
-//! Tests of the engine over a stepper with stored steps, and with frames that the caller gives, through its public calls: the
-//! instants and what is paid, which the program does not print. They stand here since a crate with tests inside is proved twice.
+//! Tests of the engine through its public calls: the instants of runs, which the program does not print. They stand here since a
+//! crate with tests inside is proved twice.
 #![tactic(auto)]
 
 #[cfg(test)]
-mod mission;
+mod models;
 #[cfg(test)]
 mod plans;
 #[cfg(test)]
-mod stored;
-#[cfg(test)]
-mod storing;
-#[cfg(test)]
-mod taking_over;
+mod runs;
 #[cfg(test)]
 mod telling;

@@ -15,15 +15,8 @@ use std::alloc::Global;
 pub(crate) enum Type {
     Bump,
     Put,
-    Child,
-    Parent,
     MildParent,
-    Fill,
     Pass,
-    Outer,
-    Spin,
-    Divide,
-    Loop,
 }
 
 /// The name of a type.
@@ -31,15 +24,8 @@ fn name(of: Type) -> &'static str {
     match of {
         Type::Bump => "Bump",
         Type::Put => "Put",
-        Type::Child => "C",
-        Type::Parent => "P",
         Type::MildParent => "M",
-        Type::Fill => "W",
         Type::Pass => "Q",
-        Type::Outer => "Outer",
-        Type::Spin => "Spin",
-        Type::Divide => "Div",
-        Type::Loop => "Loop",
     }
 }
 
@@ -48,7 +34,6 @@ fn parameter(of: Type) -> Option<&'static str> {
     match of {
         Type::Bump => Some("by"),
         Type::Put => Some("value"),
-        Type::Divide => Some("d"),
         _ => None,
     }
 }

@@ -1,8 +1,8 @@
-//! How a run ended and what its instants are, as one line of text each.
+//! What the instants of a run are, as a line of text.
 
-use aerie_base::{Fault, Path, Value};
+use aerie_base::Value;
 use effect_cells::CellState;
-use run_data::{Instant, Outcome, Run, Who};
+use run_data::{Instant, Run};
 use std::alloc::{AllocError, Global};
 
 fn value(alloc: Global, value: &Value) -> Result<String, AllocError> {
@@ -10,50 +10,6 @@ fn value(alloc: Global, value: &Value) -> Result<String, AllocError> {
         Value::Int(number) => format!(in alloc; "{}", number.get()),
         Value::Truth(truth) => format!(in alloc; "{truth}"),
         Value::Variant { kind, number } => format!(in alloc; "{kind}.{number}"),
-    }
-}
-
-fn path(alloc: Global, path: &Path) -> Result<String, AllocError> {
-    let mark = if path.daemon() { "d" } else { "" };
-    let mut text = format!(in alloc; "{mark}{}", path.id())?;
-    for child in path.children() {
-        let number = format!(in alloc; ".{child}")?;
-        text.push_str(number.as_str())?;
-    }
-    Ok(text)
-}
-
-fn fault(fault: &Fault) -> &'static str {
-    match fault {
-        Fault::Range => "Range",
-        Fault::Divide => "Divide",
-        Fault::NegativeDelay => "NegativeDelay",
-        Fault::TooDeep => "TooDeep",
-    }
-}
-
-fn who(alloc: Global, who: &Who) -> Result<String, AllocError> {
-    match who {
-        Who::Task(task) => path(alloc, task),
-        Who::Cell(cell) => format!(in alloc; "cell {cell}"),
-    }
-}
-
-/// How the run ended, and how far it came: `completed, 100`.
-pub(crate) fn outcome(alloc: Global, run: &Run) -> Result<String, AllocError> {
-    let reach = run.reach.get();
-    match &run.outcome {
-        Outcome::Completed => format!(in alloc; "completed, {reach}"),
-        Outcome::StepLimit { time } => format!(in alloc; "limit at {}, {reach}", time.get()),
-        Outcome::Failed {
-            time,
-            who: by,
-            fault: cause,
-        } => {
-            let by = who(alloc, by)?;
-            let cause = fault(cause);
-            format!(in alloc; "{cause} of {} at {}, {reach}", by.as_str(), time.get())
-        }
     }
 }
 

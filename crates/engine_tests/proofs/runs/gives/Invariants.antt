@@ -1,4 +1,4 @@
-use Rattle.engine_tests.proofs.storing.gives.Given as goal
+use Rattle.engine_tests.proofs.runs.gives.Given as goal
 
 -- the counters are those of the blanks
 abbrev pub ghosts-told-L-Ledger : goal.ghosts-told-L-Ledger

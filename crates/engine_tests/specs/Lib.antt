@@ -1,3 +1,0 @@
-pub mod OnePut
-pub mod StoredSteps
-pub mod TriedMission

@@ -1,0 +1,102 @@
+//! Instants of runs: their times, their batches and what changed, which the program does not print.
+
+ghost use Rattle.std.specs.Prelude.{◌≡◌, ◌<◌};
+ghost use Rattle.aerie_base.specs.plans.OfModel.{IsPlanOf};
+
+use crate::models::model;
+use crate::plans::{Planned, Type, bare, bump_after, plan, with};
+use crate::telling;
+use aerie_base::{Edge, Model, OutOfMemory, Plan, Steps};
+use body_code::compile_all;
+use engine_core::simulate;
+use run_data::Run;
+use std::alloc::Global;
+use std::marker::Brand;
+use std::process::Abort;
+use std::sync::ledger::{Blank, Ledger};
+use task_step::Direct;
+
+/// The run of a plan over the plain stepper, of which a copy is answered.
+fn simulated<L: Ledger, K: Ledger>(
+    steps: Blank,
+    looks: Blank,
+    alloc: Global,
+    model: &Model,
+    plan: &Plan,
+) -> Result<Run, OutOfMemory>
+    requires steps { (steps.name ≡ L.name) × (steps.parts ≡ L.parts) × (0 < L.parts) }
+    requires looks { (looks.name ≡ K.name) × (looks.parts ≡ K.parts) × (0 < K.parts) }
+    requires plan { IsPlanOf model.now plan.now }
+{
+    let codes = compile_all(alloc, model)?;
+    let mut direct = Direct::new(codes.as_slice());
+    let mut steps = Steps::<L>::open(steps);
+    let mut looks = Steps::<K>::open(looks);
+    let run = simulate(
+        alloc,
+        model,
+        plan,
+        1000,
+        &mut direct,
+        &mut steps,
+        &mut looks,
+    )?;
+    run.copy(alloc)
+}
+
+/// The instants of the run of a plan of a copy of the model.
+fn told<L: Ledger, K: Ledger>(
+    steps: Blank,
+    looks: Blank,
+    alloc: Global,
+    planned: &[Planned],
+) -> Option<String>
+    requires steps { (steps.name ≡ L.name) × (steps.parts ≡ L.parts) × (0 < L.parts) }
+    requires looks { (looks.name ≡ K.name) × (looks.parts ≡ K.parts) × (0 < K.parts) }
+{
+    let model = model(alloc)?.copy(alloc).ok()?;
+    let plan = plan(alloc, &model, 100, planned)?;
+    let run = simulated::<L, K>(steps, looks, alloc, &model, &plan).ok()?;
+    telling::instants(alloc, &run).ok()
+}
+
+/// A plan has these instants.
+fn gives<R: Abort>(rt: &R, alloc: Global, planned: &[Planned], expected: &str) {
+    let (steps, looks) = (Blank::new(1), Blank::new(1));
+    let told = told::<Brand, Brand>(steps, looks, alloc, planned).expect(rt, "memory");
+    assert_eq!(rt; told.as_str(), expected);
+}
+
+#[test]
+fn instants_have_batches_and_what_changed(rt: HostRuntime) {
+    let alloc = rt.alloc();
+    // an activity adds as it begins and behind its delay
+    gives(
+        &rt,
+        alloc,
+        &[with(5, Type::Bump, 3)],
+        "0/0 5/1,0=3 15/1,0=6",
+    );
+    // equal values that are set at once are in conflict
+    gives(
+        &rt,
+        alloc,
+        &[with(5, Type::Put, 7), with(5, Type::Put, 7)],
+        "0/0 5/1,1=0!",
+    );
+    // a child sets what was set before it
+    gives(&rt, alloc, &[bare(5, Type::MildParent)], "0/0 5/1,1=2,2=1");
+    // a condition that holds lets its task go on in the next batch
+    gives(&rt, alloc, &[bare(0, Type::Pass)], "0/2,0=1");
+    // in the next batch after the start of one, and never where one does not end
+    gives(
+        &rt,
+        alloc,
+        &[
+            with(95, Type::Bump, 3),
+            bump_after(1, Edge::End, 0, 1),
+            bump_after(1, Edge::Start, 0, 2),
+        ],
+        "0/0 95/2,0=5",
+    );
+}
