@@ -6,6 +6,7 @@
 mod front;
 mod gate;
 mod hold_until;
+mod interrupts;
 mod memory_sink;
 mod memory_source;
 mod open;

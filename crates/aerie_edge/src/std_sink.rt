@@ -4,6 +4,7 @@ ghost use Rattle.std.specs.Io.KnownBytes.{Appends};
 ghost use Rattle.aerie_edge.specs.Faults.{HasCause, raised};
 ghost use Rattle.aerie_edge.specs.Written.{WriteReceives, Hands};
 
+use crate::interrupts::{flush_once, write_once};
 use crate::sink::{Sink, WriteFailed};
 use std::io::Write;
 use std::marker::Model;
@@ -39,8 +40,8 @@ impl<W: Write> Sink for StdSink<W> {
 
     ghost pieces = { λ _. None };
 
-    /// Writes once and flushes, so that no byte that was taken waits in a buffer. Each error of the writer is one fault,
-    /// and so is taking nothing of a piece that is not empty.
+    /// Writes once and flushes, so that no byte that was taken waits in a buffer; each again where a signal interrupted it, up
+    /// to a thousand times. Each other error of the writer is one fault, and so is taking nothing of a piece that is not empty.
     fn write(&mut self, piece: &[u8]) -> Result<usize, WriteFailed>
         ensures bound { WritesAtMost result piece.now }
         ensures some { IfOk result (λ n. 0 < length piece.now → 0 < n) }
@@ -66,10 +67,10 @@ fn put<W: Write>(writer: &mut W, piece: &[u8]) -> Option<usize>
     ensures some { IfSome result (λ n. 0 < length piece.now → 0 < n) }
     ensures taken { IfSome result (λ n. Appends (W.contents writer.old) (W.contents writer.new) (take n piece.now)) }
 {
-    let count = writer.write(piece).ok()?;
+    let count = write_once(writer, piece).ok()?;
     if count == 0 && !piece.is_empty() {
         return None;
     }
-    writer.flush().ok()?;
+    flush_once(writer).ok()?;
     Some(count)
 }

@@ -3,6 +3,7 @@ ghost use Rattle.std.specs.Io.{ReadsAtMost};
 ghost use Rattle.std.specs.Io.KnownBytes.{ReadConsumes};
 ghost use Rattle.aerie_edge.specs.Faults.{HasCause, raised};
 
+use crate::interrupts::read_once;
 use crate::source::{ReadFailed, Source};
 use std::io::Read;
 use std::marker::Model;
@@ -38,7 +39,7 @@ impl<R: Read> Source for StdSource<R> {
 
     ghost reads = { λ _. 0 };
 
-    /// Reads once. Each error of the reader is one fault.
+    /// Reads once, again where a signal interrupted that, up to a thousand times. Each other error of the reader is one fault.
     fn read(&mut self, room: &mut [u8]) -> Result<usize, ReadFailed>
         ensures bound { ReadsAtMost result room.new }
         ensures bytes { ReadConsumes None None result room.new }
@@ -47,7 +48,7 @@ impl<R: Read> Source for StdSource<R> {
         ensures counted { self.new.faults ≡ (if is_err result then raised self.old.faults else self.old.faults) }
         ensures consumed { ReadConsumes (R.remaining self.old.inner) (R.remaining self.new.inner) result room.new }
     {
-        match self.reader.read(room) {
+        match read_once(&mut self.reader, room) {
             Ok(count) => Ok(count),
             Err(_) => {
                 self.faults = self.faults.saturating_add(1);

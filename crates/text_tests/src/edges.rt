@@ -160,6 +160,58 @@ impl io::Write for Clogged {
     }
 }
 
+/// A stream whose first calls a signal interrupts. Then it is at its end for readers, and takes all that is written.
+#[derive(Drop)]
+struct Signalled {
+    interrupts: u32,
+}
+
+impl Signalled {
+    fn call(&mut self) -> io::Result<()> {
+        if self.interrupts == 0 {
+            return Ok(());
+        }
+        self.interrupts -= 1;
+        Err(io::Error::from(io::ErrorKind::Interrupted))
+    }
+}
+
+impl io::Read for Signalled {
+    fn read(&mut self, _buf: &mut [u8]) -> io::Result<usize> {
+        self.call()?;
+        Ok(0)
+    }
+}
+
+impl io::Write for Signalled {
+    fn write(&mut self, buf: &[u8]) -> io::Result<usize> {
+        self.call()?;
+        Ok(buf.len())
+    }
+
+    fn flush(&mut self) -> io::Result<()> {
+        self.call()
+    }
+}
+
+#[test]
+fn a_call_that_signals_interrupt_is_made_again_a_thousand_times(rt: HostRuntime) {
+    for (interrupts, read, write) in [
+        (1, Ok(0), Ok(3)),
+        (1_000, Ok(0), Ok(3)),
+        (1_001, Err(ReadFailed), Err(WriteFailed)),
+    ] {
+        let mut source = StdSource::new(Signalled { interrupts });
+        check_read(&rt, &mut source, 8, read, b"--------");
+        check_write(
+            &rt,
+            &mut StdSink::new(Signalled { interrupts }),
+            b"abc",
+            write,
+        );
+    }
+}
+
 #[test]
 fn readers_and_writers_of_std_serve_and_fail(rt: HostRuntime) -> Result<(), Fail> {
     let mut source = StdSource::new(b"abc".as_slice());
