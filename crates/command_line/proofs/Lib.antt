@@ -1,2 +1,9 @@
+pub mod AsWritten
+pub mod Ends
 pub mod Numerals
+pub mod Parts
+pub mod Rows
 pub mod Taken
+pub mod Turns
+pub mod WordSorts
+pub mod WrittenLines

@@ -1,8 +1,10 @@
--- The command line as data: one simple command, without short options, help and version.
-use Rattle.std.specs.declared.alloc.Global.{Global}
-use Rattle.std.specs.Prelude.{String, map, string_bytes, ℕ, Bool, true, false, List, [], ◌∷◌, Some, codes}
-use Rattle.clap.specs.Words.{App, Kinds, Row, Rule, fault_of, matches_of, new_app, new_rule, with_rule}
+-- The command that clap is given, as data: one simple command, without short options, help and version; and what it makes
+-- of words. That this is what the grammar says is proved; no promise to a caller speaks of it.
+use Rattle.std.specs.Prelude.{ℕ, Bool, true, false, List, [], ◌∷◌, Option, Some, codes}
+use Rattle.clap.specs.Words.{App, Kinds, Row, Rule, fault_of, first_of, matches_of, new_app, new_rule, with_rule}
 use Rattle.clap.specs.declared.builder.action.ArgAction.TheVariants.{Set, SetTrue}
+use Rattle.command_line.specs.Invocations.{invocation_by, says_true}
+use Rattle.command_line.specs.declared.invocation.Invocation.{Invocation}
 
 -- ---- the words of the command
 
@@ -39,10 +41,6 @@ command = with_every_flag (with_every_option (with_rule plain_command mode_rule)
 
 -- ---- what words give
 
--- the words as texts
-abbrev pub texts_of : List (String Global) → List (List ℕ)
-texts_of words = map (λ word. string_bytes word) words
-
 abbrev pub is_no_fault : Kinds → Bool
 is_no_fault [] = true
 is_no_fault (fault ∷ more) = false
@@ -54,3 +52,15 @@ are_taken words = is_no_fault (fault_of command words)
 -- the values that the words give, by the names of the command
 unfoldable pub given : List (List ℕ) → List Row
 given words = matches_of command words
+
+-- the value that a name was given
+abbrev pub value_of : List Row → List ℕ → Option (List ℕ)
+value_of rows name = first_of name rows
+
+-- the flag was given
+abbrev pub is_set : List Row → List ℕ → Bool
+is_set rows name = says_true (value_of rows name)
+
+-- what values ask for
+abbrev pub requested : List Row → Option Invocation
+requested rows = invocation_by (value_of rows)

@@ -1,11 +1,11 @@
 -- What the words ask for.
-use Rattle.std.specs.Prelude.{ℕ, ◌≤◌, Bool, true, false, ◌&&◌, List, Option, Some, None, codes, length, nat_le, nat_lt, if◌then◌else◌}
+use Rattle.std.specs.Prelude.{ℕ, ◌≤◌, Bool, true, false, ◌&&◌, not, List, [], ◌∷◌, Option, Some, None, codes, find, length}
+use Rattle.std.specs.Prelude.{nat_le, nat_lt, option_and_then, option_map, if◌then◌else◌}
 use Rattle.std.specs.Char.{digit_value}
-use Rattle.std.specs.List.{list_all}
+use Rattle.std.specs.List.{list_all, list_any}
 use Rattle.std.specs.Str.{bytes_eq}
 use Rattle.std.specs.Str.Parse.{digits_value, without_leading_plus}
-use Rattle.clap.specs.Words.{Row, first_of}
-use Rattle.command_line.specs.Commands.{are_taken, given}
+use Rattle.command_line.specs.Grammar.{CommandPart, Word, command_parts}
 use Rattle.command_line.specs.declared.invocation.Mode.{Mode}
 use Rattle.command_line.specs.declared.invocation.Mode.TheVariants.{Run, Check, Make}
 use Rattle.command_line.specs.declared.invocation.Invocation.{Invocation}
@@ -60,19 +60,15 @@ abbrev pub mode_of : Option (List ℕ) → Option (List ℕ) → Bool → Option
 mode_of None number text = None
 mode_of (Some word) number text = mode_named word number text
 
--- ---- the invocation
+-- ---- values by name
 
--- the value that a name was given
-abbrev pub value_of : List ℕ → List Row → Option (List ℕ)
-value_of name rows = first_of name rows
+-- the values that were given, each by the name of what it is for
+abbrev pub Values : Type 0
+Values = Word → Option Word
 
-abbrev pub says_true : Option (List ℕ) → Bool
+abbrev pub says_true : Option Word → Bool
 says_true None = false
 says_true (Some text) = bytes_eq text (codes "true")
-
--- the flag was given
-abbrev pub is_set : List ℕ → List Row → Bool
-is_set name rows = says_true (value_of name rows)
 
 abbrev pub invocation_with : Bool → Bool → Option Mode → Option ℕ → Option ℕ → Option Invocation
 invocation_with serial stats None limit pieces = None
@@ -82,16 +78,32 @@ invocation_with serial stats (Some mode) (Some limit) (Some pieces) =
     Some (record { mode = mode; limit = limit; pieces = pieces; serial = serial; stats = stats })
 
 -- what values ask for
-abbrev pub invocation_in : List Row → Option Invocation
-invocation_in rows =
-    invocation_with (is_set (codes "serial") rows) (is_set (codes "stats") rows)
-    (mode_of (value_of (codes "mode") rows) (value_of (codes "number") rows) (is_set (codes "text") rows))
-    (number_or 1_000_000 100_000_000 (value_of (codes "limit") rows))
-    (number_or 4 64 (value_of (codes "pieces") rows))
+abbrev pub invocation_by : Values → Option Invocation
+invocation_by values =
+    invocation_with (says_true (values (codes "serial"))) (says_true (values (codes "stats")))
+    (mode_of (values (codes "mode")) (values (codes "number")) (says_true (values (codes "text"))))
+    (number_or 1_000_000 100_000_000 (values (codes "limit")))
+    (number_or 4 64 (values (codes "pieces")))
+
+-- ---- the invocation
+
+abbrev pub is_part : Word → List CommandPart → Bool
+is_part name parts = list_any (λ part. bytes_eq part.0 name) parts
+
+-- no two parts are given for the same
+abbrev pub are_different : List CommandPart → Bool
+are_different [] = true
+are_different (part ∷ more) = not (is_part part.0 more) && are_different more
+
+abbrev pub value_in : List CommandPart → Word → Option Word
+value_in parts name = option_map (λ part. part.1) (find (λ part. bytes_eq part.0 name) parts)
+
+abbrev pub invocation_in : List CommandPart → Option Invocation
+invocation_in parts = if are_different parts then invocation_by (value_in parts) else None
 
 -- what the words after the program's name ask for, or none where they are not in the grammar
-abbrev pub invocation_of : List (List ℕ) → Option Invocation
-invocation_of words = if are_taken words then invocation_in (given words) else None
+unfoldable pub invocation_of : List Word → Option Invocation
+invocation_of words = option_and_then invocation_in (command_parts words)
 
 -- ---- ranges
 

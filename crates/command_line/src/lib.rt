@@ -2,9 +2,11 @@
 #![tactic(auto)]
 
 mod invocation;
+mod laws;
 mod numbers;
 mod parsing;
 mod words;
 
 pub use invocation::{Invocation, Mode};
+pub use laws::{cut_words_are_lines, lines_are_cut, order_makes_no_difference};
 pub use words::read_words;

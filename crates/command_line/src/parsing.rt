@@ -3,8 +3,8 @@
 ghost use Rattle.std.specs.Option.{option_copied};
 ghost use Rattle.std.specs.Prelude.{◌≡◌, IfOk, IfErr, true, false};
 ghost use Rattle.clap.specs.Words.{app_of, found_of, kind_of, rows_of, rule_of, with_rule};
-ghost use Rattle.command_line.specs.Commands.{are_taken, command as command_by, flag_rule, given, mode_rule, option_rule, plain_command, texts_of, with_every_flag as with_every_flag_by, with_every_option as with_every_option_by};
-ghost use Rattle.command_line.specs.Invocations.{is_set as is_set_by, value_of as value_of_by};
+ghost use Rattle.command_line.specs.Commands.{are_taken, command as command_by, flag_rule, given, is_set as is_set_by, mode_rule, option_rule, plain_command, value_of as value_of_by, with_every_flag as with_every_flag_by, with_every_option as with_every_option_by};
+ghost use Rattle.command_line.specs.Grammar.{texts_of};
 
 use clap::error::ErrorKind;
 use clap::{Arg, ArgAction, ArgMatches, Command, Error};
@@ -91,14 +91,14 @@ pub(crate) fn parse<'a>(alloc: Global, words: &'a [String]) -> Result<ArgMatches
 
 /// The value that a name was given.
 pub(crate) fn value_of<'a>(matches: &ArgMatches<'a>, name: &str) -> Option<&'a str>
-    ensures { option_copied result ≡ value_of_by name.now (rows_of (found_of matches.now)) }
+    ensures { option_copied result ≡ value_of_by (rows_of (found_of matches.now)) name.now }
 {
     matches.get_str(name)
 }
 
 /// Whether a flag was given.
 pub(crate) fn is_set(matches: &ArgMatches<'_>, name: &str) -> bool
-    ensures { result ≡ is_set_by name.now (rows_of (found_of matches.now)) }
+    ensures { result ≡ is_set_by (rows_of (found_of matches.now)) name.now }
 {
     match value_of(matches, name) {
         Some(text) => text == "true",

@@ -3,8 +3,9 @@
 ghost use Rattle.std.specs.Option.{option_copied};
 ghost use Rattle.std.specs.Prelude.{◌≡◌, IfOk, IfSome};
 ghost use Rattle.clap.specs.Words.{found_of, rows_of};
-ghost use Rattle.command_line.specs.Commands.{texts_of};
-ghost use Rattle.command_line.specs.Invocations.{IsModeWithin, HasNumbersWithin, make_mode as make_mode_by, mode_named as mode_named_by, mode_of as mode_of_by, plain_mode as plain_mode_by, invocation_in, invocation_of};
+ghost use Rattle.command_line.specs.Commands.{requested};
+ghost use Rattle.command_line.specs.Grammar.{texts_of};
+ghost use Rattle.command_line.specs.Invocations.{IsModeWithin, HasNumbersWithin, make_mode as make_mode_by, mode_named as mode_named_by, mode_of as mode_of_by, plain_mode as plain_mode_by, invocation_of};
 
 use crate::invocation::{Invocation, Mode};
 use crate::numbers::{number_or, number_up_to};
@@ -74,7 +75,7 @@ fn mode_of(word: Option<&str>, number: Option<&str>, text: bool) -> Option<Mode>
 
 /// What the values ask for.
 fn invocation(matches: &ArgMatches<'_>) -> Option<Invocation>
-    ensures exact { result ≡ invocation_in (rows_of (found_of matches.now)) }
+    ensures exact { result ≡ requested (rows_of (found_of matches.now)) }
     ensures within { IfSome result HasNumbersWithin }
 {
     let number = value_of(matches, "number");
