@@ -4,8 +4,8 @@ use Rattle.aerie_text.specs.Json.{line_of}
 use Rattle.command_line.specs.declared.invocation.Invocation.{Invocation}
 use Rattle.command_line.specs.declared.invocation.Mode.{Mode}
 use Rattle.command_line.specs.declared.invocation.Mode.TheVariants.{Run, Check, Make}
-use Rattle.report_text.specs.Refusals.{refusal_data, refused_data}
-use Rattle.report_text.specs.declared.refusals.Refusal.{Refusal}
+use Rattle.refusal_text.specs.Refusals.{refusal_data, refused_data}
+use Rattle.refusal_text.specs.declared.refusals.Refusal.{Refusal}
 use Rattle.session_judge.specs.Accepted.{accepted_data}
 use Rattle.session_judge.specs.Judging.{Judgement, judged_session}
 use Rattle.session_judge.specs.Telling.{told_name}
@@ -13,8 +13,8 @@ use Rattle.session_judge.specs.declared.judged.JudgedSession.{JudgedSession}
 use Rattle.session_make.specs.Sessions.{session}
 use Rattle.session_run.specs.Answers.{serial_answers}
 use Rattle.session_run.specs.Performed.{IsPerformed, IsPerformedInTurn}
-use Rattle.session_summary.specs.Summaries.{summary_of}
-use Rattle.session_summary.specs.SummaryLines.{summary_data}
+use Rattle.session_run.specs.summary.Summaries.{summary_of}
+use Rattle.session_run.specs.summary.SummaryLines.{summary_data}
 use Rattle.aerie.specs.Input.{HasReadAll}
 use Rattle.aerie.specs.declared.exit_status.ExitStatus.{ExitStatus}
 use Rattle.aerie.specs.declared.exit_status.ExitStatus.TheVariants as status

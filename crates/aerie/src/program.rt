@@ -3,7 +3,7 @@
 ghost use Rattle.std.specs.Prelude.{◌≡◌, ◌≤◌, ◌<◌, ◌+◌, ℕ, List, Some, IfOk, IfErr, IsTrue, true, false, ◌⊎◌};
 ghost use Rattle.std.specs.Io.KnownBytes.{IsAtEnd};
 ghost use Rattle.aerie_edge.specs.Faults.{Rose};
-ghost use Rattle.command_line.specs.Commands.{texts_of};
+ghost use Rattle.command_line.specs.Grammar.{texts_of};
 ghost use Rattle.command_line.specs.Invocations.{HasNumbersWithin, invocation_of};
 ghost use Rattle.aerie.specs.Input.{HasRead};
 ghost use Rattle.aerie.specs.Output.{WritesAll, WritesFront};
@@ -138,6 +138,7 @@ pub fn aerie<R: Threads + Wait + Sync, S: Source, K: Sink, G: Gate, L: Ledger>(
     }
 }
 
+/// The same with a counter that is made for this call.
 fn counted<R: Threads + Wait + Sync, S: Source, K: Sink, G: Gate, L: Ledger>(
     rt: &R,
     alloc: Global,
@@ -150,12 +151,29 @@ fn counted<R: Threads + Wait + Sync, S: Source, K: Sink, G: Gate, L: Ledger>(
     requires name { blank.name ≡ L.name }
     requires parts { blank.parts ≡ L.parts }
     requires some { 0 < L.parts }
+    ensures statuses { IsTrue (is_status result) }
+    ensures answered { IsTrue (is_answered result) → (answer : ProgramAnswer)
+        × IsAnswerTo (invocation_of (texts_of words.now)) (S.left source.old) (S.left source.new) answer
+        × (result ≡ number_of_status answer.status)
+        × WritesAll (K.written sink.old) (K.written sink.new) (K.pieces sink.old) (K.pieces sink.new) answer.text }
+    ensures unread { reads_input (invocation_of (texts_of words.now)) ≡ false → source.new ≡ source.old }
+    ensures whole { result ≡ 0 → reads_input (invocation_of (texts_of words.now)) ≡ true → IsAtEnd (S.left source.new) }
+    ensures read_failed { result ≡ 4 → Rose (S.faults source.old) (S.faults source.new) × (sink.new ≡ sink.old) }
+    ensures write_failed { result ≡ 5 → Rose (K.faults sink.old) (K.faults sink.new) × ((answer : ProgramAnswer)
+        × IsAnswerTo (invocation_of (texts_of words.now)) (S.left source.old) (S.left source.new) answer
+        × WritesFront (K.written sink.old) (K.written sink.new) (K.pieces sink.old) (K.pieces sink.new) answer.text) }
+    ensures memory { result ≡ 6 → sink.new ≡ sink.old }
+    ensures complete { ¬ (Rose (S.faults source.old) (S.faults source.new)) → ¬ (Rose (K.faults sink.old) (K.faults sink.new))
+        → IsTrue (is_answered result) ⊎ (result ≡ 6) }
+    ensures read { (input : List ℕ) × HasRead (S.left source.old) (S.left source.new) input }
+    ensures reads { S.reads source.new ≤ S.reads source.old + 16_777_217 }
+    ensures faults { (S.faults source.old ≤ S.faults source.new) × (K.faults sink.old ≤ K.faults sink.new) }
 {
     let mut steps = Steps::<L>::open(blank);
     aerie(rt, alloc, words, source, sink, gate, &mut steps)
 }
 
-/// The program with a counter of statements that nobody else reads.
+/// The program with a counter of statements that nobody else reads. It promises what `aerie` does, but for the counter.
 pub fn with_own_counter<R: Threads + Wait + Sync, S: Source, K: Sink, G: Gate>(
     rt: &R,
     alloc: Global,
@@ -163,6 +181,24 @@ pub fn with_own_counter<R: Threads + Wait + Sync, S: Source, K: Sink, G: Gate>(
     source: &mut S,
     sink: &mut K,
     gate: &G,
-) -> u8 {
+) -> u8
+    ensures statuses { IsTrue (is_status result) }
+    ensures answered { IsTrue (is_answered result) → (answer : ProgramAnswer)
+        × IsAnswerTo (invocation_of (texts_of words.now)) (S.left source.old) (S.left source.new) answer
+        × (result ≡ number_of_status answer.status)
+        × WritesAll (K.written sink.old) (K.written sink.new) (K.pieces sink.old) (K.pieces sink.new) answer.text }
+    ensures unread { reads_input (invocation_of (texts_of words.now)) ≡ false → source.new ≡ source.old }
+    ensures whole { result ≡ 0 → reads_input (invocation_of (texts_of words.now)) ≡ true → IsAtEnd (S.left source.new) }
+    ensures read_failed { result ≡ 4 → Rose (S.faults source.old) (S.faults source.new) × (sink.new ≡ sink.old) }
+    ensures write_failed { result ≡ 5 → Rose (K.faults sink.old) (K.faults sink.new) × ((answer : ProgramAnswer)
+        × IsAnswerTo (invocation_of (texts_of words.now)) (S.left source.old) (S.left source.new) answer
+        × WritesFront (K.written sink.old) (K.written sink.new) (K.pieces sink.old) (K.pieces sink.new) answer.text) }
+    ensures memory { result ≡ 6 → sink.new ≡ sink.old }
+    ensures complete { ¬ (Rose (S.faults source.old) (S.faults source.new)) → ¬ (Rose (K.faults sink.old) (K.faults sink.new))
+        → IsTrue (is_answered result) ⊎ (result ≡ 6) }
+    ensures read { (input : List ℕ) × HasRead (S.left source.old) (S.left source.new) input }
+    ensures reads { S.reads source.new ≤ S.reads source.old + 16_777_217 }
+    ensures faults { (S.faults source.old ≤ S.faults source.new) × (K.faults sink.old ≤ K.faults sink.new) }
+{
     counted::<R, S, K, G, Brand>(rt, alloc, words, source, sink, gate, Blank::new(1))
 }

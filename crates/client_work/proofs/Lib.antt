@@ -6,3 +6,8 @@ mod Refusals
 mod Telling
 mod Works
 mod Entries
+mod BranchIds
+mod EditedIds
+mod GoingOn
+mod MergedIds
+mod PlaceOrigins

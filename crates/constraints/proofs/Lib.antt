@@ -11,7 +11,6 @@ pub mod Products
 pub mod Pushing
 pub mod ReadSeries
 pub mod ReadByRules
-pub mod RuleReading
 pub mod Runs
 pub mod SeriesByRules
 pub mod SpanOrder

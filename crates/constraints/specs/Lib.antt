@@ -6,6 +6,7 @@ pub mod Holding
 pub mod Judging
 pub mod Local
 pub mod Meeting
+pub mod NamedParts
 pub mod OfModel
 pub mod OverSources
 pub mod Pieces
@@ -16,4 +17,3 @@ pub mod Sources
 pub mod Steps
 pub mod SumPieces
 pub mod Violating
-pub mod reading

@@ -1,25 +1,34 @@
 //! What a window speaks of.
 
+ghost use Rattle.std.specs.Prelude.{◌≡◌};
+ghost use Rattle.constraints.specs.NamedParts.{reads_resource, sum_reads_resource, names_resource, names_type, names_some_type};
+
 use crate::types::{Reading, RuleSum, Window};
 
-/// Whether this is the resource with the number.
-fn is_resource(reading: &Reading, number: u16) -> bool {
+/// Whether the resource with the number is read.
+fn reads_resource(reading: &Reading, number: u16) -> bool
+    ensures { result ≡ reads_resource number reading.now }
+{
     match reading {
         Reading::Resource(other) => *other == number,
         Reading::Series(_) => false,
     }
 }
 
-/// Whether a term is of the resource with the number.
-fn has_resource(sum: &RuleSum, number: u16) -> bool {
+/// Whether a term of the sum reads the resource with the number.
+fn sum_reads_resource(sum: &RuleSum, number: u16) -> bool
+    ensures { result ≡ sum_reads_resource number sum.now }
+{
     sum.terms
         .as_slice()
         .iter()
-        .any(|term| is_resource(&term.resource, number))
+        .any(|term| reads_resource(&term.resource, number))
 }
 
 /// Whether the window names the resource with the number. It decides what is made beforehand.
-pub(crate) fn names_resource(window: &Window, number: u16) -> bool {
+pub(crate) fn names_resource(window: &Window, number: u16) -> bool
+    ensures { result ≡ names_resource number window.now }
+{
     match window {
         Window::Literal(_) | Window::During(_) | Window::DuringBound => false,
         Window::And(left, right) | Window::Or(left, right) => {
@@ -28,16 +37,18 @@ pub(crate) fn names_resource(window: &Window, number: u16) -> bool {
         Window::Not(part) => names_resource(part.get(), number),
         Window::Shift { of, .. } => names_resource(of.get(), number),
         Window::Longer { of, .. } => names_resource(of.get(), number),
-        Window::Truth(reading) => is_resource(reading, number),
-        Window::Same { resource, .. } => is_resource(resource, number),
+        Window::Truth(reading) => reads_resource(reading, number),
+        Window::Same { resource, .. } => reads_resource(resource, number),
         Window::Compare { left, right, .. } => {
-            has_resource(left, number) || has_resource(right, number)
+            sum_reads_resource(left, number) || sum_reads_resource(right, number)
         }
     }
 }
 
 /// Whether the window names the activity type with the number. It decides what is made beforehand.
-pub(crate) fn names_type(window: &Window, kind: u16) -> bool {
+pub(crate) fn names_type(window: &Window, kind: u16) -> bool
+    ensures { result ≡ names_type kind window.now }
+{
     match window {
         Window::And(left, right) | Window::Or(left, right) => {
             names_type(left.get(), kind) || names_type(right.get(), kind)
@@ -51,7 +62,9 @@ pub(crate) fn names_type(window: &Window, kind: u16) -> bool {
 }
 
 /// Whether the window names some activity type. It decides what is made beforehand.
-pub(crate) fn names_some_type(window: &Window) -> bool {
+pub(crate) fn names_some_type(window: &Window) -> bool
+    ensures { result ≡ names_some_type window.now }
+{
     match window {
         Window::And(left, right) | Window::Or(left, right) => {
             names_some_type(left.get()) || names_some_type(right.get())

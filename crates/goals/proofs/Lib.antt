@@ -4,6 +4,3 @@ pub mod Rising
 pub mod SameValues
 pub mod SortedAnchors
 pub mod Spreading
-pub mod ReadTemplates
-pub mod ReadGoals
-pub mod ArgumentsInTurn

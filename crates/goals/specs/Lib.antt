@@ -7,4 +7,3 @@ pub mod OfModel
 pub mod Merging
 pub mod Tries
 pub mod Cases
-pub mod reading

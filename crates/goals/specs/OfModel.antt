@@ -1,8 +1,9 @@
 -- Which goals a model may have: they name what it has, each thing in a place for its type, and their numbers are in their
 -- ranges.
-use Rattle.std.specs.Prelude.{ℕ, ℤ, Bool, not, ◌&&◌, nat_le, nat_lt, int_le, slice_get}
+use Rattle.std.specs.Prelude.{ℕ, ℤ, Bool, not, ◌&&◌, is_some, nat_le, nat_lt, int_le, slice_get}
 use Rattle.aerie_base.specs.declared.models.model.Parts.{Parts}
 use Rattle.aerie_base.specs.plans.OfModel.{takes}
+use Rattle.plan_edit.specs.Requires.{unmet_of_type}
 use Rattle.constraints.specs.OfModel.{is_type, is_shift, is_window, speaks_of_bound}
 use Rattle.goals.specs.declared.types.Template.{Template}
 use Rattle.goals.specs.declared.types.GoalAnchor.{GoalAnchor}
@@ -11,9 +12,11 @@ use Rattle.goals.specs.declared.types.GoalKind.{GoalKind}
 use Rattle.goals.specs.declared.types.GoalKind.TheVariants.{Recurrence, Coexistence, Cardinality}
 use Rattle.goals.specs.declared.types.Goal.{Goal}
 
--- a type of the model, with a value for each of its parameters
+-- a type of the model, with a value for each of its parameters; the values meet each `require` of the type
 abbrev pub is_template : Parts → Template → Bool
-is_template model template = takes model.enums (slice_get model.activities template.kind) template.arguments
+is_template model template =
+    takes model.enums (slice_get model.activities template.kind) template.arguments
+    && not (is_some (unmet_of_type (slice_get model.activities template.kind) template.arguments))
 
 -- a window here speaks of no span that it would be judged for
 abbrev pub is_anchor : Parts → GoalAnchor → Bool

@@ -8,7 +8,6 @@ mod first_gaps;
 mod gap;
 mod gaps;
 mod matching;
-mod reading;
 mod status;
 mod types;
 
@@ -16,6 +15,5 @@ pub use candidate_times::candidates;
 pub use filled::is_filled;
 pub use first_gaps::{met, missing};
 pub use gap::Gap;
-pub use reading::read_goals;
 pub use status::GoalStatus;
 pub use types::{Goal, GoalAnchor, GoalKind, Template};

@@ -9,7 +9,7 @@ use Rattle.aerie_base.specs.declared.plans.Directive.{Directive}
 use Rattle.aerie_text.specs.Json.{object_of}
 use Rattle.json_line.specs.Parts.{member_if}
 use Rattle.plan_edit.specs.ShownPlan.{anchor_fields, fields_by_type, json_of_anchor, json_of_directive}
-use Rattle.report_text.specs.Fields.{natural_data}
+use Rattle.json_line.specs.Numbers.{natural_data}
 use Rattle.report_text.specs.ShownPlans.{directive_data}
 use Rattle.report_text.specs.SpanLines.{fields_of_type}
 

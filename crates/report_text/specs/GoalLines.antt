@@ -4,7 +4,7 @@ use Rattle.serde_json.specs.Data.{Data, array, boolean, string}
 use Rattle.serde_json.specs.View.{items_of}
 use Rattle.aerie_text.specs.Json.{object_of}
 use Rattle.goals.specs.declared.status.GoalStatus.{GoalStatus}
-use Rattle.report_text.specs.Fields.{natural_data}
+use Rattle.json_line.specs.Numbers.{natural_data}
 
 abbrev pub naturals_data : List ℕ → Data
 naturals_data numbers = array (items_of (map natural_data numbers))

@@ -1,14 +1,10 @@
 pub mod AnswerCases
 pub mod ArgumentOrder
-pub mod EditRefusals
-pub mod Fields
 pub mod GoalLines
 pub mod JournalLines
 pub mod LoadedAgain
 pub mod Outcomes
 pub mod ProfileLines
-pub mod RefusalCases
-pub mod Refusals
 pub mod Replies
 pub mod ReportCases
 pub mod Reports

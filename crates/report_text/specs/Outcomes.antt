@@ -9,7 +9,7 @@ use Rattle.run_data.specs.declared.runs.Outcome.{Outcome}
 use Rattle.run_data.specs.declared.runs.Outcome.TheVariants.{Completed, Failed, StepLimit}
 use Rattle.run_data.specs.declared.runs.Who.{Who}
 use Rattle.run_data.specs.declared.runs.Who.TheVariants.{Task, Cell}
-use Rattle.report_text.specs.Fields.{natural_data}
+use Rattle.json_line.specs.Numbers.{natural_data}
 use Rattle.json_line.specs.PathTexts.{path_data}
 
 abbrev pub fault_word : Fault → List ℕ

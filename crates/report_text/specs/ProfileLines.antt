@@ -13,7 +13,7 @@ use Rattle.profiles.specs.declared.sampling.Profile.{Profile}
 use Rattle.profiles.specs.declared.sampling.Profile.TheVariants.{Discrete, Linear}
 use Rattle.run_data.specs.declared.runs.Run.{Run}
 use Rattle.windows.specs.declared.segments.Segment.{Segment}
-use Rattle.report_text.specs.Fields.{digits_data, natural_data}
+use Rattle.json_line.specs.Numbers.{digits_data, natural_data}
 
 -- from when, and the value from then on
 abbrev pub value_segment_data : List EnumType → ℕ × Value → Data

@@ -9,8 +9,9 @@ use Rattle.hangar_core.specs.declared.replies.Reply.{Reply}
 use Rattle.hangar_core.specs.declared.replies.Reply.TheVariants as reply
 use Rattle.json_line.specs.Parts.{member_if}
 use Rattle.plan_edit.specs.ShownPlan.{json_of_plan}
-use Rattle.report_text.specs.EditRefusals.{edit_data, merge_refusal_data, misfit_data, unmapped_data}
-use Rattle.report_text.specs.Fields.{named_data, natural_data}
+use Rattle.refusal_text.specs.EditRefusals.{edit_data, merge_refusal_data, misfit_data, unmapped_data}
+use Rattle.json_line.specs.Numbers.{natural_data}
+use Rattle.refusal_text.specs.Named.{named_data}
 use Rattle.report_text.specs.GoalLines.{naturals_data, schedule_data}
 use Rattle.report_text.specs.Reports.{IsReportOf, name_told, report_data}
 use Rattle.report_text.specs.SequenceLines.{sequence_data}

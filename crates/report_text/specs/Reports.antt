@@ -5,7 +5,7 @@ use Rattle.serde_json.specs.Data.{Data, boolean, member, no_members, object, str
 use Rattle.aerie_base.specs.declared.models.model.Parts.{Parts}
 use Rattle.constraints.specs.OfModel.{is_constraint}
 use Rattle.json_line.specs.Parts.{member_if}
-use Rattle.report_text.specs.Fields.{natural_data}
+use Rattle.json_line.specs.Numbers.{natural_data}
 use Rattle.report_text.specs.Outcomes.{outcome_data}
 use Rattle.report_text.specs.ProfileLines.{profiles_data}
 use Rattle.report_text.specs.SpanLines.{spans_data}

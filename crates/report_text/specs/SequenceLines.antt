@@ -12,7 +12,7 @@ use Rattle.epoch_text.specs.DayTexts.{day_text_of}
 use Rattle.json_line.specs.Parts.{optional_data}
 use Rattle.plan_edit.specs.ShownPlan.{json_of_value}
 use Rattle.seq_expand.specs.declared.sequence.Sent.{Sent}
-use Rattle.report_text.specs.Fields.{natural_data}
+use Rattle.json_line.specs.Numbers.{natural_data}
 use Rattle.report_text.specs.GoalLines.{naturals_data}
 use Rattle.report_text.specs.Outcomes.{outcome_data}
 use Rattle.json_line.specs.PathTexts.{path_data}

@@ -7,7 +7,7 @@ use Rattle.aerie_base.specs.declared.models.model.Parts.{Parts}
 use Rattle.aerie_base.specs.declared.plans.Directive.{Directive}
 use Rattle.json_line.specs.Parts.{member_if}
 use Rattle.plan_edit.specs.ShownPlan.{json_of_anchor}
-use Rattle.report_text.specs.Fields.{natural_data}
+use Rattle.json_line.specs.Numbers.{natural_data}
 use Rattle.report_text.specs.SpanLines.{arguments_data}
 
 abbrev pub directive_data : Parts → Activity → Directive → Data

@@ -12,7 +12,7 @@ use Rattle.json_line.specs.Parts.{optional_data}
 use Rattle.plan_edit.specs.ShownPlan.{Fields, argument_fields, json_of_value}
 use Rattle.run_data.specs.Spans.{SpanOf, spans_of}
 use Rattle.run_data.specs.declared.runs.Run.{Run}
-use Rattle.report_text.specs.Fields.{natural_data}
+use Rattle.json_line.specs.Numbers.{natural_data}
 use Rattle.json_line.specs.PathTexts.{path_data}
 
 -- the name of an activity type, where the model has one of that number

@@ -10,7 +10,7 @@ use Rattle.constraints.specs.declared.violation.Violation.{Violation}
 use Rattle.json_line.specs.Parts.{optional_data}
 use Rattle.run_data.specs.declared.runs.Run.{Run}
 use Rattle.windows.specs.Times.{Interval}
-use Rattle.report_text.specs.Fields.{natural_data}
+use Rattle.json_line.specs.Numbers.{natural_data}
 use Rattle.json_line.specs.PathTexts.{path_data}
 
 -- its start and its end

@@ -2,7 +2,7 @@
 
 ghost use Rattle.report_text.specs.GoalLines.{goal_data, schedule_data};
 
-use crate::fields::Alone;
+use crate::alone::Alone;
 use aerie_base::{List, Name, OutOfMemory};
 use goals::GoalStatus;
 use json_line::{JsonData, JsonIn, JsonLine};

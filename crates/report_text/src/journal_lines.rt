@@ -4,7 +4,7 @@ ghost use Rattle.std.specs.Prelude.{◌≡◌, IfOk, string_bytes};
 ghost use Rattle.aerie_text.specs.Json.{line_of};
 ghost use Rattle.report_text.specs.JournalLines.{entry_data, journal_data};
 
-use crate::fields::Alone;
+use crate::alone::Alone;
 use aerie_base::OutOfMemory;
 use hangar_core::{Entry, Journal, Reply};
 use json_line::{JsonData, JsonIn, JsonLine, line_of};

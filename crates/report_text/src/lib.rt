@@ -3,10 +3,9 @@
 //! `Calendar`.
 #![tactic(auto)]
 
+mod alone;
 mod answers;
 mod arguments;
-mod edits;
-mod fields;
 mod goal_lines;
 mod journal_lines;
 pub mod laws;
@@ -15,7 +14,6 @@ mod order;
 mod outcomes;
 mod plans;
 mod profile_lines;
-mod refusals;
 mod reply_lines;
 mod reports;
 mod sequence_lines;
@@ -24,13 +22,12 @@ mod values;
 mod violation_lines;
 mod wordings;
 
+pub use alone::Alone;
 pub use answers::{Answer, Report, SequenceReport};
 pub use arguments::Arguments;
-pub use fields::Alone;
 pub use journal_lines::journal_line;
 pub use lines::reply_line;
 pub use profile_lines::write_profiles;
-pub use refusals::{Refusal, refusal_line};
 pub use span_lines::{Calendar, write_spans};
 pub use violation_lines::write_violations;
 pub use wordings::Wording;

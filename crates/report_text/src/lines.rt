@@ -8,7 +8,6 @@ ghost use Rattle.report_text.specs.Reports.{IsReportOf, report_data};
 ghost use Rattle.report_text.specs.SequenceLines.{sequence_data};
 
 use crate::answers::{Answer, Report, SequenceReport};
-use crate::fields::Alone;
 use crate::goal_lines::Scheduled;
 use crate::reply_lines::{MergeTold, refuse, write_reply};
 use crate::reports::write_report;
@@ -17,6 +16,7 @@ use crate::span_lines::Calendar;
 use crate::wordings::Wording;
 use aerie_base::{Model, Name, OutOfMemory};
 use json_line::JsonLine;
+use refusal_text::AsRefusal;
 use std::alloc::Global;
 
 /// The report of a simulation, under `ok`.
@@ -96,7 +96,7 @@ fn write_answer(
             },
         ),
         Answer::OtherModel => refuse(line, "OtherModel"),
-        Answer::MergeRefused(error) => line.member_in("refused", &Alone, error),
+        Answer::MergeRefused(error) => line.member_in("refused", &AsRefusal, error),
         Answer::Expanded(report) => write_sequence_member(line, alloc, branch, model, report),
     }
 }

@@ -5,8 +5,8 @@ ghost use Rattle.json_line.specs.Parts.{data_tokens};
 ghost use Rattle.plan_edit.specs.ShownPlan.{edge_word, json_of_anchor, json_of_directive, json_of_plan};
 ghost use Rattle.report_text.specs.ShownPlans.{directive_data};
 
+use crate::alone::Alone;
 use crate::arguments::{Arguments, write_none};
-use crate::fields::Alone;
 use crate::wordings::Wording;
 use aerie_base::{Activity, Anchor, Directive, Edge, OutOfMemory, Plan};
 use json_line::{JsonIn, JsonLine};

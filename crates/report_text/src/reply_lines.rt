@@ -2,17 +2,17 @@
 
 ghost use Rattle.std.specs.Prelude.{◌≡◌, ◌++◌, OnOk, codes};
 ghost use Rattle.json_line.specs.Parts.{data_tokens, member_tokens};
-ghost use Rattle.report_text.specs.EditRefusals.{migrate_data};
-ghost use Rattle.report_text.specs.Fields.{named_data};
+ghost use Rattle.refusal_text.specs.EditRefusals.{migrate_data};
+ghost use Rattle.refusal_text.specs.Named.{named_data};
 ghost use Rattle.report_text.specs.Replies.{added_data, branch_data, loaded_data, merged_data, reply_member, revision_data, shown_data, stale_data};
 
-use crate::fields::{Alone, write_named};
 use crate::reports::write_name_told;
 use crate::wordings::Wording;
 use aerie_base::{List, Model, Name, OutOfMemory, Plan};
 use hangar_core::Reply;
 use json_line::{JsonData, JsonIn, JsonLine};
 use plan_edit::MigrateError;
+use refusal_text::{AsRefusal, write_named};
 use std::alloc::Global;
 
 /// A branch that is gone.
@@ -189,7 +189,7 @@ pub(crate) fn refuse(line: &mut JsonLine, name: &str) -> Result<(), OutOfMemory>
 fn refuse_migration(line: &mut JsonLine, error: MigrateError) -> Result<(), OutOfMemory>
     ensures { OnOk result (line.new ≡ line.old ++ member_tokens (codes "refused") (migrate_data error)) }
 {
-    line.member_in("refused", &Alone, &error)
+    line.member_in("refused", &AsRefusal, &error)
 }
 
 /// What a workspace answered to an action on a branch, which it shows by a model.
@@ -244,7 +244,7 @@ pub(crate) fn write_reply(
                 number: *number,
             },
         ),
-        Reply::Edit(error) => line.member_in("refused", &Alone, error),
+        Reply::Edit(error) => line.member_in("refused", &AsRefusal, error),
         Reply::Stale { seen, now } => line.member(
             "refused",
             &Stale {

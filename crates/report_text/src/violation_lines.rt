@@ -8,7 +8,7 @@ ghost use Rattle.run_data.specs.Fresh.{IsFresh};
 ghost use Rattle.span_table.specs.SpanLaws.{AreSpansOf};
 ghost use Rattle.report_text.specs.Violations.{constraint_data, interval_data, intervals_data, violation_data, violations_data};
 
-use crate::fields::Alone;
+use crate::alone::Alone;
 use crate::wordings::Wording;
 use aerie_base::{Name, OutOfMemory, Time};
 use constraints::{Constraint, Violation, violations};

@@ -7,7 +7,8 @@ ghost use Rattle.goals.specs.OfModel.{is_goal};
 
 use aerie_base::{List, Model, Time};
 use aerie_text::{Token, tokens};
-use goals::{Goal, read_goals};
+use goal_check::read_goals;
+use goals::Goal;
 use std::alloc::Global;
 
 /// The goals that the tokens of a text are.

@@ -1,8 +1,13 @@
+pub mod AddedBy
+pub mod ByAdds
 pub mod Filling
 pub mod FreshRunFacts
+pub mod GivenTemplates
 pub mod GoalCounts
 pub mod GoalTurns
 pub mod MadePlans
+pub mod OnlyAdded
 pub mod Placed
+pub mod Placements
 pub mod Templates
 pub mod Verdicts

@@ -14,6 +14,7 @@ use Rattle.plan_edit.specs.Editing.{is_outside, is_full, is_loose, with_added}
 use Rattle.goals.specs.declared.types.Template.{Template}
 use Rattle.goals.specs.OfModel.{is_template}
 use Rattle.scheduler.specs.Trials.{directive_with, unless_refusal, made_with}
+use Rattle.scheduler.proofs.Templates.{taken_by}
 
 -- ---- when there is a plan
 
@@ -134,7 +135,7 @@ made_of_model model plan next template time of good e =
     let there = placed_there plan next template time e in
     let room = neither (nat_lt (length plan.directives) directive_limit) (nat_lt plan.next_id 4_294_967_295) there.room in
     subst (IsPlanOf model) (sym there.is)
-    (with_more model plan of (directive_with plan template time) refl refl (ltb-true (length plan.directives) directive_limit room.0) good (not_false (nat_lt time plan.duration) there.inside))
+    (with_more model plan of (directive_with plan template time) refl refl (ltb-true (length plan.directives) directive_limit room.0) (taken_by model template good) (not_false (nat_lt time plan.duration) there.inside))
 
 pub made_is_of_model : (model : Parts) (plan : Plan) (template : Template) (time : ℕ) (made : Option Plan) → IsPlanOf model plan →
     IsTrue (is_template model template) → made ≡ made_with plan template time → IfSome made (IsPlanOf model)

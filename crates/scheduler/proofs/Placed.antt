@@ -24,7 +24,7 @@ use Rattle.goals.specs.declared.gap.Gap.{Gap}
 use Rattle.goals.specs.declared.types.Goal.{Goal}
 use Rattle.goals.specs.declared.types.Template.{Template}
 use Rattle.goals.specs.Goals.{first_gap, candidates_of, is_completed}
-use Rattle.planned_spans.specs.PlannedSpans.{IsOneOf, IsSpanOf, PlannedHaveSpans}
+use Rattle.span_table.specs.PlannedSpans.{IsOneOf, IsSpanOf, PlannedHaveSpans}
 use Rattle.scheduler.specs.declared.scheduled.Schedule.{Schedule}
 use Rattle.scheduler.specs.FreshRuns.{fresh_run}
 use Rattle.scheduler.specs.Trials.{directive_with, made_with, is_accepted, verdict_if, verdict_on, found_by, first_accepted}

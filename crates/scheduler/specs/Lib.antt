@@ -1,5 +1,10 @@
+pub mod AddedDirectives
 pub mod Cases
+pub mod ClientAdds
 pub mod FreshRuns
+pub mod OnlyAdds
+pub mod OnlyAddsCases
+pub mod Running
 pub mod ScheduleLaws
 pub mod Scheduling
 pub mod Standing

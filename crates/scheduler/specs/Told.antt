@@ -8,7 +8,7 @@ use Rattle.run_data.specs.declared.runs.Outcome.TheVariants.{Completed}
 use Rattle.run_data.specs.declared.runs.Run.{Run}
 use Rattle.run_data.specs.Spans.{SpanOf, spans_of}
 use Rattle.run_data.specs.laws.Orders.{EachOf}
-use Rattle.planned_spans.specs.PlannedSpans.{IsOneOf}
+use Rattle.span_table.specs.PlannedSpans.{IsOneOf}
 use Rattle.goals.specs.declared.gap.Gap.{Gap}
 use Rattle.goals.specs.declared.types.Goal.{Goal}
 use Rattle.goals.specs.declared.types.Template.{Template}

@@ -1,5 +1,7 @@
 //! Laws about schedules and what they are made of.
 
+ghost use Rattle.scheduler.specs.ClientAdds.{TrialIsClientAdd};
+ghost use Rattle.scheduler.specs.OnlyAdds.{SchedulesOnlyAdd};
 ghost use Rattle.scheduler.specs.ScheduleLaws.{FreshRunIs, PlanOfRunIs, TrialIsAdd};
 
 use run_data::laws::{fresh_runs, simulation_ends};
@@ -13,7 +15,14 @@ pub fn fresh_runs_are_given()
     fresh_runs();
 }
 
-/// A trial adds the template as `add` does, whatever names and arguments give the template's type and its values.
+/// A trial adds the template as `add` does, whatever name and arguments give the template's type and its values; some name and
+/// arguments give those of each template of a model.
 pub fn trials_are_adds()
-    ensures { TrialIsAdd }
+    ensures given { TrialIsAdd }
+    ensures client { TrialIsClientAdd }
+{}
+
+/// A schedule only adds to its plan, whatever the plan, the goals and the constraints are.
+pub fn schedules_only_add()
+    ensures { SchedulesOnlyAdd }
 {}

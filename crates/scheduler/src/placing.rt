@@ -1,8 +1,9 @@
 //! One goal: gap after gap, until none is left, no candidate is accepted or all trials are made.
 
-ghost use Rattle.std.specs.Prelude.{◌≡◌, ◌≤◌, ◌<◌, Some, true, false, IfOk};
+ghost use Rattle.std.specs.Prelude.{◌≡◌, ◌<◌, Some, true, false, IfOk};
 ghost use Rattle.goals.specs.Goals.{first_gap};
 ghost use Rattle.scheduler.specs.FreshRuns.{kept_run};
+ghost use Rattle.scheduler.specs.Running.{OnlyRanPlans};
 ghost use Rattle.scheduler.specs.Standing.{IsEither, IsKeptOf, IsRequest, goal_ended, goal_filled, goal_placed_for, placed_after, placed_with, search_for, searched_of, shown, turns_left};
 
 use crate::laws::fresh_runs_are_given;
@@ -101,11 +102,8 @@ fn search<M: Simulator, L: Ledger, K: Ledger>(
     requires kept { IsKeptOf request.now.model.now (M.bound simulator.old) placing.now.kept }
     requires gap { first_gap request.now.model.now request.now.goal.now placing.now.kept.run ≡ Some gap.now }
     ensures found { IfOk result (λ found. found ≡ searched_of (kept_run request.now.model.now (M.bound simulator.old)) (search_for (M.bound simulator.old) request.now placing.now gap.now)) }
-    ensures steps { steps.old ≤ steps.new }
-    ensures looks { looks.old ≤ looks.new }
-    ensures same_model { M.model simulator.new ≡ M.model simulator.old }
-    ensures same_bound { M.bound simulator.new ≡ M.bound simulator.old }
-    ensures anchor { M.anchor simulator.new ≡ M.anchor simulator.old }
+    ensures ran { OnlyRanPlans M.model M.bound M.anchor (simulator.old, steps.old, looks.old)
+        (simulator.new, steps.new, looks.new) }
 {
     let run = placing.kept.run();
     let spans = placing.kept.spans();
@@ -141,11 +139,8 @@ fn fill_gap<M: Simulator, L: Ledger, K: Ledger>(
     ensures filled { IfOk result (λ made. goal_filled (M.bound simulator.old) request.now made ≡ goal_filled (M.bound simulator.old) request.now placing) }
     ensures fewer { IfOk result (λ made. turns_left made < turns_left placing) }
     ensures kept { IfOk result (λ made. IsKeptOf request.now.model.now (M.bound simulator.old) made.kept) }
-    ensures steps { steps.old ≤ steps.new }
-    ensures looks { looks.old ≤ looks.new }
-    ensures same_model { M.model simulator.new ≡ M.model simulator.old }
-    ensures same_bound { M.bound simulator.new ≡ M.bound simulator.old }
-    ensures anchor { M.anchor simulator.new ≡ M.anchor simulator.old }
+    ensures ran { OnlyRanPlans M.model M.bound M.anchor (simulator.old, steps.old, looks.old)
+        (simulator.new, steps.new, looks.new) }
 {
     fresh_runs_are_given();
     let found = gap_on(alloc, request, &placing.kept)?;
@@ -177,11 +172,8 @@ fn fill_gaps<M: Simulator, L: Ledger, K: Ledger>(
     requires kept { IsKeptOf request.now.model.now (M.bound simulator.old) placing.kept }
     ensures filled { IfOk result (λ made. shown made ≡ goal_filled (M.bound simulator.old) request.now placing) }
     ensures kept { IfOk result (λ made. IsKeptOf request.now.model.now (M.bound simulator.old) made.kept) }
-    ensures steps { steps.old ≤ steps.new }
-    ensures looks { looks.old ≤ looks.new }
-    ensures same_model { M.model simulator.new ≡ M.model simulator.old }
-    ensures same_bound { M.bound simulator.new ≡ M.bound simulator.old }
-    ensures anchor { M.anchor simulator.new ≡ M.anchor simulator.old }
+    ensures ran { OnlyRanPlans M.model M.bound M.anchor (simulator.old, steps.old, looks.old)
+        (simulator.new, steps.new, looks.new) }
 {
     let mut placing = placing;
     while placing.goes_on {
@@ -234,11 +226,8 @@ pub(crate) fn place_goal<M: Simulator, L: Ledger, K: Ledger>(
     requires kept { IsKeptOf request.now.model.now (M.bound simulator.old) kept }
     ensures placed { IfOk result (λ made. shown made ≡ goal_placed_for (M.bound simulator.old) request.now kept.run.plan left) }
     ensures kept { IfOk result (λ made. IsKeptOf request.now.model.now (M.bound simulator.old) made.kept) }
-    ensures steps { steps.old ≤ steps.new }
-    ensures looks { looks.old ≤ looks.new }
-    ensures same_model { M.model simulator.new ≡ M.model simulator.old }
-    ensures same_bound { M.bound simulator.new ≡ M.bound simulator.old }
-    ensures anchor { M.anchor simulator.new ≡ M.anchor simulator.old }
+    ensures ran { OnlyRanPlans M.model M.bound M.anchor (simulator.old, steps.old, looks.old)
+        (simulator.new, steps.new, looks.new) }
 {
     let before = kept.share()?;
     let placing = Placing {

@@ -1,12 +1,13 @@
 //! One goal after another, and what they come to.
 
-ghost use Rattle.std.specs.Prelude.{◌≡◌, ◌≤◌, IsTrue, IfOk, length};
+ghost use Rattle.std.specs.Prelude.{◌≡◌, IsTrue, IfOk, length};
 ghost use Rattle.std.specs.List.{list_all};
 ghost use Rattle.run_data.specs.Fresh.{IsFresh};
 ghost use Rattle.span_table.specs.SpanLaws.{AreSpansOf};
 ghost use Rattle.constraints.specs.OfModel.{is_constraint};
 ghost use Rattle.goals.specs.OfModel.{is_goal};
 ghost use Rattle.scheduler.specs.FreshRuns.{fresh_run};
+ghost use Rattle.scheduler.specs.Running.{OnlyRanPlans};
 ghost use Rattle.scheduler.specs.Scheduling.{goals_placed, goal_status as goal_status_by, statuses_on, trial_limit};
 ghost use Rattle.scheduler.specs.Standing.{IsKeptOf, IsRequest, all_shown, next_placed};
 
@@ -50,11 +51,8 @@ fn place_next<M: Simulator, L: Ledger, K: Ledger>(
     requires kept { IsKeptOf request.now.model.now (M.bound simulator.old) progress.kept }
     ensures placed { IfOk result (λ made. all_shown made ≡ next_placed (M.bound simulator.old) request.now progress) }
     ensures kept { IfOk result (λ made. IsKeptOf request.now.model.now (M.bound simulator.old) made.kept) }
-    ensures steps { steps.old ≤ steps.new }
-    ensures looks { looks.old ≤ looks.new }
-    ensures same_model { M.model simulator.new ≡ M.model simulator.old }
-    ensures same_bound { M.bound simulator.new ≡ M.bound simulator.old }
-    ensures anchor { M.anchor simulator.new ≡ M.anchor simulator.old }
+    ensures ran { OnlyRanPlans M.model M.bound M.anchor (simulator.old, steps.old, looks.old)
+        (simulator.new, steps.new, looks.new) }
 {
     let GoalProgress {
         kept,
@@ -89,11 +87,8 @@ pub(crate) fn place_goals<M: Simulator, L: Ledger, K: Ledger>(
     ensures placed { IfOk result (λ made. all_shown made ≡ goals_placed model.now constraints.now (fresh_run model.now (M.bound simulator.old)) goals.now kept.run.plan trial_limit) }
     ensures each { IfOk result (λ made. length made.placed ≡ length goals.now) }
     ensures kept { IfOk result (λ made. IsKeptOf model.now (M.bound simulator.old) made.kept) }
-    ensures steps { steps.old ≤ steps.new }
-    ensures looks { looks.old ≤ looks.new }
-    ensures same_model { M.model simulator.new ≡ M.model simulator.old }
-    ensures same_bound { M.bound simulator.new ≡ M.bound simulator.old }
-    ensures anchor { M.anchor simulator.new ≡ M.anchor simulator.old }
+    ensures ran { OnlyRanPlans M.model M.bound M.anchor (simulator.old, steps.old, looks.old)
+        (simulator.new, steps.new, looks.new) }
 {
     let mut progress = GoalProgress {
         kept,

@@ -1,10 +1,14 @@
 //! The schedule of a plan.
 
-ghost use Rattle.std.specs.Prelude.{◌≡◌, ◌≤◌, [], IsTrue, IfOk, length};
+ghost use Rattle.std.specs.Prelude.{◌≡◌, [], IsTrue, IfOk, length};
 ghost use Rattle.std.specs.List.{list_all};
 ghost use Rattle.aerie_base.specs.plans.OfModel.{IsPlanOf};
 ghost use Rattle.constraints.specs.OfModel.{is_constraint};
 ghost use Rattle.goals.specs.OfModel.{is_goal};
+ghost use Rattle.scheduler.specs.AddedDirectives.{HasRowsFor};
+ghost use Rattle.scheduler.specs.ClientAdds.{IsMadeByAdds};
+ghost use Rattle.scheduler.specs.OnlyAdds.{OnlyAddsTo};
+ghost use Rattle.scheduler.specs.Running.{OnlyRanPlans};
 ghost use Rattle.scheduler.specs.Scheduling.{schedule_of};
 ghost use Rattle.scheduler.specs.Standing.{schedule_after};
 ghost use Rattle.scheduler.specs.Told.{HasPlacedFor, IsLikePlan, TellsOf};
@@ -17,8 +21,8 @@ use aerie_base::{List, Model, OutOfMemory, Plan, Steps};
 use constraints::Constraint;
 use goals::Goal;
 use plan_edit::copy_plan;
-use planned_spans::planned_directives_have_spans;
 use run_data::Simulator;
+use span_table::laws::planned_directives_have_spans;
 use std::alloc::Global;
 use std::sync::ledger::Ledger;
 
@@ -74,11 +78,8 @@ fn scheduled<M: Simulator, L: Ledger, K: Ledger>(
     requires constraints { IsTrue (list_all (is_constraint model.now) constraints.now) }
     ensures scheduled { IfOk result (λ made. made ≡ schedule_of model.now (M.bound simulator.old) constraints.now goals.now plan.now) }
     ensures plan { IfOk result (λ made. IsPlanOf model.now made.plan) }
-    ensures steps { steps.old ≤ steps.new }
-    ensures looks { looks.old ≤ looks.new }
-    ensures same_model { M.model simulator.new ≡ M.model simulator.old }
-    ensures same_bound { M.bound simulator.new ≡ M.bound simulator.old }
-    ensures anchor { M.anchor simulator.new ≡ M.anchor simulator.old }
+    ensures ran { OnlyRanPlans M.model M.bound M.anchor (simulator.old, steps.old, looks.old)
+        (simulator.new, steps.new, looks.new) }
 {
     if goals.is_empty() {
         let made = unscheduled(alloc, plan)?;
@@ -122,16 +123,16 @@ pub fn schedule<M: Simulator, L: Ledger, K: Ledger>(
     ensures same_place { IfOk result (λ made. IsLikePlan plan.now made.plan) }
     ensures told { IfOk result (TellsOf model.now (M.bound simulator.old) goals.now) }
     ensures placed { IfOk result (HasPlacedFor model.now (M.bound simulator.old) goals.now) }
-    ensures steps { steps.old ≤ steps.new }
-    ensures looks { looks.old ≤ looks.new }
-    ensures same_model { M.model simulator.new ≡ M.model simulator.old }
-    ensures same_bound { M.bound simulator.new ≡ M.bound simulator.old }
-    ensures anchor { M.anchor simulator.new ≡ M.anchor simulator.old }
+    ensures only_adds { IfOk result (OnlyAddsTo plan.now) }
+    ensures asked { IfOk result (HasRowsFor model.now goals.now) }
+    ensures by_adds { IfOk result (λ made. IsMadeByAdds model.now plan.now made.plan) }
+    ensures ran { OnlyRanPlans M.model M.bound M.anchor (simulator.old, steps.old, looks.old)
+        (simulator.new, steps.new, looks.new) }
 {
     planned_directives_have_spans();
     fresh_runs_are_given();
     let _valid = model.name();
-    let made = scheduled(
+    let whole = scheduled(
         alloc,
         model,
         plan,
@@ -141,5 +142,5 @@ pub fn schedule<M: Simulator, L: Ledger, K: Ledger>(
         steps,
         looks,
     )?;
-    Ok(made)
+    Ok(whole)
 }

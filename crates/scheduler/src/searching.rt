@@ -1,8 +1,9 @@
 //! The candidates for a gap are tried, one after another.
 
-ghost use Rattle.std.specs.Prelude.{◌≡◌, ◌≤◌, IfOk};
+ghost use Rattle.std.specs.Prelude.{◌≡◌, IfOk};
 ghost use Rattle.aerie_base.specs.plans.OfModel.{IsPlanOf};
 ghost use Rattle.scheduler.specs.FreshRuns.{kept_run};
+ghost use Rattle.scheduler.specs.Running.{OnlyRanPlans};
 ghost use Rattle.scheduler.specs.Standing.{IsRequest, first_accepted_for, searched_of};
 
 use crate::requests::GoalRequest;
@@ -40,11 +41,8 @@ pub(crate) fn first_accepted<M: Simulator, L: Ledger, K: Ledger>(
     requires request { IsRequest request.now }
     requires plan { IsPlanOf request.now.model.now plan.now }
     ensures found { IfOk result (λ found. found ≡ searched_of (kept_run request.now.model.now (M.bound simulator.old)) (first_accepted_for (M.bound simulator.old) request.now gap.now plan.now times.now left)) }
-    ensures steps { steps.old ≤ steps.new }
-    ensures looks { looks.old ≤ looks.new }
-    ensures same_model { M.model simulator.new ≡ M.model simulator.old }
-    ensures same_bound { M.bound simulator.new ≡ M.bound simulator.old }
-    ensures anchor { M.anchor simulator.new ≡ M.anchor simulator.old }
+    ensures ran { OnlyRanPlans M.model M.bound M.anchor (simulator.old, steps.old, looks.old)
+        (simulator.new, steps.new, looks.new) }
 {
     let mut left = left;
     for time in times {

@@ -1,6 +1,6 @@
 //! A trial: a goal's template is added to a plan at a time, and the run of that plan is judged.
 
-ghost use Rattle.std.specs.Prelude.{◌≡◌, ◌≤◌, IsTrue, IfOk, IfSome};
+ghost use Rattle.std.specs.Prelude.{◌≡◌, IsTrue, IfOk, IfSome};
 ghost use Rattle.std.specs.List.{list_all};
 ghost use Rattle.aerie_base.specs.plans.OfModel.{IsPlanOf};
 ghost use Rattle.run_data.specs.Fresh.{IsFresh};
@@ -8,6 +8,7 @@ ghost use Rattle.constraints.specs.OfModel.{is_constraint};
 ghost use Rattle.span_table.specs.SpanLaws.{AreSpansOf};
 ghost use Rattle.plan_edit.specs.Editing.{is_full as is_full_plan, is_outside as is_outside_plan};
 ghost use Rattle.scheduler.specs.FreshRuns.{kept_run};
+ghost use Rattle.scheduler.specs.Running.{OnlyRanPlans};
 ghost use Rattle.scheduler.specs.Standing.{IsKeptOf, IsRequest, trial_of, verdict_for};
 ghost use Rattle.scheduler.specs.Trials.{is_accepted as accepts, is_kept as is_kept_by, is_kept_well as is_kept_well_by, directive_with, keeps as keeps_all, made_with};
 
@@ -201,11 +202,8 @@ pub(crate) fn simulated<M: Simulator, L: Ledger, K: Ledger>(
     requires plan { IsPlanOf (M.model simulator.old) plan.now }
     ensures kept { IfOk result (λ kept. kept ≡ kept_run (M.model simulator.old) (M.bound simulator.old) plan.now) }
     ensures of_model { IfOk result (IsKeptOf (M.model simulator.old) (M.bound simulator.old)) }
-    ensures steps { steps.old ≤ steps.new }
-    ensures looks { looks.old ≤ looks.new }
-    ensures same_model { M.model simulator.new ≡ M.model simulator.old }
-    ensures same_bound { M.bound simulator.new ≡ M.bound simulator.old }
-    ensures anchor { M.anchor simulator.new ≡ M.anchor simulator.old }
+    ensures ran { OnlyRanPlans M.model M.bound M.anchor (simulator.old, steps.old, looks.old)
+        (simulator.new, steps.new, looks.new) }
 {
     simulation_ends();
     let kept = simulator.run(alloc, plan, steps, looks)?;
@@ -229,11 +227,8 @@ pub(crate) fn tried<M: Simulator, L: Ledger, K: Ledger>(
     requires request { IsRequest request.now }
     requires plan { IsPlanOf request.now.model.now plan.now }
     ensures trial { IfOk result (λ trial. trial ≡ trial_of (kept_run request.now.model.now (M.bound simulator.old)) (verdict_for (M.bound simulator.old) request.now gap.now plan.now time)) }
-    ensures steps { steps.old ≤ steps.new }
-    ensures looks { looks.old ≤ looks.new }
-    ensures same_model { M.model simulator.new ≡ M.model simulator.old }
-    ensures same_bound { M.bound simulator.new ≡ M.bound simulator.old }
-    ensures anchor { M.anchor simulator.new ≡ M.anchor simulator.old }
+    ensures ran { OnlyRanPlans M.model M.bound M.anchor (simulator.old, steps.old, looks.old)
+        (simulator.new, steps.new, looks.new) }
 {
     let Some(next) = tried_plan(alloc, request, plan, time)? else {
         return Ok(Trial::Refused);

@@ -3,4 +3,3 @@ pub mod Places
 pub mod Shifts
 pub mod TimeOrders
 pub mod Values
-pub mod ReadShifts

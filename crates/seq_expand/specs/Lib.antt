@@ -3,4 +3,3 @@ pub mod Closeness
 pub mod Expanding
 pub mod OfModel
 pub mod Sending
-pub mod reading

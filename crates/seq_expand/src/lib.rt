@@ -4,12 +4,10 @@
 mod closeness;
 mod expanding;
 mod order;
-mod reading;
 mod rules;
 mod sending;
 mod sequence;
 
 pub use expanding::expand;
-pub use reading::read_sequence;
 pub use rules::{SendStep, SendTest, SendWord, Sequencing, SpanRule};
 pub use sequence::{Sent, Sequence};

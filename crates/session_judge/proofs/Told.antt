@@ -1,10 +1,10 @@
 -- What is read, or how it is told that it is refused.
 use Rattle.std.proofs.Common.{◌≡◌, ℕ, List, Result, Ok, Err, refl, sym, ap, ◌∙◌}
 use Rattle.aerie_text.specs.declared.token.Token.{Token}
-use Rattle.constraints.specs.declared.rule_error.RuleError.{RuleError}
-use Rattle.constraints.specs.declared.rule_error.RuleError.TheVariants as rule
-use Rattle.constraints.specs.reading.ConstraintAnswers.{IsThisError, RuledUnlessOutOfMemory}
-use Rattle.report_text.specs.declared.refusals.Refusal.{Refusal}
+use Rattle.rule_check.specs.declared.rule_error.RuleError.{RuleError}
+use Rattle.rule_check.specs.declared.rule_error.RuleError.TheVariants as rule
+use Rattle.rule_check.specs.RuleErrors.{IsThisError, RuledUnlessOutOfMemory}
+use Rattle.refusal_text.specs.declared.refusals.Refusal.{Refusal}
 use Rattle.session_judge.specs.Rules.{told_rules}
 use Rattle.session_judge.specs.Telling.{told_rule}
 

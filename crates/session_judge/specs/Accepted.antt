@@ -1,7 +1,7 @@
 -- The line of a session that is accepted.
 use Rattle.std.specs.Prelude.{ℕ, ◌+◌, List, [], ◌∷◌, codes, length}
 use Rattle.serde_json.specs.Data.{Data, member, no_members, object, string}
-use Rattle.report_text.specs.Fields.{natural_data}
+use Rattle.json_line.specs.Numbers.{natural_data}
 use Rattle.session_reader.specs.declared.session.Client.{Client}
 use Rattle.session_reader.specs.declared.session.Session.{Session}
 

@@ -1,6 +1,6 @@
 -- Sections of one sort: the rules of all models, or the refusal that stands first in the text.
 use Rattle.std.specs.Prelude.{ℕ, List, [], ◌∷◌, Option, Some, None, Result, Ok, Err, nat_lt, if◌then◌else◌}
-use Rattle.report_text.specs.declared.refusals.Refusal.{Refusal}
+use Rattle.refusal_text.specs.declared.refusals.Refusal.{Refusal}
 use Rattle.session_reader.specs.Sections.{TokenRange}
 
 -- rules, or why they are refused

@@ -6,7 +6,7 @@ use Rattle.aerie_text.specs.Tokens.{tokens_of}
 use Rattle.aerie_text.specs.declared.token.Token.{Token}
 use Rattle.constraints.specs.declared.types.Constraint.{Constraint}
 use Rattle.goals.specs.declared.types.Goal.{Goal}
-use Rattle.report_text.specs.declared.refusals.Refusal.{Refusal}
+use Rattle.refusal_text.specs.declared.refusals.Refusal.{Refusal}
 use Rattle.seq_expand.specs.declared.rules.Sequencing.{Sequencing}
 use Rattle.session_reader.specs.Answers.{Answer}
 use Rattle.session_reader.specs.SessionTexts.{byte_limit, text_answer}

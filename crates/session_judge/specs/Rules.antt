@@ -3,13 +3,13 @@ use Rattle.std.specs.Prelude.{ℕ, ◌-◌, List, [], Option, Some, None, Result
 use Rattle.std.specs.List.{zip}
 use Rattle.aerie_base.specs.declared.models.model.Parts.{Parts}
 use Rattle.aerie_text.specs.declared.token.Token.{Token}
-use Rattle.constraints.specs.declared.rule_error.RuleError.{RuleError}
+use Rattle.rule_check.specs.declared.rule_error.RuleError.{RuleError}
 use Rattle.constraints.specs.declared.types.Constraint.{Constraint}
-use Rattle.constraints.specs.reading.ConstraintAnswers.{constraints_answer}
+use Rattle.rule_check.specs.ConstraintAnswers.{constraints_answer}
 use Rattle.goals.specs.declared.types.Goal.{Goal}
-use Rattle.goals.specs.reading.GoalAnswers.{goals_answer}
+use Rattle.goal_check.specs.GoalAnswers.{goals_answer}
 use Rattle.seq_expand.specs.declared.rules.Sequencing.{Sequencing}
-use Rattle.seq_expand.specs.reading.SequenceAnswers.{sequence_answer}
+use Rattle.rule_check.specs.SequenceAnswers.{sequence_answer}
 use Rattle.session_reader.specs.DatasetAnswers.{NamedSeries}
 use Rattle.session_reader.specs.Sections.{TokenRange}
 use Rattle.session_reader.specs.declared.session.ModelPart.{ModelPart}

@@ -10,9 +10,9 @@ use Rattle.model_check.specs.declared.check_error.CheckError.{CheckError}
 use Rattle.model_check.specs.declared.check_error.CheckError.TheVariants as check
 use Rattle.session_reader.specs.declared.session_error.SessionError.{SessionError}
 use Rattle.session_reader.specs.declared.session_error.SessionError.TheVariants as session
-use Rattle.constraints.specs.declared.rule_error.RuleError.{RuleError}
-use Rattle.constraints.specs.declared.rule_error.RuleError.TheVariants as rule
-use Rattle.report_text.specs.declared.refusals.Refusal.{Refusal}
+use Rattle.rule_check.specs.declared.rule_error.RuleError.{RuleError}
+use Rattle.rule_check.specs.declared.rule_error.RuleError.TheVariants as rule
+use Rattle.refusal_text.specs.declared.refusals.Refusal.{Refusal}
 
 -- ---- words
 

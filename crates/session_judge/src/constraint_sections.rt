@@ -13,9 +13,10 @@ use crate::sections::{SectionRange, begin_of, tokens_in};
 use crate::telling::told_rule;
 use aerie_base::{List, Model, Name, OutOfMemory, Shared};
 use aerie_text::Token;
-use constraints::{Constraint, read_constraints};
+use constraints::Constraint;
 use dataset_in::Series;
-use report_text::Refusal;
+use refusal_text::Refusal;
+use rule_check::read_constraints;
 use session_reader::{ModelPart, Session};
 use std::alloc::Global;
 

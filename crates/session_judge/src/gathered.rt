@@ -4,7 +4,7 @@ ghost use Rattle.std.specs.Prelude.{◌≡◌, ◌++◌, [], Some, None, IfOk};
 ghost use Rattle.session_judge.specs.FirstRefused.{first_of_both, first_of_two, in_front_of, refusal_in, unless_section_refused};
 
 use aerie_base::{List, OutOfMemory};
-use report_text::Refusal;
+use refusal_text::Refusal;
 use std::alloc::Global;
 
 /// A refusal, and the number of the first token of its section.

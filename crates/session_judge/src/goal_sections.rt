@@ -15,8 +15,9 @@ use aerie_base::{List, Model, Name, OutOfMemory, Shared, Time};
 use aerie_text::Token;
 use constraints::Constraint;
 use dataset_in::Series;
-use goals::{Goal, read_goals};
-use report_text::Refusal;
+use goal_check::read_goals;
+use goals::Goal;
+use refusal_text::Refusal;
 use session_reader::{ModelPart, Session};
 use std::alloc::Global;
 

@@ -4,7 +4,7 @@ ghost use Rattle.std.specs.Prelude.{◌≡◌};
 ghost use Rattle.session_judge.specs.declared.judge_error.JudgeError.TheVariants.{OutOfMemory as NoMemory};
 
 use aerie_base::OutOfMemory;
-use report_text::Refusal;
+use refusal_text::Refusal;
 
 /// Why a text is not judged good.
 #[derive(Drop)]

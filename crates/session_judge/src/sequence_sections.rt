@@ -12,8 +12,9 @@ use crate::sections::{SectionRange, begin_of, tokens_in};
 use crate::telling::told_rule;
 use aerie_base::{List, Model, OutOfMemory, Shared};
 use aerie_text::Token;
-use report_text::Refusal;
-use seq_expand::{Sequencing, read_sequence};
+use refusal_text::Refusal;
+use rule_check::read_sequence;
+use seq_expand::Sequencing;
 use session_reader::{ModelPart, Session};
 use std::alloc::Global;
 

@@ -2,18 +2,18 @@
 
 ghost use Rattle.std.specs.Prelude.{◌≡◌, ◌<◌, All, IfOk, length};
 ghost use Rattle.aerie_text.specs.Cut.{IsTokenOf};
-ghost use Rattle.constraints.specs.declared.rule_error.RuleError.TheVariants.{OutOfMemory as NoMemoryForRules};
+ghost use Rattle.rule_check.specs.declared.rule_error.RuleError.TheVariants.{OutOfMemory as NoMemoryForRules};
 ghost use Rattle.session_reader.specs.declared.session_error.SessionError.TheVariants.{OutOfMemory as NoMemoryForSession};
 ghost use Rattle.session_judge.specs.Telling.{told_check as told_check_by, told_dataset as told_dataset_by, told_directive as told_directive_by, told_limit as told_limit_by, told_name as told_name_by, told_offset as told_offset_by, told_place as told_place_by, told_rule as told_rule_by, told_session as told_session_by, told_word, word_standing_at as word_standing_at_by};
 
 use crate::words::word_standing_at;
 use aerie_base::{OutOfMemory, Place, Text};
 use aerie_text::Token;
-use constraints::RuleError;
 use dataset_in::DatasetError;
 use model_check::CheckError;
 use plan_edit::EditError;
-use report_text::Refusal;
+use refusal_text::Refusal;
+use rule_check::RuleError;
 use session_reader::SessionError;
 use std::alloc::Global;
 

@@ -12,8 +12,8 @@ use Rattle.hangar_lock.specs.Works.{own_entry, reply_of, RisesTo}
 use Rattle.report_text.specs.declared.answers.Answer.{Answer}
 use Rattle.session_reader.specs.declared.session.Client.{Client}
 use Rattle.session_judge.specs.declared.judged.JudgedSession.{JudgedSession}
-use Rattle.session_summary.specs.declared.summary.Summary.{Summary}
-use Rattle.session_summary.specs.Summaries.{summary_of}
+use Rattle.session_run.specs.declared.summary.Summary.{Summary}
+use Rattle.session_run.specs.summary.Summaries.{summary_of}
 use Rattle.client_work.specs.declared.missions.Mission.{Mission}
 use Rattle.client_work.specs.Meanings.{meanings_of}
 use Rattle.client_work.specs.Told.{command_told}

@@ -11,3 +11,5 @@ pub mod Reports
 pub mod Along
 pub mod Counted
 pub mod Apart
+mod Capped
+pub mod FirstLines

@@ -13,7 +13,7 @@ use Rattle.plan_merge.specs.declared.answers.MergeError.{MergeError}
 use Rattle.plan_merge.specs.Merging.{merge_of}
 use Rattle.report_text.specs.declared.answers.Answer.{Answer}
 use Rattle.report_text.specs.declared.answers.Answer.TheVariants as answer
-use Rattle.session_summary.specs.Summaries.{HasItsConstraints}
+use Rattle.session_run.specs.summary.Summaries.{HasItsConstraints}
 use Rattle.client_work.specs.declared.missions.Mission.{Mission}
 use Rattle.client_work.specs.declared.missions.RuledModel.{RuledModel}
 use Rattle.client_work.specs.Meanings.{are_of_one_model, ruled_or_nothing, scheduled}

@@ -11,8 +11,8 @@ use Rattle.hangar_lock.specs.Works.{reply_of}
 use Rattle.report_text.specs.declared.answers.Answer.{Answer}
 use Rattle.session_reader.specs.declared.session.Client.{Client}
 use Rattle.session_judge.specs.declared.judged.JudgedSession.{JudgedSession}
-use Rattle.session_summary.specs.declared.summary.Summary.{Summary}
-use Rattle.session_summary.specs.Summaries.{summary_of}
+use Rattle.session_run.specs.declared.summary.Summary.{Summary}
+use Rattle.session_run.specs.summary.Summaries.{summary_of}
 use Rattle.client_work.specs.declared.missions.Mission.{Mission}
 use Rattle.client_work.specs.declared.turns.ClientCommand.{ClientCommand}
 use Rattle.client_work.specs.Lines.{replies_to}

@@ -7,3 +7,4 @@ pub mod Performed
 pub mod Joined
 pub mod laws
 pub mod Works
+pub mod summary

@@ -6,13 +6,13 @@ ghost use Rattle.client_work.specs.Working.{IsAtWork};
 ghost use Rattle.session_run.specs.Answers.{CountsRound, CountsTurn, HasCounted};
 
 use crate::in_turn::longest_of;
+use crate::summary::Summary;
 use aerie_base::{OutOfMemory, Steps};
 use aerie_edge::Gate;
 use client_work::{ClientCommand, Workplace, carry_out};
 use hangar_core::Command;
 use hangar_lock::Pass;
 use session_reader::Client as SessionClient;
-use session_summary::Summary;
 use std::alloc::Global;
 use std::sync::Wait;
 use std::sync::ledger::Ledger;

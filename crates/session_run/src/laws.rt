@@ -1,9 +1,11 @@
 //! Laws, each the promise of a function.
 
 ghost use Rattle.session_run.specs.laws.BranchesApart.{BranchesStandApart, ReportsTellOfPlans};
+ghost use Rattle.session_run.specs.laws.FirstLines.{FirstLinesTellJournals, FirstLinesTellTexts};
 ghost use Rattle.session_run.specs.laws.Journals.{TurnsFit};
 
-use hangar_core::laws::{branches_are_isolated, serial_journals_fit};
+use hangar_core::laws::{branches_are_isolated, serial_journals_fit, triples_tell_all};
+use hangar_lock::laws::commands_are_done;
 
 /// What clients do in turn is a journal that fits, and so is its text one of the session.
 pub fn turns_fit()
@@ -19,4 +21,14 @@ pub fn branches_stand_apart()
     ensures reports { ReportsTellOfPlans }
 {
     branches_are_isolated();
+}
+
+/// Two texts of a session, along journals that fit it, that have the same first line are along the same journal. Where no
+/// statements are counted they are the same text.
+pub fn first_lines_tell_journals()
+    ensures journals { FirstLinesTellJournals }
+    ensures texts { FirstLinesTellTexts }
+{
+    triples_tell_all();
+    commands_are_done();
 }

@@ -9,7 +9,9 @@ mod missions;
 mod on_threads;
 mod performing;
 mod summarizing;
+mod summary;
 mod texts;
 
 pub use performing::{perform, perform_in_turn};
 pub use summarizing::summarize_in_turn;
+pub use summary::{Summary, summary_line};

@@ -3,6 +3,7 @@ pub mod Frames
 pub mod Gathering
 pub mod InstantTimes
 pub mod Noting
+pub mod Planned
 pub mod Sorting
 pub mod SpanOrder
 pub mod SpansByPath

@@ -2,5 +2,6 @@ pub mod AsDefined
 pub mod Begun
 pub mod BodyStates
 pub mod Ordering
+pub mod PlannedSpans
 pub mod Progress
 pub mod SpanLaws

@@ -1,9 +1,10 @@
-//! The spans of a run: when each activity began and ended, and what it returned.
+//! The spans of a run: when each activity began and ended, and what it returned. A law says which directives surely have one.
 #![tactic(auto)]
 
 mod begins;
 mod body_states;
 mod last_times;
+pub mod laws;
 mod ordering;
 mod progress;
 mod span;

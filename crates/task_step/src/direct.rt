@@ -37,6 +37,7 @@ impl<'a> Direct<'a> {
     pub fn new(codes: &'a [Code]) -> Direct<'a>
         ensures codes { result.codes ≡ codes.now }
         ensures opened { result.opened ≡ 0 }
+        ensures address { result.codes_at ≡ codes.entry.ref_ptr.0 }
     {
         Direct { codes, opened: 0 }
     }

@@ -1,4 +1,5 @@
-use Rattle.std.proofs.Common.{◌≡◌, ◌≤◌}
+use Rattle.std.proofs.Common.{◌≡◌}
+use Rattle.scheduler.specs.Running.{OnlyRanPlans}
 use Rattle.scheduler.specs.Standing.{IsKeptOf, goal_filled, turns_left}
 use Rattle.scheduler.proofs.placing.fill_gaps.Given as goal
 
@@ -7,11 +8,9 @@ abbrev pub invariant-loop-placing : goal.invariant-loop-placing
 invariant-loop-placing g l = record {
   filled : goal_filled (g.M.Simulator.bound l.fn.simulator) l.request l.placing ≡ goal_filled (g.M.Simulator.bound l.fn.simulator) l.request l.fn.placing;
   kept : IsKeptOf l.request.model.now (g.M.Simulator.bound l.fn.simulator) l.placing.kept;
-  steps : l.fn.steps ≤ l.steps;
-  looks : l.fn.looks ≤ l.looks;
-  same_model : g.M.Simulator.model l.simulator ≡ g.M.Simulator.model l.fn.simulator;
-  same_bound : g.M.Simulator.bound l.simulator ≡ g.M.Simulator.bound l.fn.simulator;
-  same_anchor : g.M.Simulator.anchor l.simulator ≡ g.M.Simulator.anchor l.fn.simulator;
+  ran :
+      OnlyRanPlans g.M.Simulator.model g.M.Simulator.bound g.M.Simulator.anchor (l.fn.simulator, l.fn.steps, l.fn.looks)
+      (l.simulator, l.steps, l.looks);
 }
 
 abbrev pub decreases-loop-placing : goal.decreases-loop-placing

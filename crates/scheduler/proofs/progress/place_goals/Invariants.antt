@@ -1,5 +1,6 @@
-use Rattle.std.proofs.Common.{◌≡◌, ◌≤◌, drop}
+use Rattle.std.proofs.Common.{◌≡◌, drop}
 use Rattle.scheduler.specs.FreshRuns.{fresh_run}
+use Rattle.scheduler.specs.Running.{OnlyRanPlans}
 use Rattle.scheduler.specs.Scheduling.{goals_placed, trial_limit}
 use Rattle.scheduler.specs.Standing.{IsKeptOf, placed_behind}
 use Rattle.scheduler.proofs.progress.place_goals.Given as goal
@@ -12,9 +13,7 @@ invariant-loop-goal g l = record {
       (goals_placed l.model l.constraints (fresh_run l.model (g.M.Simulator.bound l.fn.simulator)) (drop l.goal-index l.goals) l.progress.kept.run.plan l.progress.left)
       ≡ goals_placed l.model l.constraints (fresh_run l.model (g.M.Simulator.bound l.fn.simulator)) l.goals l.fn.kept.run.plan trial_limit;
   kept : IsKeptOf l.model (g.M.Simulator.bound l.fn.simulator) l.progress.kept;
-  steps : l.fn.steps ≤ l.steps;
-  looks : l.fn.looks ≤ l.looks;
-  same_model : g.M.Simulator.model l.simulator ≡ g.M.Simulator.model l.fn.simulator;
-  same_bound : g.M.Simulator.bound l.simulator ≡ g.M.Simulator.bound l.fn.simulator;
-  same_anchor : g.M.Simulator.anchor l.simulator ≡ g.M.Simulator.anchor l.fn.simulator;
+  ran :
+      OnlyRanPlans g.M.Simulator.model g.M.Simulator.bound g.M.Simulator.anchor (l.fn.simulator, l.fn.steps, l.fn.looks)
+      (l.simulator, l.steps, l.looks);
 }

@@ -23,5 +23,5 @@ returns-clause-scheduled g c =
     c.in_ok-made-2.ensures
     ∙ scheduled_is model (g.M.Simulator.bound c.simulated.new.simulator) c.args.constraints.now c.args.goals.now kept.run.plan c.in_ok-progress.progress c.in_ok-progress.ensures.kept
     c.in_ok-progress.ensures.placed
-    ∙ ap (λ (b : ℕ). schedule_of model b c.args.constraints.now c.args.goals.now kept.run.plan) c.in_ok-kept.ensures.same_bound
+    ∙ ap (λ (b : ℕ). schedule_of model b c.args.constraints.now c.args.goals.now kept.run.plan) c.in_ok-kept.ensures.ran.bound
     ∙ ap (λ (p : Plan). schedule_of model bound c.args.constraints.now c.args.goals.now p) plan

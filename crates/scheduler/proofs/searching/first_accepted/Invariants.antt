@@ -1,4 +1,5 @@
-use Rattle.std.proofs.Common.{◌≡◌, ◌≤◌, drop}
+use Rattle.std.proofs.Common.{◌≡◌, drop}
+use Rattle.scheduler.specs.Running.{OnlyRanPlans}
 use Rattle.scheduler.specs.Standing.{first_accepted_for}
 use Rattle.scheduler.proofs.searching.first_accepted.Given as goal
 
@@ -8,9 +9,7 @@ invariant-loop-time g l = record {
   found :
       first_accepted_for (g.M.Simulator.bound l.fn.simulator) l.request l.gap l.plan (drop l.time-index l.times) l.left
       ≡ first_accepted_for (g.M.Simulator.bound l.fn.simulator) l.request l.gap l.plan l.times l.fn.left;
-  steps : l.fn.steps ≤ l.steps;
-  looks : l.fn.looks ≤ l.looks;
-  same_model : g.M.Simulator.model l.simulator ≡ g.M.Simulator.model l.fn.simulator;
-  same_bound : g.M.Simulator.bound l.simulator ≡ g.M.Simulator.bound l.fn.simulator;
-  same_anchor : g.M.Simulator.anchor l.simulator ≡ g.M.Simulator.anchor l.fn.simulator;
+  ran :
+      OnlyRanPlans g.M.Simulator.model g.M.Simulator.bound g.M.Simulator.anchor (l.fn.simulator, l.fn.steps, l.fn.looks)
+      (l.simulator, l.steps, l.looks);
 }

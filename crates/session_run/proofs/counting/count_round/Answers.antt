@@ -2,7 +2,7 @@ use Rattle.std.proofs.Common.{rules, ◌≡◌, sym, subst, ◌∙◌, ◌+◌, 
 use Rattle.hangar_core.specs.declared.commands.Command.{Command}
 use Rattle.hangar_lock.specs.Passes.{PassView}
 use Rattle.session_reader.specs.declared.session.Client.{Client}
-use Rattle.session_summary.specs.declared.summary.Summary.{Summary}
+use Rattle.session_run.specs.declared.summary.Summary.{Summary}
 use Rattle.session_run.proofs.Counted.{count_over, count_passed, count_turned, IsInCount}
 use Rattle.session_run.proofs.Rounds.{found_at, same_some}
 use Rattle.session_run.proofs.counting.count_round.Goals.{then-number-len+in_ok-count_turn, else-number-len}

@@ -1,6 +1,6 @@
 use Rattle.std.proofs.Common.{◌∙◌, ℕ, [], ◌∷◌, ◌++◌, Option, sym, ap, subst}
 use Rattle.report_text.specs.declared.answers.Answer.{Answer}
-use Rattle.session_summary.specs.Summaries.{HasItsConstraints, summary_of}
+use Rattle.session_run.specs.summary.Summaries.{HasItsConstraints, summary_of}
 use Rattle.client_work.specs.Told.{command_told, count_told}
 use Rattle.client_work.specs.Working.{replies_of}
 use Rattle.session_run.proofs.Reports.{counted_if, none_told, told_has}

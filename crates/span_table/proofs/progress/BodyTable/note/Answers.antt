@@ -1,6 +1,4 @@
 use Rattle.std.proofs.Common.{◌≡◌, Option, Some, refl, ap, subst, ◌∙◌}
-use Rattle.std.specs.HashMap as hash
-use Rattle.run_data.specs.Spans.{same_path}
 use Rattle.span_table.specs.declared.body_states.BodyState.{BodyState}
 use Rattle.span_table.specs.BodyStates.{noted_state}
 use Rattle.span_table.proofs.Frames.{knows_more, knows_same}

@@ -1,4 +1,0 @@
-use Rattle.constraints.proofs.reading.window_refusals.+judge_terms.Given as goal
-
-abbrev pub decreases-judge_terms : goal.decreases-judge_terms
-decreases-judge_terms l = l.room

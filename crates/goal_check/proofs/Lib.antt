@@ -1,0 +1,3 @@
+pub mod ReadTemplates
+pub mod ReadGoals
+pub mod ArgumentsInTurn

@@ -1,9 +1,0 @@
--- What is found of the names so far, and then of those behind them, is found of all of them.
-use Rattle.std.proofs.Common.{◌≡◌, drop}
-use Rattle.constraints.specs.reading.Refusals.{found_with}
-use Rattle.goals.specs.reading.GoalRefusals.{refusals_of_keeping}
-use Rattle.goals.proofs.reading.judging.judge_keeping.Given as goal
-
-abbrev pub invariant-loop-name : goal.invariant-loop-name
-invariant-loop-name l =
-    found_with l.fn.found (refusals_of_keeping l.fn.constraints l.fn.names) ≡ found_with l.found (refusals_of_keeping l.fn.constraints (drop l.name-index l.names))

@@ -1,0 +1,4 @@
+pub mod EditRefusals
+pub mod Named
+pub mod RefusalCases
+pub mod Refusals

@@ -1,0 +1,16 @@
+pub mod Refusals
+pub mod RefusalLaws
+pub mod RuleNames
+pub mod RawWindows
+pub mod WindowRefusals
+pub mod WindowMeaning
+pub mod RuleLiterals
+pub mod RuleErrors
+pub mod ConstraintRefusals
+pub mod ConstraintMeaning
+pub mod ConstraintAnswers
+pub mod SequenceRefusals
+pub mod SequenceMeaning
+pub mod SequenceAnswers
+pub mod SequenceCases
+pub mod ReadParts

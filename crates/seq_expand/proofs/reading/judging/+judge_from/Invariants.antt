@@ -1,6 +1,0 @@
-use Rattle.std.proofs.Common.{◌-◌}
-use Rattle.seq_expand.proofs.reading.judging.+judge_from.Given as goal
-
--- so many rules may still be judged
-abbrev pub decreases-judge_from : goal.decreases-judge_from
-decreases-judge_from l = 256 - l.at

@@ -1,4 +1,0 @@
-use Rattle.seq_expand.proofs.reading.judging.+judge_steps.Given as goal
-
-abbrev pub decreases-judge_steps : goal.decreases-judge_steps
-decreases-judge_steps l = l.room

@@ -1,4 +1,0 @@
-pub mod SequenceRefusals
-pub mod SequenceMeaning
-pub mod SequenceAnswers
-pub mod SequenceCases

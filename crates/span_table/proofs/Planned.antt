@@ -1,0 +1,5 @@
+pub mod Beginnings
+mod MadeFrames
+mod Paths
+mod PlannedTasks
+mod SpansOfFrames
