@@ -1,6 +1,6 @@
 -- What the program answers to the words and to the input.
 use Rattle.std.specs.Prelude.{◌≡◌, ℕ, ◌==◌, Bool, true, false, ◌||◌, List, length, Option, Some, None, Ok, Err, codes}
-use Rattle.aerie_text.specs.Json.{line_of}
+use Rattle.json_line.specs.Json.{line_of}
 use Rattle.command_line.specs.declared.invocation.Invocation.{Invocation}
 use Rattle.command_line.specs.declared.invocation.Mode.{Mode}
 use Rattle.command_line.specs.declared.invocation.Mode.TheVariants.{Run, Check, Make}
@@ -65,7 +65,7 @@ check_answer (Err refusal) = refused_answer status.Refused refusal
 
 -- ---- run
 
--- the text of a session that is performed: along the journal of clients who take turns where that is asked for, or else along a journal that fits
+-- the text of a session that is performed: along the journal of clients in rounds where that is asked for, or else along a journal that fits
 abbrev pub IsRunText : Bool → JudgedSession → ℕ → Bool → List ℕ → Type 0
 IsRunText true judged limit stats text = IsPerformedInTurn judged limit stats text
 IsRunText false judged limit stats text = IsPerformed judged limit stats text
@@ -82,7 +82,7 @@ IsRunAnswer invocation (Err refusal) answer = answer ≡ refused_answer status.R
 
 -- ---- make
 
--- the line that tells what is counted of a generated session with so many directives, whose clients take turns
+-- the line that tells what is counted of a generated session with so many directives, whose clients go in rounds
 abbrev pub summary_text : ℕ → ℕ → JudgedSession → List ℕ
 summary_text number limit judged =
     line_of (summary_data number (length judged.session.clients) (summary_of (serial_answers judged limit)))

@@ -103,7 +103,8 @@ fn summarized<R: Wait, G: Gate, L: Ledger, K: Ledger>(
     requires name { blank.name ≡ K.name }
     requires parts { blank.parts ≡ K.parts }
     requires some { 0 < K.parts }
-    ensures summarized { IfOk result (λ output. output ≡ answer_with Done (summary_text number limit judged.now)) }
+    ensures summarized { IfOk result (λ output.
+        output ≡ answer_with Done (summary_text number limit judged.now)) }
     ensures steps { steps.old ≤ steps.new }
 {
     let mut looks = Steps::<K>::open(blank);

@@ -35,10 +35,12 @@ fn read_more<S: Source>(
     room: &mut [u8],
     bytes: &mut Vec<u8>,
 ) -> Result<usize, InputError>
-    ensures more { ReadsMore (S.left source.old) (S.left source.new) (length room.old) bytes.old.items bytes.new.items result }
+    ensures more { ReadsMore (S.left source.old) (S.left source.new)
+        (length room.old) bytes.old.items bytes.new.items result }
     ensures reads { S.reads source.new ≤ S.reads source.old + 1 }
     ensures later { S.faults source.old ≤ S.faults source.new }
-    ensures cause { IfErr result (λ e. e ≡ InputError.Failed → Rose (S.faults source.old) (S.faults source.new)) }
+    ensures cause { IfErr result (λ e.
+        e ≡ InputError.Failed → Rose (S.faults source.old) (S.faults source.new)) }
 {
     let count = match source.read(room) {
         Ok(count) => count,
@@ -56,11 +58,12 @@ pub fn read_input<S: Source>(alloc: Global, source: &mut S) -> Result<Vec<u8>, I
     ensures all { IfOk result (λ input. HasReadAll (S.left source.old) (S.left source.new) input.items) }
     ensures reads { S.reads source.new ≤ S.reads source.old + 16_777_217 }
     ensures later { S.faults source.old ≤ S.faults source.new }
-    ensures cause { IfErr result (λ e. e ≡ InputError.Failed → Rose (S.faults source.old) (S.faults source.new)) }
+    ensures cause { IfErr result (λ e.
+        e ≡ InputError.Failed → Rose (S.faults source.old) (S.faults source.new)) }
 {
     let mut room = [0u8; ROOM];
     let mut bytes = Vec::new(alloc);
-    for _turn in 0..MOST {
+    for _iteration in 0..MOST {
         let wanted = ROOM.min(MOST - bytes.len());
         if wanted == 0 {
             return Ok(bytes);

@@ -3,6 +3,8 @@
 #![tactic(auto)]
 
 mod answers;
+#[cfg(test)]
+mod clients_together;
 mod exit_status;
 #[cfg(test)]
 mod hostile;
@@ -13,8 +15,6 @@ mod program;
 mod simulations_overlap;
 #[cfg(test)]
 mod tests;
-#[cfg(test)]
-mod turns_of_clients;
 
 use aerie_base::OutOfMemory;
 use aerie_edge::{Open, StdSink, StdSource};

@@ -7,6 +7,7 @@ ghost use Rattle.command_line.specs.Grammar.{texts_of};
 ghost use Rattle.command_line.specs.Invocations.{HasNumbersWithin, invocation_of};
 ghost use Rattle.aerie.specs.Input.{HasRead};
 ghost use Rattle.aerie.specs.Output.{WritesAll, WritesFront};
+ghost use Rattle.aerie.specs.Promises.{DoesAsPromised, sink_of, source_of};
 ghost use Rattle.aerie.specs.Program.{ProgramAnswer, IsAnswerTo, is_answered, is_status, number_of_status, reads_input};
 
 use crate::answers::{Output, checked, made, named, performed};
@@ -32,12 +33,14 @@ fn output_for<R: Threads + Wait + Sync, S: Source, G: Gate, L: Ledger>(
     steps: &mut Steps<L>,
 ) -> Result<Output, InputError>
     requires within { HasNumbersWithin invocation.now }
-    ensures answered { IfOk result (IsAnswerTo (Some invocation.now) (S.left source.old) (S.left source.new)) }
+    ensures answered { IfOk result (IsAnswerTo (Some invocation.now)
+        (S.left source.old) (S.left source.new)) }
     ensures unread { reads_input (Some invocation.now) ≡ false → source.new ≡ source.old }
     ensures read { (input : List ℕ) × HasRead (S.left source.old) (S.left source.new) input }
     ensures reads { S.reads source.new ≤ S.reads source.old + 16_777_217 }
     ensures later { S.faults source.old ≤ S.faults source.new }
-    ensures cause { IfErr result (λ e. e ≡ InputError.Failed → Rose (S.faults source.old) (S.faults source.new)) }
+    ensures cause { IfErr result (λ e.
+        e ≡ InputError.Failed → Rose (S.faults source.old) (S.faults source.new)) }
     ensures steps { steps.old ≤ steps.new }
 {
     match invocation.mode {
@@ -65,12 +68,14 @@ fn output<R: Threads + Wait + Sync, S: Source, G: Gate, L: Ledger>(
     gate: &G,
     steps: &mut Steps<L>,
 ) -> Result<Output, InputError>
-    ensures answered { IfOk result (IsAnswerTo (invocation_of (texts_of words.now)) (S.left source.old) (S.left source.new)) }
+    ensures answered { IfOk result (IsAnswerTo (invocation_of (texts_of words.now))
+        (S.left source.old) (S.left source.new)) }
     ensures unread { reads_input (invocation_of (texts_of words.now)) ≡ false → source.new ≡ source.old }
     ensures read { (input : List ℕ) × HasRead (S.left source.old) (S.left source.new) input }
     ensures reads { S.reads source.new ≤ S.reads source.old + 16_777_217 }
     ensures later { S.faults source.old ≤ S.faults source.new }
-    ensures cause { IfErr result (λ e. e ≡ InputError.Failed → Rose (S.faults source.old) (S.faults source.new)) }
+    ensures cause { IfErr result (λ e.
+        e ≡ InputError.Failed → Rose (S.faults source.old) (S.faults source.new)) }
     ensures steps { steps.old ≤ steps.new }
 {
     match read_words(alloc, words)? {
@@ -99,27 +104,33 @@ pub fn aerie<R: Threads + Wait + Sync, S: Source, K: Sink, G: Gate, L: Ledger>(
     ensures answered { IsTrue (is_answered result) → (answer : ProgramAnswer)
         × IsAnswerTo (invocation_of (texts_of words.now)) (S.left source.old) (S.left source.new) answer
         × (result ≡ number_of_status answer.status)
-        × WritesAll (K.written sink.old) (K.written sink.new) (K.pieces sink.old) (K.pieces sink.new) answer.text }
+        × WritesAll (K.written sink.old) (K.written sink.new)
+        (K.pieces sink.old) (K.pieces sink.new) answer.text }
 
     // Where no session is performed or judged, nothing is read.
     ensures unread { reads_input (invocation_of (texts_of words.now)) ≡ false → source.new ≡ source.old }
 
     // With status 0 a source that was read was read to its end.
-    ensures whole { result ≡ 0 → reads_input (invocation_of (texts_of words.now)) ≡ true → IsAtEnd (S.left source.new) }
+    ensures whole { result ≡ 0 → reads_input (invocation_of (texts_of words.now)) ≡ true
+        → IsAtEnd (S.left source.new) }
 
     // A read failed: the source counted it, and nothing was written.
-    ensures read_failed { result ≡ 4 → Rose (S.faults source.old) (S.faults source.new) × (sink.new ≡ sink.old) }
+    ensures read_failed { result ≡ 4
+        → Rose (S.faults source.old) (S.faults source.new) × (sink.new ≡ sink.old) }
 
     // A write failed: the sink counted it, and exactly a front of the answer was written.
-    ensures write_failed { result ≡ 5 → Rose (K.faults sink.old) (K.faults sink.new) × ((answer : ProgramAnswer)
+    ensures write_failed { result ≡ 5 → Rose (K.faults sink.old) (K.faults sink.new)
+        × ((answer : ProgramAnswer)
         × IsAnswerTo (invocation_of (texts_of words.now)) (S.left source.old) (S.left source.new) answer
-        × WritesFront (K.written sink.old) (K.written sink.new) (K.pieces sink.old) (K.pieces sink.new) answer.text) }
+        × WritesFront (K.written sink.old) (K.written sink.new)
+        (K.pieces sink.old) (K.pieces sink.new) answer.text) }
 
     // Want of memory: nothing was written.
     ensures memory { result ≡ 6 → sink.new ≡ sink.old }
 
     // Where no count of faults rose, the answer was given and written, or memory was wanted.
-    ensures complete { ¬ (Rose (S.faults source.old) (S.faults source.new)) → ¬ (Rose (K.faults sink.old) (K.faults sink.new))
+    ensures complete { ¬ (Rose (S.faults source.old) (S.faults source.new))
+        → ¬ (Rose (K.faults sink.old) (K.faults sink.new))
         → IsTrue (is_answered result) ⊎ (result ≡ 6) }
 
     // Whatever the status: what is read, in how many reads, and what only rises.
@@ -151,23 +162,10 @@ fn counted<R: Threads + Wait + Sync, S: Source, K: Sink, G: Gate, L: Ledger>(
     requires name { blank.name ≡ L.name }
     requires parts { blank.parts ≡ L.parts }
     requires some { 0 < L.parts }
-    ensures statuses { IsTrue (is_status result) }
-    ensures answered { IsTrue (is_answered result) → (answer : ProgramAnswer)
-        × IsAnswerTo (invocation_of (texts_of words.now)) (S.left source.old) (S.left source.new) answer
-        × (result ≡ number_of_status answer.status)
-        × WritesAll (K.written sink.old) (K.written sink.new) (K.pieces sink.old) (K.pieces sink.new) answer.text }
-    ensures unread { reads_input (invocation_of (texts_of words.now)) ≡ false → source.new ≡ source.old }
-    ensures whole { result ≡ 0 → reads_input (invocation_of (texts_of words.now)) ≡ true → IsAtEnd (S.left source.new) }
-    ensures read_failed { result ≡ 4 → Rose (S.faults source.old) (S.faults source.new) × (sink.new ≡ sink.old) }
-    ensures write_failed { result ≡ 5 → Rose (K.faults sink.old) (K.faults sink.new) × ((answer : ProgramAnswer)
-        × IsAnswerTo (invocation_of (texts_of words.now)) (S.left source.old) (S.left source.new) answer
-        × WritesFront (K.written sink.old) (K.written sink.new) (K.pieces sink.old) (K.pieces sink.new) answer.text) }
-    ensures memory { result ≡ 6 → sink.new ≡ sink.old }
-    ensures complete { ¬ (Rose (S.faults source.old) (S.faults source.new)) → ¬ (Rose (K.faults sink.old) (K.faults sink.new))
-        → IsTrue (is_answered result) ⊎ (result ≡ 6) }
-    ensures read { (input : List ℕ) × HasRead (S.left source.old) (S.left source.new) input }
-    ensures reads { S.reads source.new ≤ S.reads source.old + 16_777_217 }
-    ensures faults { (S.faults source.old ≤ S.faults source.new) × (K.faults sink.old ≤ K.faults sink.new) }
+    ensures promised { DoesAsPromised
+        (source_of S.left S.reads S.faults source.old source.new)
+        (sink_of K.written K.pieces K.faults sink.old sink.new)
+        (invocation_of (texts_of words.now)) result }
 {
     let mut steps = Steps::<L>::open(blank);
     aerie(rt, alloc, words, source, sink, gate, &mut steps)
@@ -182,23 +180,10 @@ pub fn with_own_counter<R: Threads + Wait + Sync, S: Source, K: Sink, G: Gate>(
     sink: &mut K,
     gate: &G,
 ) -> u8
-    ensures statuses { IsTrue (is_status result) }
-    ensures answered { IsTrue (is_answered result) → (answer : ProgramAnswer)
-        × IsAnswerTo (invocation_of (texts_of words.now)) (S.left source.old) (S.left source.new) answer
-        × (result ≡ number_of_status answer.status)
-        × WritesAll (K.written sink.old) (K.written sink.new) (K.pieces sink.old) (K.pieces sink.new) answer.text }
-    ensures unread { reads_input (invocation_of (texts_of words.now)) ≡ false → source.new ≡ source.old }
-    ensures whole { result ≡ 0 → reads_input (invocation_of (texts_of words.now)) ≡ true → IsAtEnd (S.left source.new) }
-    ensures read_failed { result ≡ 4 → Rose (S.faults source.old) (S.faults source.new) × (sink.new ≡ sink.old) }
-    ensures write_failed { result ≡ 5 → Rose (K.faults sink.old) (K.faults sink.new) × ((answer : ProgramAnswer)
-        × IsAnswerTo (invocation_of (texts_of words.now)) (S.left source.old) (S.left source.new) answer
-        × WritesFront (K.written sink.old) (K.written sink.new) (K.pieces sink.old) (K.pieces sink.new) answer.text) }
-    ensures memory { result ≡ 6 → sink.new ≡ sink.old }
-    ensures complete { ¬ (Rose (S.faults source.old) (S.faults source.new)) → ¬ (Rose (K.faults sink.old) (K.faults sink.new))
-        → IsTrue (is_answered result) ⊎ (result ≡ 6) }
-    ensures read { (input : List ℕ) × HasRead (S.left source.old) (S.left source.new) input }
-    ensures reads { S.reads source.new ≤ S.reads source.old + 16_777_217 }
-    ensures faults { (S.faults source.old ≤ S.faults source.new) × (K.faults sink.old ≤ K.faults sink.new) }
+    ensures promised { DoesAsPromised
+        (source_of S.left S.reads S.faults source.old source.new)
+        (sink_of K.written K.pieces K.faults sink.old sink.new)
+        (invocation_of (texts_of words.now)) result }
 {
     counted::<R, S, K, G, Brand>(rt, alloc, words, source, sink, gate, Blank::new(1))
 }

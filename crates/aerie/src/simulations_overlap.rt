@@ -17,7 +17,7 @@ client a { fork x from main; simulate x; }
 client b { fork y from main; simulate y; }
 "#;
 
-/// At which turn a simulation that waits for another goes on without it.
+/// At which iteration a simulation that waits for another goes on without it.
 const MOST_TURNS: u64 = 1_000_000_000;
 
 /// A client's simulation has started; the other's had started before it went on.

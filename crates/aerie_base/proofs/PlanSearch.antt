@@ -16,39 +16,35 @@ there [] at h = absurd (omega arith)
 there (directive ∷ rest) zero h = (directive, refl)
 there (directive ∷ rest) (suc at) h = there rest at (omega arith)
 
+-- the directive at no later place has no greater id
+no_greater : (directives : List Directive) → Rise directives → (at then_at : ℕ) (found then_found : Directive) → at ≤ then_at →
+    slice_get directives at ≡ Some found → slice_get directives then_at ≡ Some then_found → found.id ≤ then_found.id
+no_greater directives rise at then_at found then_found no_later here there_is = go (nat_lt at then_at) refl
+  where
+    go : (b : Bool) → nat_lt at then_at ≡ b → found.id ≤ then_found.id
+    go true lt =
+        let rises : found.id < then_found.id = later_above rise.0 0 directives at then_at found then_found rise.1 here there_is (ltb-true at then_at lt) in
+        omega (arith, rises)
+    go false lt =
+        let no_less : then_at ≤ at = ltb-false at then_at lt in
+        let equal : at ≡ then_at = omega (arith, no_less, no_later) in
+        let one_is : found ≡ then_found = same_Some found then_found (sym here ∙ ap (slice_get directives) equal ∙ there_is) in
+        let id_is : found.id ≡ then_found.id = ap (λ (d : Directive). d.id) one_is in
+        omega (arith, id_is)
+
 pub below_more : (directives : List Directive) (middle here id : ℕ) → Rise directives → middle < length directives → IsIdAt directives middle here → here < id → AreBelow directives (middle + 1) id
 below_more directives middle here id rise within is less at found before e =
     let one = there directives middle within in
     let same : here ≡ one.0.id = is one.0 one.1 in
-    go one.0 same one.1 (nat_lt at middle) refl
-  where
-    go : (one : Directive) → here ≡ one.id → slice_get directives middle ≡ Some one → (b : Bool) → nat_lt at middle ≡ b → found.id < id
-    go one same there_is true lt =
-        let rises : found.id < one.id = later_above rise.0 0 directives at middle found one rise.1 e there_is (ltb-true at middle lt) in
-        omega (arith, rises, same, less)
-    go one same there_is false lt =
-        let no_less : middle ≤ at = ltb-false at middle lt in
-        let equal : at ≡ middle = omega (arith, no_less, before) in
-        let one_is : one ≡ found = same_Some one found (sym there_is ∙ ap (slice_get directives) (sym equal) ∙ e) in
-        let id_is : one.id ≡ found.id = ap (λ (d : Directive). d.id) one_is in
-        omega (arith, id_is, same, less)
+    let no_more : found.id ≤ one.0.id = no_greater directives rise at middle found one.0 (omega (arith, before)) e one.1 in
+    omega (arith, no_more, same, less)
 
 pub above_more : (directives : List Directive) (middle here id : ℕ) → Rise directives → middle < length directives → IsIdAt directives middle here → id < here → AreAbove directives middle id
 above_more directives middle here id rise within is less at found behind e =
     let one = there directives middle within in
     let same : here ≡ one.0.id = is one.0 one.1 in
-    go one.0 same one.1 (nat_lt middle at) refl
-  where
-    go : (one : Directive) → here ≡ one.id → slice_get directives middle ≡ Some one → (b : Bool) → nat_lt middle at ≡ b → id < found.id
-    go one same there_is true lt =
-        let rises : one.id < found.id = later_above rise.0 0 directives middle at one found rise.1 there_is e (ltb-true middle at lt) in
-        omega (arith, rises, same, less)
-    go one same there_is false lt =
-        let no_more : at ≤ middle = ltb-false middle at lt in
-        let equal : at ≡ middle = omega (arith, no_more, behind) in
-        let one_is : one ≡ found = same_Some one found (sym there_is ∙ ap (slice_get directives) (sym equal) ∙ e) in
-        let id_is : one.id ≡ found.id = ap (λ (d : Directive). d.id) one_is in
-        omega (arith, id_is, same, less)
+    let no_less : one.0.id ≤ found.id = no_greater directives rise middle at one.0 found behind one.1 e in
+    omega (arith, no_less, same, less)
 
 -- a place with the id is that of the directive with it
 pub found_at : (directives : List Directive) (middle here id : ℕ) → Rise directives → middle < length directives → IsIdAt directives middle here → here ≡ id →

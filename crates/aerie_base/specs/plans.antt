@@ -1,3 +1,5 @@
 pub mod OfModel
 pub mod RisingIds
+pub mod FoundById
+pub mod FollowedAnchors
 pub mod Cases

@@ -68,7 +68,7 @@ fn unit_micros(unit: &[u8]) -> Option<u64>
 
 /// The number that the digits write, or `None` above the longest duration. There may be any number of digits, so it
 /// ends at the first that leads above.
-#[tactic(auto, using(crate::proofs::Digits::value_more))]
+#[tactic(auto, using(crate::specs::DigitValues::value_more))]
 fn number_within_range(digits: &[u8]) -> Option<u64>
     requires { IsTrue (list_all is_ascii_digit digits.now) }
     ensures { result ≡ time_of (digits_value 10 digits.now) }

@@ -1,4 +1,6 @@
-ghost use Rattle.std.specs.Prelude.{◌≡◌, ◌↔◌, IsTrue, IfOk};
+ghost use Rattle.std.specs.Prelude.{◌≡◌, ◌↔◌, ◌≤◌, ◌*◌, ◌*ℤ◌, IsTrue, IfOk};
+ghost use Rattle.std.specs.Int.RustNames.{unsigned_abs};
+ghost use Rattle.aerie_base.specs.Ranges.{number_limit};
 
 use crate::containers::List;
 use crate::memory::OutOfMemory;
@@ -41,4 +43,15 @@ impl Linear {
     {
         self.constant == other.constant && same_list(self.terms.as_slice(), other.terms.as_slice())
     }
+}
+
+/// A number multiplied by the coefficient of a term.
+#[tactic(auto, using(crate::specs::Products::product_within))]
+pub fn product(coefficient: i128, number: i128) -> i128
+    requires coefficient { unsigned_abs coefficient ≤ 1_000_000 }
+    requires number { unsigned_abs number ≤ number_limit }
+    ensures value { result ≡ coefficient *ℤ number }
+    ensures small { unsigned_abs result ≤ 1_000_000 * unsigned_abs number }
+{
+    coefficient * number
 }

@@ -1,5 +1,5 @@
-ghost use Rattle.std.specs.Prelude.{◌≡◌, ◌↔◌, ◌<◌, IsTrue, IfOk, IfSome, option_and_then, slice_get, length};
-ghost use Rattle.aerie_base.specs.plans.OfModel.{with_id, Rise, IsIdAt};
+ghost use Rattle.std.specs.Prelude.{◌≡◌, ◌↔◌, ◌<◌, IsTrue, IfOk, IfSome, option_and_then, slice_get, length, refl};
+ghost use Rattle.aerie_base.specs.plans.OfModel.{with_id, Rise, IsIdAt, IsAnchorAt};
 
 use crate::containers::List;
 use crate::memory::OutOfMemory;
@@ -89,25 +89,56 @@ impl Directive {
     }
 }
 
-/// The id of the directive at a place.
-fn id_at(directives: &[Directive], at: usize) -> u32
-    requires { at < length directives.now }
-    ensures { IsIdAt directives.now at result }
-{
-    directives[at].id
+/// A directive of a plan, or of one that is being merged, whose ids may be wider. Contracts see a list of either as directives.
+pub trait HasIds: Sized {
+    ghost use Rattle.std.specs.Prelude.{◌≡◌, ℕ, List as Items, length};
+    ghost use Rattle.aerie_base.specs.declared.plans.Directive.{Directive as Shown};
+
+    /// The directives that they are seen as.
+    ghost as_directives: { Items Self → Items Shown };
+    /// As many.
+    ghost as_many: { (all : Items Self) → length (as_directives all) ≡ length all };
+
+    /// The id of the one at a place.
+    fn id_at(directives: &[Self], at: usize) -> u64
+        requires { at < length directives.now }
+        ensures { IsIdAt (as_directives directives.now) at result };
+
+    /// The id to which the one at a place is anchored.
+    fn anchor_at(directives: &[Self], at: usize) -> Option<u64>
+        requires { at < length directives.now }
+        ensures { IsAnchorAt (as_directives directives.now) at result };
+}
+
+impl HasIds for Directive {
+    ghost as_directives = { λ directives. directives };
+
+    ghost as_many = { λ directives. refl };
+
+    fn id_at(directives: &[Directive], at: usize) -> u64 {
+        u64::from(directives[at].id)
+    }
+
+    fn anchor_at(directives: &[Directive], at: usize) -> Option<u64> {
+        match directives[at].anchor {
+            Some(anchor) => Some(u64::from(anchor.to)),
+            None => None,
+        }
+    }
 }
 
 /// The place of the directive with an id among some whose ids rise, by a search that halves what is left.
-pub fn position_of_id(directives: &[Directive], id: u32) -> Option<usize>
-    requires rising { Rise directives.now }
-    ensures found { option_and_then (slice_get directives.now) result ≡ with_id directives.now id }
+pub fn position_of_id<D: HasIds>(directives: &[D], id: u64) -> Option<usize>
+    requires rising { Rise (D.as_directives directives.now) }
+    ensures found { option_and_then (slice_get (D.as_directives directives.now)) result
+        ≡ with_id (D.as_directives directives.now) id }
     ensures within { IfSome result (λ at. at < length directives.now) }
 {
     let mut from = 0;
     let mut to = directives.len();
     while from < to {
         let middle = from + (to - from) / 2;
-        let here = id_at(directives, middle);
+        let here = D::id_at(directives, middle);
         if here == id {
             return Some(middle);
         }
@@ -118,6 +149,15 @@ pub fn position_of_id(directives: &[Directive], id: u32) -> Option<usize>
         }
     }
     None
+}
+
+/// The place of the directive of a plan with an id.
+pub fn position_in_plan(directives: &[Directive], id: u32) -> Option<usize>
+    requires rising { Rise directives.now }
+    ensures found { option_and_then (slice_get directives.now) result ≡ with_id directives.now id }
+    ensures within { IfSome result (λ at. at < length directives.now) }
+{
+    position_of_id(directives, u64::from(id))
 }
 
 impl Plan {

@@ -10,7 +10,7 @@ pub Receives_nothing : (a : Option (List ℕ)) → Receives a a []
 Receives_nothing None = tt
 Receives_nothing (Some x) = sym (append-nil x)
 
--- what was received in two turns was received as a whole
+-- what was received in two iterations was received as a whole
 pub Receives_in_turn : (a b c : Option (List ℕ)) (xs ys : List ℕ) → Receives a b xs → Receives b c ys → Receives a c (xs ++ ys)
 Receives_in_turn None None None xs ys p q = tt
 Receives_in_turn None None (Some z) xs ys p q = absurd q

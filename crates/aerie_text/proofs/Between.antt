@@ -5,7 +5,7 @@ use Rattle.std.proofs.lemmas.Bool.Decides.{nat_tests}
 use Rattle.std.proofs.lemmas.List.{drop-take, get_or-append-add, length-take-le, take-append-drop, take-take, take_all, take_at, length-append}
 use Rattle.std.proofs.lemmas.List.Sums.{count_by-le-length, count_by_more_no, count_by_more_yes}
 use Rattle.std.proofs.lemmas.Str.{IsUtf8-take, chars-append}
-use Rattle.aerie_text.specs.Places.{chars_before, line_of}
+use Rattle.aerie_text.specs.Places.{chars_before, line_number}
 use Rattle.aerie_text.proofs.Columns.{Stands, chars_within}
 
 cut : (text : List ℕ) (from to : ℕ) → from ≤ to → take to text ≡ take from text ++ take (to - from) (drop from text)
@@ -26,12 +26,12 @@ pub stands_behind : (all before between : List ℕ) (n c : ℕ) → all ≡ befo
 stands_behind all before between n c split at =
     rw split (omega (arith, at.0, length-append before between), at.1 ∙ sym (get_or-append-add before between n c))
 
-pub line_on : (cs : List ℕ) (n c : ℕ) → Stands cs n c → c ≡ 10 → line_of (take (n + 1) cs) ≡ line_of (take n cs) + 1
+pub line_on : (cs : List ℕ) (n c : ℕ) → Stands cs n c → c ≡ 10 → line_number (take (n + 1) cs) ≡ line_number (take n cs) + 1
 line_on cs n c at feed =
     let passes : (get_or cs n c == 10) ≡ true = rw (sym at.1, feed) refl in
     ap (λ (m : ℕ). m + 1) (count_by_more_yes (λ (x : ℕ). x == 10) cs n c at.0 passes)
 
-pub line_same : (cs : List ℕ) (n c : ℕ) → Stands cs n c → (c ≡ 10 → ⊥) → line_of (take (n + 1) cs) ≡ line_of (take n cs)
+pub line_same : (cs : List ℕ) (n c : ℕ) → Stands cs n c → (c ≡ 10 → ⊥) → line_number (take (n + 1) cs) ≡ line_number (take n cs)
 line_same cs n c at other =
     let fails : (get_or cs n c == 10) ≡ false = rw (sym at.1) (differs c other) in
     ap (λ (m : ℕ). m + 1) (count_by_more_no (λ (x : ℕ). x == 10) cs n c at.0 fails)
@@ -40,7 +40,7 @@ line_same cs n c at other =
     differs c other = grind (arith, nat_tests)
 
 -- a line is at most one more than the characters
-pub line_within : (cs : List ℕ) (n : ℕ) → n ≤ length cs → line_of (take n cs) ≤ n + 1
+pub line_within : (cs : List ℕ) (n : ℕ) → n ≤ length cs → line_number (take n cs) ≤ n + 1
 line_within cs n le = omega (arith, count_by-le-length (λ (x : ℕ). x == 10) (take n cs), length-take-le n cs le)
 
 -- the characters before a place are at most the bytes of the text

@@ -1,7 +1,6 @@
 pub mod Bytes
 pub mod Cut
 pub mod Gaps
-pub mod Json
 pub mod Marks
 pub mod Numerals
 pub mod Places

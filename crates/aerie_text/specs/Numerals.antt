@@ -1,5 +1,5 @@
 -- Runs of digits: numbers and durations.
-use Rattle.std.specs.Prelude.{◌≡◌, ℕ, ◌+◌, ◌&&◌, Bool, List, [], ◌∷◌, take, drop, length, Option, Some, None, is_some, nat_eq, nat_le, codes, if◌then◌else◌, refl}
+use Rattle.std.specs.Prelude.{◌≡◌, ℕ, ◌+◌, ◌&&◌, Bool, List, [], ◌∷◌, take, drop, length, map, Option, Some, None, is_some, nat_eq, nat_le, codes, if◌then◌else◌, refl}
 use Rattle.std.specs.Char.{is_ascii_digit}
 use Rattle.std.specs.List.{prefix_len, starts_with}
 use Rattle.std.specs.Str.Parse.{digits_value}
@@ -51,90 +51,33 @@ digits_at text =
 
 -- ---- worked cases
 
-pub nineteen_digits : digits_at (codes "0000000000000000007 ") ≡ Some (Number, 19)
-unfolding digits_at
-nineteen_digits = refl
+-- texts, and the token of the digits in front of each
+abbrev pub worked_digits : List (List ℕ × Option (TokenKind × ℕ))
+worked_digits =
+    (codes "0000000000000000007 ", Some (Number, 19)) ∷  -- nineteen digits
+    (codes "00000000000000000007", None) ∷  -- twenty digits
+    (codes "1000000000000000000", Some (Number, 19)) ∷  -- greatest number
+    (codes "1000000000000000001", None) ∷  -- above the greatest
+    (codes "5x", None) ∷  -- a letter behind
+    (codes "5_", None) ∷  -- an underscore behind
+    (codes "5m", None) ∷  -- a part of a unit
+    (codes "5minx", Some (Duration, 4)) ∷  -- a unit and a letter
+    (53 ∷ 195 ∷ 169 ∷ [], Some (Number, 1)) ∷  -- no ascii letter
+    (codes "1000000000000000us", Some (Duration, 18)) ∷  -- longest in microseconds
+    (codes "1000000000000001us", None) ∷  -- longer in microseconds
+    (codes "1000000000000ms", Some (Duration, 15)) ∷  -- longest in milliseconds
+    (codes "1000000000001ms", None) ∷  -- longer in milliseconds
+    (codes "1000000000s", Some (Duration, 11)) ∷  -- longest in seconds
+    (codes "1000000001s", None) ∷  -- longer in seconds
+    (codes "16666666min", Some (Duration, 11)) ∷  -- longest in minutes
+    (codes "16666667min", None) ∷  -- longer in minutes
+    (codes "277777h", Some (Duration, 7)) ∷  -- longest in hours
+    (codes "277778h", None) ∷  -- longer in hours
+    (codes "11574d", Some (Duration, 6)) ∷  -- longest in days
+    (codes "11575d", None) ∷  -- longer in days
+    (codes "0000000000000000000000005us", Some (Duration, 27)) ∷  -- leading zeros
+    []
 
-pub twenty_digits : digits_at (codes "00000000000000000007") ≡ None
+pub digits_as_worked : map (λ row. digits_at row.0) worked_digits ≡ map (λ row. row.1) worked_digits
 unfolding digits_at
-twenty_digits = refl
-
-pub greatest_number : digits_at (codes "1000000000000000000") ≡ Some (Number, 19)
-unfolding digits_at
-greatest_number = refl
-
-pub above_the_greatest : digits_at (codes "1000000000000000001") ≡ None
-unfolding digits_at
-above_the_greatest = refl
-
-pub a_letter_behind : digits_at (codes "5x") ≡ None
-unfolding digits_at
-a_letter_behind = refl
-
-pub an_underscore_behind : digits_at (codes "5_") ≡ None
-unfolding digits_at
-an_underscore_behind = refl
-
-pub a_part_of_a_unit : digits_at (codes "5m") ≡ None
-unfolding digits_at
-a_part_of_a_unit = refl
-
-pub a_unit_and_a_letter : digits_at (codes "5minx") ≡ Some (Duration, 4)
-unfolding digits_at
-a_unit_and_a_letter = refl
-
-pub no_ascii_letter : digits_at (53 ∷ 195 ∷ 169 ∷ []) ≡ Some (Number, 1)
-unfolding digits_at
-no_ascii_letter = refl
-
-pub longest_in_microseconds : digits_at (codes "1000000000000000us") ≡ Some (Duration, 18)
-unfolding digits_at
-longest_in_microseconds = refl
-
-pub longer_in_microseconds : digits_at (codes "1000000000000001us") ≡ None
-unfolding digits_at
-longer_in_microseconds = refl
-
-pub longest_in_milliseconds : digits_at (codes "1000000000000ms") ≡ Some (Duration, 15)
-unfolding digits_at
-longest_in_milliseconds = refl
-
-pub longer_in_milliseconds : digits_at (codes "1000000000001ms") ≡ None
-unfolding digits_at
-longer_in_milliseconds = refl
-
-pub longest_in_seconds : digits_at (codes "1000000000s") ≡ Some (Duration, 11)
-unfolding digits_at
-longest_in_seconds = refl
-
-pub longer_in_seconds : digits_at (codes "1000000001s") ≡ None
-unfolding digits_at
-longer_in_seconds = refl
-
-pub longest_in_minutes : digits_at (codes "16666666min") ≡ Some (Duration, 11)
-unfolding digits_at
-longest_in_minutes = refl
-
-pub longer_in_minutes : digits_at (codes "16666667min") ≡ None
-unfolding digits_at
-longer_in_minutes = refl
-
-pub longest_in_hours : digits_at (codes "277777h") ≡ Some (Duration, 7)
-unfolding digits_at
-longest_in_hours = refl
-
-pub longer_in_hours : digits_at (codes "277778h") ≡ None
-unfolding digits_at
-longer_in_hours = refl
-
-pub longest_in_days : digits_at (codes "11574d") ≡ Some (Duration, 6)
-unfolding digits_at
-longest_in_days = refl
-
-pub longer_in_days : digits_at (codes "11575d") ≡ None
-unfolding digits_at
-longer_in_days = refl
-
-pub leading_zeros : digits_at (codes "0000000000000000000000005us") ≡ Some (Duration, 27)
-unfolding digits_at
-leading_zeros = refl
+digits_as_worked = refl

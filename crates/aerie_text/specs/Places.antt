@@ -10,15 +10,15 @@ abbrev pub chars_before : List ℕ → ℕ → List ℕ
 chars_before text at = chars (take at text)
 
 -- 1 and the line feeds before the place
-abbrev pub line_of : List ℕ → ℕ
-line_of before = count_by (λ c. c == 10) before + 1
+abbrev pub line_number : List ℕ → ℕ
+line_number before = count_by (λ c. c == 10) before + 1
 
 -- 1 and the characters before the place behind the last line feed there
 abbrev pub column_of : List ℕ → ℕ
 column_of before = suffix_len is_in_line before + 1
 
 abbrev pub place_of : List ℕ → ℕ → Place
-place_of text at = record { line = line_of (chars_before text at); column = column_of (chars_before text at) }
+place_of text at = record { line = line_number (chars_before text at); column = column_of (chars_before text at) }
 
 -- ---- worked cases
 

@@ -1,5 +1,5 @@
 -- The token that begins at a place: the longest that matches there.
-use Rattle.std.specs.Prelude.{◌≡◌, ℕ, ◌==◌, List, [], ◌∷◌, Option, None, Some, nat_le, codes, replicate, option_map, if◌then◌else◌, refl}
+use Rattle.std.specs.Prelude.{◌≡◌, ℕ, ◌==◌, List, [], ◌∷◌, Option, None, Some, nat_le, codes, map, replicate, option_map, if◌then◌else◌, refl}
 use Rattle.std.specs.Char.{is_ascii_digit}
 use Rattle.std.specs.List.{prefix_len}
 use Rattle.aerie_text.specs.Bytes.{is_letter, is_word_byte}
@@ -35,34 +35,19 @@ token_at (first ∷ rest) =
 
 -- ---- worked cases
 
-pub a_word : token_at (codes "_a1 b") ≡ Some (Word, 3)
-unfolding token_at
-a_word = refl
+-- texts, and the token in front of each
+abbrev pub worked_tokens : List (List ℕ × Option (TokenKind × ℕ))
+worked_tokens =
+    (codes "_a1 b", Some (Word, 3)) ∷  -- a word
+    (replicate 64 97, Some (Word, 64)) ∷  -- longest word
+    (replicate 65 97, None) ∷  -- longer word
+    (codes "\"a\"b", Some (Quoted, 3)) ∷  -- quoted
+    (codes "\"a", None) ∷  -- open quote
+    (codes "`a\n`", Some (Raw, 4)) ∷  -- raw
+    (195 ∷ 169 ∷ [], None) ∷  -- no ascii letter
+    (codes "", None) ∷  -- nothing
+    []
 
-pub longest_word : token_at (replicate 64 97) ≡ Some (Word, 64)
-unfolding token_at
-longest_word = refl
-
-pub longer_word : token_at (replicate 65 97) ≡ None
-unfolding token_at
-longer_word = refl
-
-pub quoted : token_at (codes "\"a\"b") ≡ Some (Quoted, 3)
-unfolding token_at
-quoted = refl
-
-pub open_quote : token_at (codes "\"a") ≡ None
-unfolding token_at
-open_quote = refl
-
-pub raw : token_at (codes "`a\n`") ≡ Some (Raw, 4)
-unfolding token_at
-raw = refl
-
-pub no_ascii_letter : token_at (195 ∷ 169 ∷ []) ≡ None
+pub tokens_as_worked : map (λ row. token_at row.0) worked_tokens ≡ map (λ row. row.1) worked_tokens
 unfolding token_at symbol_len
-no_ascii_letter = refl
-
-pub nothing : token_at (codes "") ≡ None
-unfolding token_at
-nothing = refl
+tokens_as_worked = refl

@@ -1,11 +1,9 @@
-//! Texts of sessions and of answers: the tokens that a text is cut into, the place of a byte for a reader, and JSON in
-//! lines.
+//! Texts of sessions: the tokens that a text is cut into, and the place of a byte for a reader.
 #![tactic(auto)]
 
 mod bytes;
 mod counts;
 mod gaps;
-mod json;
 mod longest;
 mod numerals;
 mod places;
@@ -17,7 +15,6 @@ mod text_error;
 mod token;
 
 pub use counts::count_of;
-pub use json::{line, object, text_value};
 pub use places::{place_of, place_on};
 pub use scanner::tokens;
 pub use sorts::{Sort, sort_of_kind};

@@ -2,7 +2,7 @@
 
 ghost use Rattle.std.specs.Prelude.{◌≡◌, ◌<◌, ◌≤◌, length};
 ghost use Rattle.std.specs.Str.{IsCharBoundary, chars};
-ghost use Rattle.aerie_text.specs.Places.{column_of, line_of, place_of};
+ghost use Rattle.aerie_text.specs.Places.{column_of, line_number, place_of};
 
 use aerie_base::Place;
 
@@ -15,7 +15,7 @@ pub fn place_of(text: &str, at: usize) -> Place
 {
     let before = &text[..at];
     Place {
-        line: line_of(before),
+        line: line_number(before),
         column: column_of(before),
     }
 }
@@ -43,9 +43,9 @@ pub fn place_on(text: &str, from: usize, to: usize, place: Place) -> Place
 }
 
 /// 1 and the line feeds of a text.
-fn line_of(text: &str) -> u32
+fn line_number(text: &str) -> u32
     requires { length text.now < 4_294_967_295 }
-    ensures { result ≡ line_of (chars text.now) }
+    ensures { result ≡ line_number (chars text.now) }
 {
     let count = text.chars().filter(|c| *c == '\n').count();
     count as u32 + 1

@@ -2,6 +2,7 @@
 use Rattle.std.specs.Prelude.{◌≡◌, ℕ}
 use Rattle.aerie_base.specs.declared.models.model.Parts.{Parts}
 use Rattle.aerie_base.specs.declared.plans.Plan.{Plan}
+use Rattle.run_data.specs.Fresh.{IsFresh}
 use Rattle.run_data.specs.KeptRuns.{KeptRun}
 
 pub record BenchOf : Type 0 where
@@ -25,3 +26,9 @@ pub record IsKeptFor (bench : BenchOf) (planned : Plan) (kept : KeptRun) : Type 
   pub model : kept.model ≡ bench.model
   pub plan : kept.run.plan ≡ planned
   pub bound : kept.run.bound ≡ bench.bound
+
+-- it is the fresh run of the plan
+pub record IsMadeFor (bench : BenchOf) (planned : Plan) (kept : KeptRun) : Type 0 where
+  pub model : kept.model ≡ bench.model
+  pub plan : kept.run.plan ≡ planned
+  pub fresh : IsFresh bench.model planned bench.bound kept.run

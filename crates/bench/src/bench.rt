@@ -6,7 +6,7 @@ ghost use Rattle.aerie_base.specs.plans.OfModel.{IsPlanOf};
 ghost use Rattle.run_data.specs.Fresh.{IsFresh};
 ghost use Rattle.run_data.specs.Waves.{last_count, RoseAlike};
 ghost use Rattle.engine_core.specs.RunFrames.{PaysForRun};
-ghost use Rattle.bench.specs.Benches.{IsKeptFor, IsSameBench};
+ghost use Rattle.bench.specs.Benches.{IsKeptFor, IsMadeFor, IsSameBench};
 
 use crate::compiled_model::CompiledModel;
 use aerie_base::{Model, OutOfMemory, Plan, Shared, Steps};
@@ -98,7 +98,7 @@ impl<'a> Bench<'a> {
                 return kept.share();
             }
         }
-        self.simulate_anew(alloc, plan, steps, looks)
+        self.simulate_from_start(alloc, plan, steps, looks)
     }
 
     /// Whether a kept run is the fresh run of the plan for this model and under this bound.
@@ -120,7 +120,7 @@ impl<'a> Bench<'a> {
     }
 
     /// The kept fresh run of the plan, which is simulated.
-    fn simulate_anew<L: Ledger, K: Ledger>(
+    fn simulate_from_start<L: Ledger, K: Ledger>(
         &mut self,
         alloc: Global,
         plan: &Plan,
@@ -128,9 +128,7 @@ impl<'a> Bench<'a> {
         looks: &mut Steps<K>,
     ) -> Result<Shared<Kept>, OutOfMemory>
         requires plan { IsPlanOf self.old.model plan.now }
-        ensures model_of { IfOk result (λ kept. kept.model ≡ self.old.model) }
-        ensures plan_of { IfOk result (λ kept. kept.run.plan ≡ plan.now) }
-        ensures fresh { IfOk result (λ kept. IsFresh self.old.model plan.now self.old.bound kept.run) }
+        ensures made { IfOk result (IsMadeFor self.old plan.now) }
         ensures counted { OnOk result (RoseAlike 0 steps.old self.new.statements steps.new) }
         ensures frugal { IfOk result (λ kept. PaysForRun kept.run [] steps.old steps.new) }
         ensures steps { steps.old ≤ steps.new }
@@ -167,7 +165,7 @@ impl<'a> Simulator for Bench<'a> {
 
     ghost bound = { λ bench. bench.bound };
 
-    ghost anchor = { λ bench. bench.model_at };
+    ghost address = { λ bench. bench.model_at };
 
     ghost shares = { Unit {0} };
 

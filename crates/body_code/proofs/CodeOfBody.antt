@@ -9,7 +9,7 @@ use Rattle.body_code.specs.declared.instructions.Instruction.{Instruction}
 use Rattle.body_code.specs.declared.instructions.Instruction.TheVariants.{End}
 use Rattle.body_code.proofs.Lengths.{block_length, lefts_block_length}
 use Rattle.body_code.proofs.DenotingCode.{Has, Fine, Shows, has_front, has_back, has_all, fine_both, fine_at, block_shows, stmt_shows}
-use Rattle.body_code.proofs.JumpingCode.{HasCode, AllTurn, Turning, code_front, code_all, turn_both, turn_at, block_turn, stmt_turn}
+use Rattle.body_code.proofs.JumpingCode.{HasCode, AllJumpsEnd, JumpsEndIn, code_front, code_all, jumps_end_both, jumps_end_at, block_jumps_end, stmt_jumps_end}
 
 -- ---- a body's code
 
@@ -29,14 +29,14 @@ is_code body code e =
     let fine' : Fine left_at places 0 code = subst (Fine left_at places 0) (sym e) fine in
     let whole = block_code body 0 ++ End ∷ [] in
     let has : HasCode code 0 whole = subst (λ c. HasCode c 0 whole) (sym e) (code_all whole []) in
-    let over : AllTurn code last_place (End ∷ []) = (tt, tt) in
-    let turn : AllTurn code 0 whole = turn_both code 0 last_place (block_code body 0) (End ∷ []) (omega (arith, block_length body 0)) (block_turn code body (each (Turning code) (stmt_turn code) body) 0 (code_front code 0 (block_code body 0) (End ∷ []) has)) over in
-    let turn' : AllTurn code 0 code = subst (AllTurn code 0) (sym e) turn in
+    let over : AllJumpsEnd code last_place (End ∷ []) = (tt, tt) in
+    let ends : AllJumpsEnd code 0 whole = jumps_end_both code 0 last_place (block_code body 0) (End ∷ []) (omega (arith, block_length body 0)) (block_jumps_end code body (each (JumpsEndIn code) (stmt_jumps_end code) body) 0 (code_front code 0 (block_code body 0) (End ∷ []) has)) over in
+    let iteration' : AllJumpsEnd code 0 code = subst (AllJumpsEnd code 0) (sym e) ends in
     record {
       begins = part.1 ∙ append-nil (placed 0 body);
       places = long;
       denotes = λ at instruction k. (let z : 0 + at ≡ at = omega arith in subst (λ outer. Denotes left_at places outer instruction) z (fine_at left_at places 0 at code instruction fine' k));
-      jumps_end = λ at instruction k. (let z : 0 + at ≡ at = omega arith in subst (λ outer. JumpsEnd code outer instruction) z (turn_at code 0 at code instruction turn' k));
+      jumps_end = λ at instruction k. (let z : 0 + at ≡ at = omega arith in subst (λ outer. JumpsEnd code outer instruction) z (jumps_end_at code 0 at code instruction iteration' k));
     }
 
 -- ---- what is written for a body

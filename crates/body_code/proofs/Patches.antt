@@ -89,9 +89,9 @@ simple_else stmt h k = simple_else' (out-Stmt stmt)
 pub one_more : (stmt x : Stmt) (code code_after : List Instruction) → is_simple stmt ≡ true → x ≡ stmt → code_after ≡ code ++ Do x ∷ [] → code_after ≡ code ++ code_of stmt (length code)
 one_more stmt x code code_after h e k = k ∙ ap (λ y. code ++ Do y ∷ []) e ∙ ap (λ l. code ++ l) (sym (code_simple stmt h (length code)))
 
--- a turn of the loop over a block
-pub turn_code : (stmts : List Stmt) (index : ℕ) (stmt : Stmt) (code code_after e : List Instruction) → index < length stmts → stmt ≡ get_or stmts index stmt → code_after ≡ code ++ code_of stmt (length code) → code ++ block_code (drop index stmts) (length code) ≡ e → code_after ++ block_code (drop (index + 1) stmts) (length code_after) ≡ e
-turn_code stmts index stmt code code_after e lt is_it k h =
+-- a iteration of the loop over a block
+pub iteration_code : (stmts : List Stmt) (index : ℕ) (stmt : Stmt) (code code_after e : List Instruction) → index < length stmts → stmt ≡ get_or stmts index stmt → code_after ≡ code ++ code_of stmt (length code) → code ++ block_code (drop index stmts) (length code) ≡ e → code_after ++ block_code (drop (index + 1) stmts) (length code_after) ≡ e
+iteration_code stmts index stmt code code_after e lt is_it k h =
     let n : length code_after ≡ length code + size stmt = omega (arith, ap length k, length-append code (code_of stmt (length code)), code_length stmt (length code)) in
     let cut : drop index stmts ≡ stmt ∷ drop (index + 1) stmts = rw (add-one, drop-cons stmts index stmt) (ap (λ x. x ∷ drop (suc index) stmts) (sym is_it)) in
     ap (λ m. code_after ++ block_code (drop (index + 1) stmts) m) n

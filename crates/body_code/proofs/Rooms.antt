@@ -56,9 +56,9 @@ body_less stmt test block also_given n e k code_after = omega (arith, ap size-St
 pub room_all : (body : List Stmt) (code : List Instruction) → code ≡ [] → block_count body ≤ statement_limit → length code + block_size body < 4294967296
 room_all body code e h = omega (arith, ap length e, block_few body)
 
--- the room after a turn of the loop over a block
-pub turn_room : (stmts : List Stmt) (index : ℕ) (stmt : Stmt) (code code_after : List Instruction) (m : ℕ) → index < length stmts → stmt ≡ get_or stmts index stmt → code_after ≡ code ++ code_of stmt (length code) → length code + block_size (drop index stmts) ≡ m → length code_after + block_size (drop (index + 1) stmts) ≡ m
-turn_room stmts index stmt code code_after m lt is_it k h =
+-- the room after a iteration of the loop over a block
+pub iteration_room : (stmts : List Stmt) (index : ℕ) (stmt : Stmt) (code code_after : List Instruction) (m : ℕ) → index < length stmts → stmt ≡ get_or stmts index stmt → code_after ≡ code ++ code_of stmt (length code) → length code + block_size (drop index stmts) ≡ m → length code_after + block_size (drop (index + 1) stmts) ≡ m
+iteration_room stmts index stmt code code_after m lt is_it k h =
     let n : length code_after ≡ length code + size stmt = omega (arith, ap length k, length-append code (code_of stmt (length code)), code_length stmt (length code)) in
     let cut : drop index stmts ≡ stmt ∷ drop (index + 1) stmts = rw (add-one, drop-cons stmts index stmt) (ap (λ x. x ∷ drop (suc index) stmts) (sym is_it)) in
     omega (arith, ap block_size cut)

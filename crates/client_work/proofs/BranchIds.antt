@@ -6,26 +6,27 @@ use Rattle.std.specs.Cmp.Lexicographic.{bytes_decides}
 use Rattle.std.proofs.lemmas.Option.{none-some, same_Some}
 use Rattle.aerie_base.specs.declared.plans.Plan.{Plan}
 use Rattle.aerie_base.specs.models.Names.{same_name}
-use Rattle.plan_edit.specs.Editing.{add_of, move_of, remove_of, set_of}
-use Rattle.plan_edit.specs.Loading.{load_of}
 use Rattle.run_data.specs.KeptRuns.{KeptRun}
+use Rattle.commands.specs.Edits.{edit_of}
 use Rattle.hangar_core.specs.declared.actions.Action.{Action}
-use Rattle.hangar_core.specs.declared.actions.Action.TheVariants.{New, Fork, Drop, Add, Remove, Move, Set, Load, Migrate, Fetch, Attach, Place}
+use Rattle.hangar_core.specs.declared.actions.Action.TheVariants.{New, Fork, Drop, Edit, Migrate, Fetch, Attach, Place}
 use Rattle.hangar_core.specs.declared.branches.Branch.{Branch}
-use Rattle.hangar_core.specs.declared.commands.Command.{Command}
+use Rattle.commands.specs.declared.commands.Command.{Command}
 use Rattle.hangar_core.specs.declared.replies.Reply.{Reply}
 use Rattle.hangar_core.specs.declared.replies.Reply.TheVariants as reply
 use Rattle.hangar_core.specs.declared.workspaces.Workspace.{Workspace}
-use Rattle.hangar_core.specs.Changing.{Told as Changed, attached, fetched, migrated_branch, placed_branch, told_added, told_edited, told_loaded, with_plan}
+use Rattle.hangar_core.specs.Changing.{Told as Changed, attached, fetched, migrated_branch, placed_branch, with_plan}
+use Rattle.hangar_core.specs.Edits.{told_of}
 use Rattle.hangar_core.specs.Fits.{Fits, Meanings}
 use Rattle.hangar_core.specs.Journals.{Entries, IsReplay, after_entries}
-use Rattle.hangar_core.specs.Opening.{empty_plan, forked_from, opened, opened_unless, refusal_to_open}
+use Rattle.commands.specs.SessionModels.{empty_plan}
+use Rattle.hangar_core.specs.Opening.{forked_from, opened, opened_unless, refusal_to_open}
 use Rattle.hangar_core.specs.Steps.{after_actions, step}
 use Rattle.hangar_core.specs.Workspaces.{branch_named, has_name, on_branch, on_found, put_where_named}
 use Rattle.hangar_core.specs.laws.Histories.{RevisionsNamePlans}
 use Rattle.hangar_core.specs.laws.Isolation.{OtherBranchesStay, only_branch}
 use Rattle.client_work.proofs.PlaceOrigins.{MeaningsGoOn, Told, place_origin}
-use Rattle.client_work.proofs.EditedIds.{GoesOn, Rises, add_goes, attached_rises, edited_rises, fetched_rises, goes_further, goes_nowhere, load_goes, migrated_rises, move_goes, remove_goes, set_goes, stays}
+use Rattle.client_work.proofs.EditedIds.{GoesOn, Rises, attached_rises, edit_goes, edited_rises, fetched_rises, goes_further, goes_nowhere, migrated_rises, stays}
 
 -- ---- branches by name
 
@@ -144,21 +145,9 @@ module _ (others_stay : OtherBranchesStay) where
   step_stands w (New on) name before there stays placed = opened_still w on (empty_plan w.duration) None name before there
   step_stands w (Fork on source) name before there stays placed = forked_still w on (branch_named w source) name before there
   step_stands w (Drop on) name before there stays placed = on_one (Drop on) on name w before refl there (λ same. absurd (stays (ap Drop same)))
-  step_stands w (Add on at kind arguments) name before there stays placed =
-      on_one (Add on at kind arguments) on name w before refl there
-      (on_own on name w _ before there (edited_rises w.models (λ model plan. add_of model plan at kind arguments) told_added (λ model plan. add_goes model plan at kind arguments) before))
-  step_stands w (Remove on id) name before there stays placed =
-      on_one (Remove on id) on name w before refl there
-      (on_own on name w _ before there (edited_rises w.models (λ model plan. remove_of plan id) told_edited (λ model plan. remove_goes plan id) before))
-  step_stands w (Move on id at) name before there stays placed =
-      on_one (Move on id at) on name w before refl there
-      (on_own on name w _ before there (edited_rises w.models (λ model plan. move_of plan id at) told_edited (λ model plan. move_goes plan id at) before))
-  step_stands w (Set on id parameter value) name before there stays placed =
-      on_one (Set on id parameter value) on name w before refl there
-      (on_own on name w _ before there (edited_rises w.models (λ model plan. set_of model plan id parameter value) told_edited (λ model plan. set_goes model plan id parameter value) before))
-  step_stands w (Load on text) name before there stays placed =
-      on_one (Load on text) on name w before refl there
-      (on_own on name w _ before there (edited_rises w.models (λ model plan. load_of model plan text) told_loaded (λ model plan. load_goes model plan text) before))
+  step_stands w (Edit on edit) name before there stays placed =
+      on_one (Edit on edit) on name w before refl there
+      (on_own on name w _ before there (edited_rises w.models (edit_of edit) (told_of edit) (edit_goes edit) before))
   step_stands w (Migrate on model) name before there stays placed =
       on_one (Migrate on model) on name w before refl there (on_own on name w (migrated_branch w.models w.mappings model) before there (migrated_rises w.models w.mappings model before))
   step_stands w (Fetch on) name before there stays placed = on_one (Fetch on) on name w before refl there (on_own on name w fetched before there (fetched_rises before))

@@ -3,18 +3,18 @@ use Rattle.std.proofs.Common.{◌≡◌, refl, sym, ap, subst, ◌∙◌, ℕ, �
 use Rattle.std.specs.List.{AllByRecursion}
 use Rattle.std.proofs.lemmas.List.{append-nil, append_assoc}
 use Rattle.hangar_core.specs.declared.actions.Action.{Action}
-use Rattle.hangar_core.specs.declared.commands.Command.{Command}
+use Rattle.commands.specs.declared.commands.Command.{Command}
 use Rattle.hangar_core.specs.declared.replies.Reply.{Reply}
 use Rattle.hangar_core.specs.Fits.{next_action}
 use Rattle.hangar_lock.specs.Passes.{LockView, PassView}
 use Rattle.hangar_lock.specs.Places.{Places}
-use Rattle.hangar_lock.specs.Works.{RisesTo}
+use Rattle.hangar_lock.specs.ClientEntries.{RisesTo}
 use Rattle.report_text.specs.declared.answers.Answer.{Answer}
 use Rattle.client_work.specs.declared.missions.Mission.{Mission}
-use Rattle.client_work.specs.declared.turns.ClientCommand.{ClientCommand}
+use Rattle.client_work.specs.declared.workplace.ClientCommand.{ClientCommand}
 use Rattle.client_work.specs.Meanings.{meanings_of}
 use Rattle.client_work.specs.Told.{command_told, count_told}
-use Rattle.client_work.specs.Working.{entry_of, replies_of, HasGained, HasOneMore, IsCount, IsCarriedOn, IsReplyAt}
+use Rattle.client_work.specs.Working.{begun_with, entry_of, replies_of, HasGained, HasOneMore, IsCount, IsCarriedOn, IsReplyAt, work_state_at}
 
 -- ---- places that rise
 
@@ -48,11 +48,11 @@ none_gained pass = record {
 
 -- ---- commands
 
-module _ (mission : Mission) (turn : ClientCommand) (command : Command) (steps_before steps_after : ℕ) (answer : Answer) where
+module _ (mission : Mission) (whose : ClientCommand) (command : Command) (steps_before steps_after : ℕ) (answer : Answer) where
   -- a command that is over
   pub over : (replies : List Reply) (pass : PassView) (statements : ℕ) → next_action (meanings_of mission.models mission.bound) command replies ≡ None →
       IsCount command statements steps_before steps_after → answer ≡ command_told mission (count_told mission statements) command replies →
-      IsCarriedOn mission turn command replies pass pass steps_before steps_after answer
+      IsCarriedOn (begun_with mission whose command replies) (work_state_at pass steps_before) (work_state_at pass steps_after) answer
   over replies pass statements none counted told = record {
     gained = [];
     gains = none_gained pass;
@@ -66,11 +66,11 @@ module _ (mission : Mission) (turn : ClientCommand) (command : Command) (steps_b
   -- one that goes on with an action
   pub goes_on : (replies : List Reply) (before middle after : PassView) (action : Action) (reply : Reply) →
       next_action (meanings_of mission.models mission.bound) command replies ≡ Some action →
-      HasOneMore before middle (entry_of turn (length replies) action) reply →
-      IsCarriedOn mission turn command (replies ++ (reply ∷ [])) middle after steps_before steps_after answer →
-      IsCarriedOn mission turn command replies before after steps_before steps_after answer
+      HasOneMore before middle (entry_of whose (length replies) action) reply →
+      IsCarriedOn (begun_with mission whose command (replies ++ (reply ∷ []))) (work_state_at middle steps_before) (work_state_at after steps_after) answer →
+      IsCarriedOn (begun_with mission whose command replies) (work_state_at before steps_before) (work_state_at after steps_after) answer
   goes_on replies before middle after action reply next one rest =
-      let entry = entry_of turn (length replies) action in
+      let entry = entry_of whose (length replies) action in
       record {
         gained = (one.place, (entry, reply)) ∷ rest.gained;
         gains = gained_both before middle after ((one.place, (entry, reply)) ∷ []) rest.gained one.gains rest.gains;

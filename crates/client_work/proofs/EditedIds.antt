@@ -8,7 +8,7 @@ use Rattle.aerie_base.specs.declared.plans.Directive.{Directive}
 use Rattle.aerie_base.specs.declared.plans.Plan.{Plan}
 use Rattle.aerie_base.specs.declared.plans.When.{When}
 use Rattle.aerie_base.specs.declared.values.Value.{Value}
-use Rattle.aerie_base.specs.plans.OfModel.{ids_of, with_id}
+use Rattle.aerie_base.specs.plans.OfModel.{ids_of, with_id, is_dangling, is_id_of}
 use Rattle.aerie_base.specs.plans.RisingIds.{ids_pushed}
 use Rattle.plan_edit.specs.declared.arguments.Given.{Given}
 use Rattle.plan_edit.specs.declared.errors.EditError.{EditError}
@@ -18,11 +18,14 @@ use Rattle.plan_edit.specs.declared.errors.MigrateError.TheVariants as migration
 use Rattle.plan_edit.specs.declared.forms.WrittenDirective.{WrittenDirective}
 use Rattle.plan_edit.specs.declared.mappings.Mapping.{Mapping}
 use Rattle.plan_edit.specs.declared.mappings.TypeRule.{TypeRule}
-use Rattle.plan_edit.specs.Answers.{then_made_of, unless_refused}
-use Rattle.plan_edit.specs.Editing.{add_of, arguments_set_for, changed_where, directive_placed, given_of, is_anchored_to, is_another, is_full, is_loose, is_outside, leads_to, move_of, moved_directive, new_directive, of_directive, remove_of, set_of, unless_anchored, with_added, with_arguments, with_changed, without}
-use Rattle.plan_edit.specs.Loading.{directive_anew, has_cycle, is_past_room, is_tied, load_all, load_of, load_one, load_placed, load_written, loaded_directive, put_loaded, unless_cycle, with_loaded}
-use Rattle.plan_edit.specs.Migrating.{all_fed, all_migrated, by_rule, migrated, one_more_migrated, parameter_kinds_of, requires_of, retyped_directive, rule_of, unless_misfit, with_migrated}
+use Rattle.plan_edit.specs.Answers.{then_made_of, unless_refused, put_in_front}
+use Rattle.plan_edit.specs.Editing.{add_of, arguments_set_for, changed_where, directive_placed, given_of, is_anchored_to, is_another, is_full, is_outside, leads_to, move_of, moved_directive, new_directive, of_directive, remove_of, set_of, unless_anchored, with_added, with_arguments, with_changed, without}
+use Rattle.plan_edit.specs.Loading.{anchored_to_new_id, has_cycle, is_past_room, is_id_of_one, load_all, load_of, load_one, load_placed, load_written, loaded_directive, unless_cycle, with_loaded}
+use Rattle.plan_edit.specs.Migrating.{mapped_arguments, all_migrated, by_rule, migrated, parameter_kinds_of, requires_of, retyped_directive, rule_of, unless_misfit, with_migrated}
 use Rattle.plan_edit.specs.PlanForm.{if_formed, plan_text}
+use Rattle.commands.specs.Edits.{edit_of}
+use Rattle.commands.specs.declared.edits.Edit.{Edit}
+use Rattle.commands.specs.declared.edits.Edit.TheVariants as edit
 use Rattle.run_data.specs.KeptRuns.{KeptRun}
 use Rattle.run_data.specs.laws.Orders.{EachOf}
 use Rattle.hangar_core.specs.declared.branches.Branch.{Branch}
@@ -99,7 +102,7 @@ added_goes plan directive own = record {
     by id (inr (inl same)) = inr (omega (arith, own, same))
     by id (inr (inr none)) = absurd none
 
-pub add_goes : (model : Parts) (plan : Plan) (at : When) (name : List ℕ) (arguments : List RawArgument) → GoesOnTo plan (add_of model plan at name arguments)
+add_goes : (model : Parts) (plan : Plan) (at : When) (name : List ℕ) (arguments : List RawArgument) → GoesOnTo plan (add_of model plan at name arguments)
 add_goes model plan at name arguments = go (given_of model name arguments)
   where
     placed : (given : Given) (outside full loose : Bool) → GoesOnTo plan (then_made_of (λ directive. Ok (with_added plan directive))
@@ -110,7 +113,7 @@ add_goes model plan at name arguments = go (given_of model name arguments)
     placed given false false false = added_goes plan (new_directive plan at given) refl
 
     go : (given : Result Given EditError) → GoesOnTo plan (then_made_of (λ directive. Ok (with_added plan directive)) (then_made_of (directive_placed plan at) given))
-    go (Ok given) = placed given (is_outside plan at.start) (is_full plan) (is_loose plan at.anchor)
+    go (Ok given) = placed given (is_outside plan at.start) (is_full plan) (is_dangling (is_id_of plan.directives) at.anchor)
     go (Err refusal) = tt
 
 among_filtered : (test : Directive → Bool) (directives : List Directive) (id : ℕ) → IsAmong (ids_of (filter test directives)) id → IsAmong (ids_of directives) id
@@ -123,7 +126,7 @@ among_filtered test (directive ∷ rest) id is = by (test directive) is (among_f
     by true (inr is) others = inr (others is)
     by false is others = inr (others is)
 
-pub remove_goes : (plan : Plan) (id : ℕ) → GoesOnTo plan (remove_of plan id)
+remove_goes : (plan : Plan) (id : ℕ) → GoesOnTo plan (remove_of plan id)
 remove_goes plan id = go (with_id plan.directives id)
   where
     free : (found : Option Directive) → GoesOnTo plan (unless_anchored found (Ok (without plan id)))
@@ -143,7 +146,7 @@ same_ids id change same (directive ∷ rest) = λ i. by (nat_eq directive.id id)
     by true = same directive
     by false = refl
 
-pub move_goes : (plan : Plan) (id : ℕ) (to : When) → GoesOnTo plan (move_of plan id to)
+move_goes : (plan : Plan) (id : ℕ) (to : When) → GoesOnTo plan (move_of plan id to)
 move_goes plan id to = go (with_id plan.directives id)
   where
     moved : (outside loose cycle : Bool) → GoesOnTo plan (unless_refused ((outside, OutsidePlan) ∷ (loose, NoAnchor) ∷ (cycle, Cycle) ∷ []) (Ok (with_changed plan id (moved_directive to))))
@@ -153,12 +156,12 @@ move_goes plan id to = go (with_id plan.directives id)
     moved false false false = goes_alike plan (with_changed plan id (moved_directive to)) refl (same_ids id (moved_directive to) (λ directive. refl) plan.directives)
 
     go : (found : Option Directive) → GoesOnTo plan (of_directive (λ directive. unless_refused
-        ((is_outside plan to.start, OutsidePlan) ∷ (is_loose plan to.anchor, NoAnchor) ∷ (leads_to plan id to.anchor, Cycle) ∷ [])
+        ((is_outside plan to.start, OutsidePlan) ∷ (is_dangling (is_id_of plan.directives) to.anchor, NoAnchor) ∷ (leads_to plan id to.anchor, Cycle) ∷ [])
         (Ok (with_changed plan id (moved_directive to)))) found)
     go None = tt
-    go (Some directive) = moved (is_outside plan to.start) (is_loose plan to.anchor) (leads_to plan id to.anchor)
+    go (Some directive) = moved (is_outside plan to.start) (is_dangling (is_id_of plan.directives) to.anchor) (leads_to plan id to.anchor)
 
-pub set_goes : (model : Parts) (plan : Plan) (id : ℕ) (name : List ℕ) (value : RawValue) → GoesOnTo plan (set_of model plan id name value)
+set_goes : (model : Parts) (plan : Plan) (id : ℕ) (name : List ℕ) (value : RawValue) → GoesOnTo plan (set_of model plan id name value)
 set_goes model plan id name value = go (with_id plan.directives id)
   where
     set : (values : Result (List Value) EditError) → GoesOnTo plan (then_made_of (λ values. Ok (with_changed plan id (with_arguments values))) values)
@@ -192,7 +195,7 @@ one_loaded model plan all number written = go (given_of model written.kind writt
     placed given false false false = omega arith
 
     go : (given : Result Given EditError) → OneFrom plan.next_id (then_made_of (load_placed plan all written number) given)
-    go (Ok given) = placed given (is_outside plan written.start) (is_past_room plan number) (not (is_tied all written.anchor))
+    go (Ok given) = placed given (is_outside plan written.start) (is_past_room plan number) (is_dangling (is_id_of_one all) written.anchor)
     go (Err refusal) = tt
 
 all_loaded : (model : Parts) (plan : Plan) (all : List WrittenDirective) (number : ℕ) (rest : List WrittenDirective) → AllFrom plan.next_id (load_all model plan all number rest)
@@ -200,17 +203,17 @@ all_loaded model plan all number [] = tt
 all_loaded model plan all number (written ∷ rest) =
     by (load_one model plan all number written) (load_all model plan all (number + 1) rest) (one_loaded model plan all number written) (all_loaded model plan all (number + 1) rest)
   where
-    by : (one : Result Directive EditError) (others : Result (List Directive) EditError) → OneFrom plan.next_id one → AllFrom plan.next_id others → AllFrom plan.next_id (put_loaded one others)
+    by : (one : Result Directive EditError) (others : Result (List Directive) EditError) → OneFrom plan.next_id one → AllFrom plan.next_id others → AllFrom plan.next_id (put_in_front one others)
     by (Err refusal) others first later = tt
     by (Ok directive) (Err refusal) first later = tt
     by (Ok directive) (Ok directives) first later = (first, later)
 
-anew_from : (least first : ℕ) (all : List WrittenDirective) (directives : List Directive) → EachOf (λ (directive : Directive). least ≤ directive.id) directives →
-    EachOf (λ (directive : Directive). least ≤ directive.id) (map (directive_anew first all) directives)
-anew_from least first all [] each = tt
-anew_from least first all (directive ∷ rest) each = (each.0, anew_from least first all rest each.1)
+new_ids_from : (least first : ℕ) (all : List WrittenDirective) (directives : List Directive) → EachOf (λ (directive : Directive). least ≤ directive.id) directives →
+    EachOf (λ (directive : Directive). least ≤ directive.id) (map (anchored_to_new_id first all) directives)
+new_ids_from least first all [] each = tt
+new_ids_from least first all (directive ∷ rest) each = (each.0, new_ids_from least first all rest each.1)
 
-pub load_goes : (model : Parts) (plan : Plan) (text : List ℕ) → GoesOnTo plan (load_of model plan text)
+load_goes : (model : Parts) (plan : Plan) (text : List ℕ) → GoesOnTo plan (load_of model plan text)
 load_goes model plan text = formed (if_formed (plan_text text))
   where
     loaded : (directives : Result (List Directive) EditError) → AllFrom plan.next_id directives → GoesOnTo plan (then_made_of (λ directives. Ok (with_loaded plan directives)) directives)
@@ -223,14 +226,21 @@ load_goes model plan text = formed (if_formed (plan_text text))
     checked false directives each = each
 
     written : (all : List WrittenDirective) (directives : Result (List Directive) EditError) → AllFrom plan.next_id directives →
-        AllFrom plan.next_id (then_made_of (λ directives. unless_cycle (map (directive_anew plan.next_id all) directives)) directives)
+        AllFrom plan.next_id (then_made_of (λ directives. unless_cycle (map (anchored_to_new_id plan.next_id all) directives)) directives)
     written all (Ok directives) each =
-        checked (has_cycle (map (directive_anew plan.next_id all) directives)) (map (directive_anew plan.next_id all) directives) (anew_from plan.next_id plan.next_id all directives each)
+        checked (has_cycle (map (anchored_to_new_id plan.next_id all) directives)) (map (anchored_to_new_id plan.next_id all) directives) (new_ids_from plan.next_id plan.next_id all directives each)
     written all (Err refusal) each = tt
 
     formed : (form : Result (List WrittenDirective) EditError) → GoesOnTo plan (then_made_of (λ directives. Ok (with_loaded plan directives)) (then_made_of (load_written model plan) form))
     formed (Ok all) = loaded (load_written model plan all) (written all (load_all model plan all 0 all) (all_loaded model plan all 0 all))
     formed (Err refusal) = tt
+
+pub edit_goes : (edit : Edit) (model : Parts) (plan : Plan) → GoesOnTo plan (edit_of edit model plan)
+edit_goes (edit.Add at kind arguments) model plan = add_goes model plan at kind arguments
+edit_goes (edit.Remove id) model plan = remove_goes plan id
+edit_goes (edit.Move id at) model plan = move_goes plan id at
+edit_goes (edit.Set id parameter value) model plan = set_goes model plan id parameter value
+edit_goes (edit.Load text) model plan = load_goes model plan text
 
 -- ---- what becomes of a branch
 
@@ -275,7 +285,7 @@ one_migrated new mapping directive = go (rule_of mapping.rules directive.kind)
     go : (rule : Option TypeRule) → OneAlike directive.id (by_rule new directive rule)
     go None = tt
     go (Some rule) =
-        let values = all_fed directive.arguments (parameter_kinds_of (slice_get new.activities rule.new)) rule.feeds in
+        let values = mapped_arguments directive.arguments (parameter_kinds_of (slice_get new.activities rule.new)) rule.feeds in
         met (requires_of (slice_get new.activities rule.new) values) (retyped_directive directive rule.new values) refl
 
 all_alike : (new : Parts) (mapping : Mapping) (directives : List Directive) → AllAlike directives (all_migrated new mapping directives)
@@ -283,7 +293,7 @@ all_alike new mapping [] = refl
 all_alike new mapping (directive ∷ rest) =
     by (migrated new mapping directive) (all_migrated new mapping rest) (one_migrated new mapping directive) (all_alike new mapping rest)
   where
-    by : (one : Result Directive MigrateError) (others : Result (List Directive) MigrateError) → OneAlike directive.id one → AllAlike rest others → AllAlike (directive ∷ rest) (one_more_migrated one others)
+    by : (one : Result Directive MigrateError) (others : Result (List Directive) MigrateError) → OneAlike directive.id one → AllAlike rest others → AllAlike (directive ∷ rest) (put_in_front one others)
     by (Err refusal) others first later = tt
     by (Ok made) (Err refusal) first later = tt
     by (Ok made) (Ok directives) first later = λ i. first i ∷ later i

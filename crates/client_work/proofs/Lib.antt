@@ -1,11 +1,10 @@
 mod Carrying
-mod ModelPlaces
+mod ModelPositions
 mod Fetches
 mod Merges
 mod Refusals
 mod Telling
 mod Works
-mod Entries
 mod BranchIds
 mod EditedIds
 mod GoingOn

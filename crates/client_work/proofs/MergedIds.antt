@@ -12,7 +12,7 @@ use Rattle.plan_merge.specs.declared.answers.ConflictKind.TheVariants.{Anchor, B
 use Rattle.plan_merge.specs.declared.answers.Merged.{Merged}
 use Rattle.plan_merge.specs.declared.answers.MergeError.{MergeError}
 use Rattle.plan_merge.specs.declared.answers.MergeError.TheVariants.{TooMany}
-use Rattle.plan_merge.specs.Merging.{clashes, conflicts_of, is_astray, is_on_cycle, is_too_many, left_by, left_of_target, made, made_or_conflicts, merge_of, merged, next_after, source_with, unless, what_is_left}
+use Rattle.plan_merge.specs.Merging.{clashes, conflicts_of, has_dangling_anchor, is_on_cycle, is_too_many, left_by, left_of_target, made, made_or_conflicts, merge_of, merged, next_after, source_with, unless, what_is_left}
 use Rattle.plan_merge.specs.Renaming.{added, first_new, has, new_id, renamed, renamed_if_new}
 use Rattle.plan_merge.specs.Table.{row, same}
 use Rattle.client_work.specs.Meanings.{are_of_one_model, merged_plan, plan_if_merged}
@@ -185,7 +185,7 @@ module _ (base source target : Plan) where
   made_or_goes next_id above =
       let directives = merged base source target in
       let answer = made target next_id directives (added base source target) in
-      unless_goes (conflicts_of Anchor (is_astray directives) directives) (unless (conflicts_of Cycle (is_on_cycle directives) directives) answer)
+      unless_goes (conflicts_of Anchor (has_dangling_anchor directives) directives) (unless (conflicts_of Cycle (is_on_cycle directives) directives) answer)
       (unless_goes (conflicts_of Cycle (is_on_cycle directives) directives) answer (made_goes next_id above))
 
   merge_goes : GoesOnIf (merged_plan base source target)

@@ -11,7 +11,7 @@ use Rattle.plan_merge.specs.declared.answers.Merged.{Merged}
 use Rattle.plan_merge.specs.declared.answers.MergeError.{MergeError}
 use Rattle.plan_merge.specs.Merging.{merge_of}
 use Rattle.plan_merge.specs.Plans.{AreMergeable, IsInOrder}
-use Rattle.plan_merge.proofs.MergedPlans.{of_the_model}
+use Rattle.plan_merge.specs.MergedPlanLaws.{of_the_model}
 use Rattle.hangar_lock.specs.Passes.{LockView}
 use Rattle.client_work.specs.Meanings.{are_of_one_model}
 use Rattle.client_work.specs.Working.{IsPlanAt}

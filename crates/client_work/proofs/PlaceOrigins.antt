@@ -8,8 +8,8 @@ use Rattle.aerie_base.specs.declared.plans.Plan.{Plan}
 use Rattle.run_data.specs.KeptRuns.{KeptRun}
 use Rattle.hangar_core.specs.declared.actions.Action.{Action}
 use Rattle.hangar_core.specs.declared.actions.Action.TheVariants as action
-use Rattle.hangar_core.specs.declared.commands.Command.{Command}
-use Rattle.hangar_core.specs.declared.commands.Command.TheVariants.{New, Fork, Drop, Add, Remove, Move, Set, Load, Migrate, Show, Simulate, Schedule, Merge, Expand}
+use Rattle.commands.specs.declared.commands.Command.{Command}
+use Rattle.commands.specs.declared.commands.Command.TheVariants.{New, Fork, Drop, Edit, Migrate, Show, Simulate, Schedule, Merge, Expand}
 use Rattle.hangar_core.specs.declared.entries.Entry.{Entry}
 use Rattle.hangar_core.specs.declared.replies.Reply.{Reply}
 use Rattle.hangar_core.specs.declared.replies.Reply.TheVariants as reply
@@ -129,11 +129,7 @@ module _ (meanings : Meanings) (go_on : MeaningsGoOn meanings) where
   placed_from (New on) [] branch seen plan e = absurd (cc)
   placed_from (Fork on source) [] branch seen plan e = absurd (cc)
   placed_from (Drop on) [] branch seen plan e = absurd (cc)
-  placed_from (Add on at kind arguments) [] branch seen plan e = absurd (cc)
-  placed_from (Remove on id) [] branch seen plan e = absurd (cc)
-  placed_from (Move on id at) [] branch seen plan e = absurd (cc)
-  placed_from (Set on id parameter value) [] branch seen plan e = absurd (cc)
-  placed_from (Load on text) [] branch seen plan e = absurd (cc)
+  placed_from (Edit on edit) [] branch seen plan e = absurd (cc)
   placed_from (Migrate on model) [] branch seen plan e = absurd (cc)
   placed_from (Show on) [] branch seen plan e = absurd (cc)
   placed_from (Simulate on) [] branch seen plan e = absurd (cc)
@@ -143,11 +139,7 @@ module _ (meanings : Meanings) (go_on : MeaningsGoOn meanings) where
   placed_from (New on) (first ∷ later) branch seen plan e = absurd (cc)
   placed_from (Fork on source) (first ∷ later) branch seen plan e = absurd (cc)
   placed_from (Drop on) (first ∷ later) branch seen plan e = absurd (cc)
-  placed_from (Add on at kind arguments) (first ∷ later) branch seen plan e = absurd (cc)
-  placed_from (Remove on id) (first ∷ later) branch seen plan e = absurd (cc)
-  placed_from (Move on id at) (first ∷ later) branch seen plan e = absurd (cc)
-  placed_from (Set on id parameter value) (first ∷ later) branch seen plan e = absurd (cc)
-  placed_from (Load on text) (first ∷ later) branch seen plan e = absurd (cc)
+  placed_from (Edit on edit) (first ∷ later) branch seen plan e = absurd (cc)
   placed_from (Migrate on model) (first ∷ later) branch seen plan e = absurd (cc)
   placed_from (Show on) (first ∷ later) branch seen plan e = absurd (cc)
   placed_from (Simulate on) (first ∷ later) branch seen plan e = absurd (attaches on first later branch seen plan e)

@@ -3,8 +3,8 @@ use Rattle.std.proofs.Common.{◌≡◌, refl, sym, subst, ℕ, zero, suc, ◌<�
 use Rattle.std.specs.List.{AllByRecursion}
 use Rattle.aerie_base.specs.declared.plans.Plan.{Plan}
 use Rattle.goals.specs.declared.status.GoalStatus.{GoalStatus}
-use Rattle.hangar_core.specs.declared.commands.Command.{Command}
-use Rattle.hangar_core.specs.declared.commands.Command.TheVariants.{New, Fork, Drop, Add, Remove, Move, Set, Load, Migrate, Show, Simulate, Schedule, Merge, Expand}
+use Rattle.commands.specs.declared.commands.Command.{Command}
+use Rattle.commands.specs.declared.commands.Command.TheVariants.{New, Fork, Drop, Edit, Migrate, Show, Simulate, Schedule, Merge, Expand}
 use Rattle.hangar_core.specs.declared.replies.Reply.{Reply}
 use Rattle.hangar_core.specs.declared.replies.Reply.TheVariants as reply
 use Rattle.hangar_lock.specs.Passes.{LockView, PassView}
@@ -17,7 +17,7 @@ use Rattle.client_work.specs.declared.missions.Mission.{Mission}
 use Rattle.client_work.specs.Meanings.{are_of_one_model, scheduled}
 use Rattle.client_work.specs.Told.{by_fetched, command_told, merge_placed, merge_told, merged_or_refused, reply_to, report_of, schedule_told, sequence_told}
 use Rattle.client_work.specs.Working.{CanBeTold, IsAtWork, IsPlanAt, IsReplyAt}
-use Rattle.client_work.proofs.ModelPlaces.{of_mission}
+use Rattle.client_work.proofs.ModelPositions.{of_mission}
 
 -- a part of a command that was replied to, or one that there is not
 known_at : (lock : LockView) (replies : List Reply) (part : ℕ) → AllByRecursion (IsReplyAt lock) replies → IsReplyAt lock (reply_to replies part)
@@ -127,11 +127,7 @@ module _ (mission : Mission) (lock : LockView) (pass : PassView) (at : IsAtWork 
   can_be_told count (New branch) replies all = reply_can (reply_to replies 0) (known_at lock replies 0 all)
   can_be_told count (Fork branch source) replies all = reply_can (reply_to replies 0) (known_at lock replies 0 all)
   can_be_told count (Drop branch) replies all = reply_can (reply_to replies 0) (known_at lock replies 0 all)
-  can_be_told count (Add branch time kind arguments) replies all = reply_can (reply_to replies 0) (known_at lock replies 0 all)
-  can_be_told count (Remove branch id) replies all = reply_can (reply_to replies 0) (known_at lock replies 0 all)
-  can_be_told count (Move branch id time) replies all = reply_can (reply_to replies 0) (known_at lock replies 0 all)
-  can_be_told count (Set branch id parameter value) replies all = reply_can (reply_to replies 0) (known_at lock replies 0 all)
-  can_be_told count (Load branch text) replies all = reply_can (reply_to replies 0) (known_at lock replies 0 all)
+  can_be_told count (Edit branch edit) replies all = reply_can (reply_to replies 0) (known_at lock replies 0 all)
   can_be_told count (Migrate branch model) replies all = reply_can (reply_to replies 0) (known_at lock replies 0 all)
   can_be_told count (Show branch) replies all = reply_can (reply_to replies 0) (known_at lock replies 0 all)
   can_be_told count (Simulate branch) replies all =

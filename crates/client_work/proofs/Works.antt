@@ -2,18 +2,28 @@
 use Rattle.std.proofs.Common.{◌≡◌, refl, sym, ap, subst, ◌∙◌, ℕ, suc, ◌+◌, ◌<◌, List, [], ◌∷◌, ◌++◌, length, map, take, get_or, arith, append_assoc}
 use Rattle.std.proofs.lemmas.List.{append-nil, length-take-le}
 use Rattle.std.proofs.Math.Seq.{take-suc}
-use Rattle.hangar_core.specs.declared.commands.Command.{Command}
+use Rattle.commands.specs.declared.commands.Command.{Command}
 use Rattle.hangar_core.specs.Fits.{IsCommand, IsWorkOf}
 use Rattle.hangar_core.specs.Journals.{Entries}
 use Rattle.hangar_lock.specs.Passes.{PassView}
 use Rattle.hangar_lock.specs.Places.{Places}
-use Rattle.hangar_lock.specs.Works.{HasWorked, own_entry, reply_of}
+use Rattle.hangar_lock.specs.ClientEntries.{HasWorked, own_entry, reply_of}
 use Rattle.client_work.specs.declared.missions.Mission.{Mission}
+use Rattle.client_work.specs.declared.workplace.Worker.{Worker}
 use Rattle.client_work.specs.Lines.{ClientOf, told_line}
 use Rattle.client_work.specs.Meanings.{meanings_of}
 use Rattle.client_work.specs.Told.{command_told, count_told}
-use Rattle.client_work.specs.Working.{own_entries, IsTurnDone, IsWorkDone, IsWorkTold}
+use Rattle.client_work.specs.Working.{IsCommandDone, IsLater, IsWorkDone, IsWorkTold, work_state_at, told_command_by, own_entries, work_of}
 use Rattle.client_work.proofs.Carrying.{gained_both}
+
+-- what is later than something later is later
+pub later_on : {L K : Type 0} {first middle last : Worker L K} → IsLater first middle → IsLater middle last → IsLater first last
+later_on one two = record {
+  pass = two.pass ∙ one.pass;
+  steps = two.steps ∙ one.steps;
+  looks = two.looks ∙ one.looks;
+  rise = let earlier = one.rise in let later = two.rise in omega (arith, earlier, later);
+}
 
 abbrev pub line_told : Mission → ClientOf → ℕ → Command → ℕ → Entries → List ℕ
 line_told mission client number command statements own =
@@ -58,7 +68,7 @@ module _ (mission : Mission) (client : ClientOf) where
   is_work number [] entries text told = told.0
   is_work number (command ∷ commands) entries text told = (told.0, told.1, told.4, told.5, is_work (number + 1) commands told.1 told.3 told.7)
 
-  pub has_worked : (commands : List Command) (before after : PassView) (text : List ℕ) → IsWorkDone mission client commands before after text →
+  pub has_worked : (commands : List Command) (before after : PassView) (text : List ℕ) → IsWorkDone (work_of mission client commands) before after text →
       HasWorked (meanings_of mission.models mission.bound) client.number commands before after
   has_worked commands before after text done = record {
     gained = done.gained;
@@ -74,31 +84,31 @@ module _ (mission : Mission) (client : ClientOf) where
   entries_both (place ∷ gained) later = ap (λ (l : Entries). own_entry place ∷ l) (entries_both gained later)
 
   pub one_done : (command : Command) (commands : List Command) (before middle after : PassView) (steps_before steps_after : ℕ) (text line : List ℕ) →
-      IsWorkDone mission client commands before middle text →
-      IsTurnDone mission client (length commands) command middle after steps_before steps_after line →
-      IsWorkDone mission client (commands ++ (command ∷ [])) before after (text ++ line)
-  one_done command commands before middle after steps_before steps_after text line work turn =
-      let told = one_more command (own_entries turn.gained) turn.statements 0 (length commands) commands (own_entries work.gained) text (omega arith) work.told turn.parts in
+      IsWorkDone (work_of mission client commands) before middle text →
+      IsCommandDone (told_command_by mission client (length commands) command) (work_state_at middle steps_before) (work_state_at after steps_after) line →
+      IsWorkDone (work_of mission client (commands ++ (command ∷ []))) before after (text ++ line)
+  one_done command commands before middle after steps_before steps_after text line work whose =
+      let told = one_more command (own_entries whose.gained) whose.statements 0 (length commands) commands (own_entries work.gained) text (omega arith) work.told whose.parts in
       record {
-        gained = work.gained ++ turn.gained;
-        gains = gained_both before middle after work.gained turn.gained work.gains turn.gains;
-        told = subst (λ (l : Entries). IsWorkTold mission client 0 (commands ++ (command ∷ [])) l (text ++ line)) (sym (entries_both work.gained turn.gained))
-            (subst (λ (l : List ℕ). IsWorkTold mission client 0 (commands ++ (command ∷ [])) (own_entries work.gained ++ own_entries turn.gained) (text ++ l)) (sym turn.told) told);
+        gained = work.gained ++ whose.gained;
+        gains = gained_both before middle after work.gained whose.gained work.gains whose.gains;
+        told = subst (λ (l : Entries). IsWorkTold mission client 0 (commands ++ (command ∷ [])) l (text ++ line)) (sym (entries_both work.gained whose.gained))
+            (subst (λ (l : List ℕ). IsWorkTold mission client 0 (commands ++ (command ∷ [])) (own_entries work.gained ++ own_entries whose.gained) (text ++ l)) (sym whose.told) told);
       }
 
   -- behind the commands below a number, the next one
   pub next_done : (number : ℕ) (commands : List Command) (command : Command) (before middle after : PassView) (steps_before steps_after : ℕ) (text line whole : List ℕ) →
       number < length commands → command ≡ get_or commands number command → whole ≡ text ++ line →
-      IsWorkDone mission client (take number commands) before middle text →
-      IsTurnDone mission client number command middle after steps_before steps_after line →
-      IsWorkDone mission client (take (number + 1) commands) before after whole
-  next_done number commands command before middle after steps_before steps_after text line whole within at is_whole work turn =
+      IsWorkDone (work_of mission client (take number commands)) before middle text →
+      IsCommandDone (told_command_by mission client number command) (work_state_at middle steps_before) (work_state_at after steps_after) line →
+      IsWorkDone (work_of mission client (take (number + 1) commands)) before after whole
+  next_done number commands command before middle after steps_before steps_after text line whole within at is_whole work whose =
       let count : length (take number commands) ≡ number = length-take-le number commands (omega (arith, within)) in
       let one : suc number ≡ number + 1 = omega arith in
       let more : take (number + 1) commands ≡ take number commands ++ (command ∷ []) =
       subst (λ (n : ℕ). take n commands ≡ take number commands ++ (get_or commands number command ∷ [])) one (take-suc commands number command within)
       ∙ ap (λ (c : Command). take number commands ++ (c ∷ [])) (sym at) in
-      subst (λ (l : List Command). IsWorkDone mission client l before after whole) (sym more)
-      (subst (IsWorkDone mission client (take number commands ++ (command ∷ [])) before after) (sym is_whole)
+      subst (λ (l : List Command). IsWorkDone (work_of mission client l) before after whole) (sym more)
+      (subst (IsWorkDone (work_of mission client (take number commands ++ (command ∷ []))) before after) (sym is_whole)
       (one_done command (take number commands) before middle after steps_before steps_after text line work
-      (subst (λ (n : ℕ). IsTurnDone mission client n command middle after steps_before steps_after line) (sym count) turn)))
+      (subst (λ (n : ℕ). IsCommandDone (told_command_by mission client n command) (work_state_at middle steps_before) (work_state_at after steps_after) line) (sym count) whose)))

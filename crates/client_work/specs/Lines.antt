@@ -2,9 +2,9 @@
 use Rattle.std.specs.Prelude.{ℕ, suc, ◌+◌, List, [], ◌∷◌, ◌++◌, length, map, nat_eq, nat_lt, slice_get}
 use Rattle.std.specs.List.{filter}
 use Rattle.aerie_base.specs.declared.models.model.Parts.{Parts}
-use Rattle.aerie_text.specs.Json.{line_of}
-use Rattle.hangar_core.specs.declared.commands.Command.{Command}
-use Rattle.hangar_core.specs.declared.commands.Command.TheVariants.{New, Fork, Drop, Add, Remove, Move, Set, Load, Migrate, Show, Simulate, Schedule, Merge, Expand}
+use Rattle.json_line.specs.Json.{line_of}
+use Rattle.commands.specs.Branches.{branch_of}
+use Rattle.commands.specs.declared.commands.Command.{Command}
 use Rattle.hangar_core.specs.declared.replies.Reply.{Reply}
 use Rattle.hangar_core.specs.declared.replies.Reply.TheVariants.{Fetched}
 use Rattle.report_text.specs.declared.answers.Answer.{Answer}
@@ -12,7 +12,7 @@ use Rattle.report_text.specs.declared.answers.Answer.TheVariants as answer
 use Rattle.report_text.specs.Replies.{reply_data}
 use Rattle.client_work.specs.declared.missions.Mission.{Mission}
 use Rattle.hangar_core.specs.Journals.{Entries}
-use Rattle.hangar_lock.specs.Works.{reply_of}
+use Rattle.hangar_lock.specs.ClientEntries.{reply_of}
 use Rattle.client_work.specs.Meanings.{ruled_by, ruled_or_nothing}
 use Rattle.client_work.specs.Told.{command_told, count_told}
 
@@ -20,23 +20,6 @@ use Rattle.client_work.specs.Told.{command_told, count_told}
 pub record ClientOf : Type 0 where
   pub name : List ℕ
   pub number : ℕ
-
--- the branch that a command names first
-abbrev pub branch_of : Command → List ℕ
-branch_of (New branch) = branch
-branch_of (Fork branch source) = branch
-branch_of (Drop branch) = branch
-branch_of (Add branch at kind arguments) = branch
-branch_of (Remove branch id) = branch
-branch_of (Move branch id at) = branch
-branch_of (Set branch id parameter value) = branch
-branch_of (Load branch text) = branch
-branch_of (Migrate branch model) = branch
-branch_of (Show branch) = branch
-branch_of (Simulate branch) = branch
-branch_of (Schedule branch) = branch
-branch_of (Merge target source base) = target
-branch_of (Expand branch) = branch
 
 abbrev pub first_model : Mission → Parts
 first_model mission = (ruled_or_nothing (slice_get mission.models 0)).model

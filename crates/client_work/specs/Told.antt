@@ -1,8 +1,8 @@
 -- What is told of a command, by the replies to what it did.
 use Rattle.std.specs.Prelude.{ℕ, Bool, true, false, List, get_or, Option, Some, None, Result, Ok, Err, if◌then◌else◌}
 use Rattle.aerie_base.specs.declared.plans.Plan.{Plan}
-use Rattle.hangar_core.specs.declared.commands.Command.{Command}
-use Rattle.hangar_core.specs.declared.commands.Command.TheVariants.{New, Fork, Drop, Add, Remove, Move, Set, Load, Migrate, Show, Simulate, Schedule, Merge, Expand}
+use Rattle.commands.specs.declared.commands.Command.{Command}
+use Rattle.commands.specs.declared.commands.Command.TheVariants.{New, Fork, Drop, Edit, Migrate, Show, Simulate, Schedule, Merge, Expand}
 use Rattle.hangar_core.specs.declared.replies.Reply.{Reply}
 use Rattle.hangar_core.specs.declared.replies.Reply.TheVariants as reply
 use Rattle.plan_merge.specs.declared.answers.Merged.{Merged}
@@ -31,7 +31,7 @@ is_attached other = false
 
 -- how many statements a simulation ran, where that is told
 abbrev pub count_told : Mission → ℕ → Option ℕ
-count_told mission statements = if mission.counts then Some statements else None
+count_told mission statements = if mission.stats then Some statements else None
 
 -- the report of a fetched plan, by the reply to the Attach, with the count of statements where one is told
 abbrev pub report_of : Mission → Option ℕ → ℕ → Plan → Reply → Answer
@@ -77,11 +77,7 @@ abbrev pub command_told : Mission → Option ℕ → Command → List Reply → 
 command_told mission count (New branch) replies = answer.Reply (reply_to replies 0)
 command_told mission count (Fork branch source) replies = answer.Reply (reply_to replies 0)
 command_told mission count (Drop branch) replies = answer.Reply (reply_to replies 0)
-command_told mission count (Add branch at kind arguments) replies = answer.Reply (reply_to replies 0)
-command_told mission count (Remove branch id) replies = answer.Reply (reply_to replies 0)
-command_told mission count (Move branch id at) replies = answer.Reply (reply_to replies 0)
-command_told mission count (Set branch id parameter value) replies = answer.Reply (reply_to replies 0)
-command_told mission count (Load branch text) replies = answer.Reply (reply_to replies 0)
+command_told mission count (Edit branch edit) replies = answer.Reply (reply_to replies 0)
 command_told mission count (Migrate branch model) replies = answer.Reply (reply_to replies 0)
 command_told mission count (Show branch) replies = answer.Reply (reply_to replies 0)
 command_told mission count (Simulate branch) replies =

@@ -9,23 +9,26 @@ use Rattle.goals.specs.OfModel.{is_goal}
 use Rattle.seq_expand.specs.OfModel.{have_shifts}
 use Rattle.run_data.specs.Waves.{RoseAlike}
 use Rattle.hangar_core.specs.declared.actions.Action.{Action}
-use Rattle.hangar_core.specs.declared.commands.Command.{Command}
-use Rattle.hangar_core.specs.declared.commands.Command.TheVariants.{Simulate, Merge}
+use Rattle.commands.specs.declared.commands.Command.{Command}
+use Rattle.commands.specs.declared.commands.Command.TheVariants.{Simulate}
 use Rattle.hangar_core.specs.declared.entries.Entry.{Entry}
 use Rattle.hangar_core.specs.declared.replies.Reply.{Reply}
 use Rattle.hangar_core.specs.Fits.{IsCommand}
-use Rattle.hangar_core.specs.Standing.{IsPlanIn, IsReplyOf}
+use Rattle.hangar_core.specs.ValidWorkspaces.{IsPlanIn, IsReplyOf}
 use Rattle.hangar_core.specs.Journals.{Entries}
 use Rattle.hangar_lock.specs.Passes.{LockView, PassView}
 use Rattle.hangar_lock.specs.Places.{Places}
-use Rattle.hangar_lock.specs.Works.{RisesTo, reply_of, own_entry}
+use Rattle.hangar_lock.specs.ClientEntries.{RisesTo, reply_of, own_entry}
 use Rattle.hangar_core.specs.declared.replies.Reply.TheVariants.{Fetched}
 use Rattle.report_text.specs.declared.answers.Answer.{Answer}
 use Rattle.report_text.specs.declared.answers.Answer.TheVariants as answer
 use Rattle.report_text.specs.Replies.{IsAnswerOfModel}
 use Rattle.client_work.specs.declared.missions.Mission.{Mission}
 use Rattle.client_work.specs.declared.missions.RuledModel.{RuledModel}
-use Rattle.client_work.specs.declared.turns.ClientCommand.{ClientCommand}
+use Rattle.client_work.specs.declared.workplace.Assignment.{Assignment}
+use Rattle.client_work.specs.declared.workplace.ClientCommand.{ClientCommand}
+use Rattle.client_work.specs.declared.workplace.NumberedClient.{NumberedClient}
+use Rattle.client_work.specs.declared.workplace.Worker.{Worker}
 use Rattle.client_work.specs.Lines.{ClientOf, model_told, told_line}
 use Rattle.client_work.specs.Meanings.{meanings_of}
 use Rattle.client_work.specs.Told.{count_told, command_told}
@@ -49,6 +52,10 @@ pub record IsAtWork (mission : Mission) (lock : LockView) (pass : PassView) : Ty
   pub ruled : AllByRecursion IsRuled mission.models
   pub bound : mission.bound ≤ step_limit
 
+-- a pass of the lock at whose workplace a command is carried out
+abbrev pub IsAssignedTo : {R G : Type 0} → Assignment R G → PassView → Type 0
+IsAssignedTo assignment pass = IsAtWork assignment.workplace.now.mission.now assignment.workplace.now.lock.now pass
+
 -- what the lock answers: a plan that it tells of is of the mission
 abbrev pub IsReplyAt : LockView → Reply → Type 0
 IsReplyAt lock = IsReplyOf lock.opened.workspace.models lock.opened.workspace.duration
@@ -60,7 +67,7 @@ IsPlanAt lock = IsPlanIn lock.opened.workspace.models lock.opened.workspace.dura
 
 -- the entry of an action as a part of a command
 abbrev pub entry_of : ClientCommand → ℕ → Action → Entry
-entry_of turn part action = record { client = turn.client; command = turn.command; part = part; action = action }
+entry_of whose part action = record { client = whose.client; command = whose.command; part = part; action = action }
 
 abbrev pub own_entries : Places → Entries
 own_entries places = map own_entry places
@@ -100,46 +107,101 @@ pub record CanBeTold (mission : Mission) (answer : Answer) : Type 0 where
   pub shown : IsShownPlan mission answer
   pub of_model : IsAnswerOfModel (model_told mission answer) answer
 
+-- ---- who works
+
+-- how far a worker is: its pass, and how many statements were simulated
+pub record WorkState : Type 0 where
+  pub pass : PassView
+  pub steps : ℕ
+
+abbrev pub work_state_at : PassView → ℕ → WorkState
+work_state_at pass steps = record { pass = pass; steps = steps }
+
+abbrev pub work_state : {L K : Type 0} → Worker L K → WorkState
+work_state worker = work_state_at worker.pass.now worker.steps.now
+
+-- a worker later: it has the pass and the counters that it had, and no count of statements falls
+pub record IsLater {L K : Type 0} (before after : Worker L K) : Type 0 where
+  pub pass : after.pass.ghost_name ≡ before.pass.ghost_name
+  pub steps : after.steps.ghost_name ≡ before.steps.ghost_name
+  pub looks : after.looks.ghost_name ≡ before.looks.ghost_name
+  pub rise : before.steps.now ≤ after.steps.now
+
 -- ---- commands
 
--- what is left of a command behind some replies was done: its other parts are entered, each once and in order, and what is told of
--- the command is by the replies to all
-pub record IsCarriedOn (mission : Mission) (turn : ClientCommand) (command : Command) (replies : List Reply) (before after : PassView) (steps_before steps_after : ℕ) (telling : Answer) : Type 0 where
-  pub gained : Places
-  pub gains : HasGained before after gained
-  pub parts : IsCommand (meanings_of mission.models mission.bound) turn.client turn.command command replies (own_entries gained)
-  pub statements : ℕ
-  pub counted : IsCount command statements steps_before steps_after
-  pub known : AllByRecursion (IsReplyAt before.lock) (replies_of gained)
-  pub told : telling ≡ command_told mission (count_told mission statements) command (replies ++ replies_of gained)
+-- a command of a client, behind the replies to its first actions
+pub record Begun : Type 0 where
+  pub mission : Mission
+  pub whose : ClientCommand
+  pub command : Command
+  pub replies : List Reply
 
--- the same of a merge, which simulates nothing
-abbrev pub IsMergeCarriedOn : Mission → ClientCommand → List ℕ → List ℕ → List ℕ → List Reply → PassView → PassView → Answer → Type 0
-IsMergeCarriedOn mission turn target source base replies before after answer =
-    (steps_before steps_after : ℕ) → IsCarriedOn mission turn (Merge target source base) replies before after steps_before steps_after answer
+abbrev pub begun_with : Mission → ClientCommand → Command → List Reply → Begun
+begun_with mission whose command replies = record { mission = mission; whose = whose; command = command; replies = replies }
+
+abbrev pub begun : {R G : Type 0} → Assignment R G → Command → List Reply → Begun
+begun assignment command replies = begun_with assignment.workplace.now.mission.now assignment.whose command replies
+
+-- what is left of a command was done: its other parts are entered, each once and in order, and what is told of the command is by
+-- the replies to all
+pub record IsCarriedOn (of : Begun) (before after : WorkState) (telling : Answer) : Type 0 where
+  pub gained : Places
+  pub gains : HasGained before.pass after.pass gained
+  pub parts : IsCommand (meanings_of of.mission.models of.mission.bound) of.whose.client of.whose.command of.command of.replies (own_entries gained)
+  pub statements : ℕ
+  pub counted : IsCount of.command statements before.steps after.steps
+  pub known : AllByRecursion (IsReplyAt before.pass.lock) (replies_of gained)
+  pub told : telling ≡ command_told of.mission (count_told of.mission statements) of.command (of.replies ++ replies_of gained)
 
 -- ---- clients
 
 -- a client's commands, counted from a number, were done one after another with these entries, and this text is told of them
-abbrev pub IsWorkTold : Mission → ClientOf → ℕ → List Command → Entries → List ℕ → Type 0
-IsWorkTold mission client number [] entries text = (entries ≡ []) × (text ≡ [])
-IsWorkTold mission client number (command ∷ commands) entries text =
-    (own later : Entries) × (statements : ℕ) × (rest : List ℕ) × (entries ≡ own ++ later)
-    × IsCommand (meanings_of mission.models mission.bound) client.number number command [] own
-    × (text ≡ told_line mission client.name number command (command_told mission (count_told mission statements) command (map reply_of own)) ++ rest)
-    × IsWorkTold mission client (number + 1) commands later rest
+module _ (mission : Mission) (client : ClientOf) where
+  abbrev pub IsWorkTold : ℕ → List Command → Entries → List ℕ → Type 0
+  IsWorkTold number [] entries text = (entries ≡ []) × (text ≡ [])
+  IsWorkTold number (command ∷ commands) entries text =
+      (own later : Entries) × (statements : ℕ) × (rest : List ℕ) × (entries ≡ own ++ later)
+      × IsCommand (meanings_of mission.models mission.bound) client.number number command [] own
+      × (text ≡ told_line mission client.name number command (command_told mission (count_told mission statements) command (map reply_of own)) ++ rest)
+      × IsWorkTold (number + 1) commands later rest
 
--- a client's command with a number was done with a pass, and this line is told of it
-pub record IsTurnDone (mission : Mission) (client : ClientOf) (number : ℕ) (command : Command) (before after : PassView) (steps_before steps_after : ℕ) (line : List ℕ) : Type 0 where
+-- a command of a client with its number, of which a line is told
+pub record ToldCommand : Type 0 where
+  pub mission : Mission
+  pub client : ClientOf
+  pub number : ℕ
+  pub command : Command
+
+abbrev pub told_command_by : Mission → ClientOf → ℕ → Command → ToldCommand
+told_command_by mission client number command = record { mission = mission; client = client; number = number; command = command }
+
+abbrev pub told_command : {R G : Type 0} → Assignment R G → List ℕ → Command → ToldCommand
+told_command assignment name command =
+    told_command_by assignment.workplace.now.mission.now (record { name = name; number = assignment.whose.client }) assignment.whose.command command
+
+-- a client's command was done with a pass, and this line is told of it
+pub record IsCommandDone (of : ToldCommand) (before after : WorkState) (line : List ℕ) : Type 0 where
   pub gained : Places
-  pub gains : HasGained before after gained
-  pub parts : IsCommand (meanings_of mission.models mission.bound) client.number number command [] (own_entries gained)
+  pub gains : HasGained before.pass after.pass gained
+  pub parts : IsCommand (meanings_of of.mission.models of.mission.bound) of.client.number of.number of.command [] (own_entries gained)
   pub statements : ℕ
-  pub counted : IsCount command statements steps_before steps_after
-  pub told : line ≡ told_line mission client.name number command (command_told mission (count_told mission statements) command (replies_of gained))
+  pub counted : IsCount of.command statements before.steps after.steps
+  pub told : line ≡ told_line of.mission of.client.name of.number of.command (command_told of.mission (count_told of.mission statements) of.command (replies_of gained))
+
+-- the commands of a client
+pub record ClientWork : Type 0 where
+  pub mission : Mission
+  pub client : ClientOf
+  pub commands : List Command
+
+abbrev pub work_of : Mission → ClientOf → List Command → ClientWork
+work_of mission client commands = record { mission = mission; client = client; commands = commands }
+
+abbrev pub client_of : NumberedClient → ClientOf
+client_of client = record { name = client.name.now; number = client.number }
 
 -- a client's commands were done with a pass, and this text is told of them
-pub record IsWorkDone (mission : Mission) (client : ClientOf) (commands : List Command) (before after : PassView) (text : List ℕ) : Type 0 where
+pub record IsWorkDone (work : ClientWork) (before after : PassView) (text : List ℕ) : Type 0 where
   pub gained : Places
   pub gains : HasGained before after gained
-  pub told : IsWorkTold mission client 0 commands (own_entries gained) text
+  pub told : IsWorkTold work.mission work.client 0 work.commands (own_entries gained) text

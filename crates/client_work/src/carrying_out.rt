@@ -1,17 +1,17 @@
 //! A command, with all its parts.
 
-ghost use Rattle.std.specs.Prelude.{◌≤◌, [], ◌∷◌, IfOk};
-ghost use Rattle.client_work.specs.Working.{IsAtWork, IsCarriedOn, IsReplyAt};
+ghost use Rattle.std.specs.Prelude.{[], ◌∷◌, IfOk};
+ghost use Rattle.client_work.specs.Working.{begun, IsAssignedTo, IsCarriedOn, IsLater, IsReplyAt, work_state};
 
 use crate::acting::act;
-use crate::merging::{MergedBranches, merged};
+use crate::merging::{MergeAssignment, merged};
 use crate::scheduling::scheduled;
 use crate::simulating::{expanded, reported};
-use crate::turns::{ClientCommand, Workplace};
-use aerie_base::{OutOfMemory, Steps};
+use crate::workplace::{Assignment, Worker};
+use aerie_base::OutOfMemory;
 use aerie_edge::Gate;
-use hangar_core::{Command, Reply};
-use hangar_lock::Pass;
+use commands::Command;
+use hangar_core::{Action, Reply};
 use report_text::Answer;
 use std::alloc::Global;
 use std::sync::Wait;
@@ -20,40 +20,33 @@ use std::sync::ledger::Ledger;
 /// Carries a command on, by the reply to its first action.
 fn carry_on<R: Wait, G: Gate, L: Ledger, K: Ledger>(
     alloc: Global,
-    place: &Workplace<R, G>,
-    turn: ClientCommand,
+    assignment: &Assignment<R, G>,
     command: &Command,
     first: Reply,
-    pass: &mut Pass,
-    steps: &mut Steps<L>,
-    looks: &mut Steps<K>,
+    worker: &mut Worker<L, K>,
 ) -> Result<Answer, OutOfMemory>
-    requires place { IsAtWork place.now.mission.now place.now.lock.now pass.old }
-    requires first { IsReplyAt place.now.lock.now first }
-    ensures done { IfOk result (IsCarriedOn place.now.mission.now turn command.now (first ∷ []) pass.old pass.new steps.old steps.new) }
-    ensures steps { steps.old ≤ steps.new }
+    requires workplace { IsAssignedTo assignment.now worker.old.pass.now }
+    requires first { IsReplyAt assignment.now.workplace.now.lock.now first }
+    ensures done { IfOk result (IsCarriedOn (begun assignment.now command.now (first ∷ []))
+        (work_state worker.old) (work_state worker.new)) }
+    ensures later { IsLater worker.old worker.new }
 {
     match command {
-        Command::Simulate { branch } => reported(
-            alloc, place, turn, branch, first, pass, steps, looks,
-        ),
-        Command::Schedule { branch } => scheduled(
-            alloc, place, turn, branch, first, pass, steps, looks,
-        ),
-        Command::Expand { branch } => expanded(
-            alloc, place, turn, branch, first, pass, steps, looks,
-        ),
+        Command::Simulate { branch } => reported(alloc, assignment, branch, first, worker),
+        Command::Schedule { branch } => scheduled(alloc, assignment, branch, first, worker),
+        Command::Expand { branch } => expanded(alloc, assignment, branch, first, worker),
         Command::Merge {
             target,
             source,
             base,
         } => {
-            let branches = MergedBranches {
+            let merge = MergeAssignment {
+                assignment,
                 target,
                 source,
                 base,
             };
-            merged(alloc, place, turn, &branches, first, pass)
+            merged(alloc, &merge, first, worker.pass)
         }
         _ => Ok(Answer::Reply(first)),
     }
@@ -63,19 +56,17 @@ fn carry_on<R: Wait, G: Gate, L: Ledger, K: Ledger>(
 /// schedules and merges are made outside of these.
 pub fn carry_out<R: Wait, G: Gate, L: Ledger, K: Ledger>(
     alloc: Global,
-    place: &Workplace<R, G>,
-    turn: ClientCommand,
+    assignment: &Assignment<R, G>,
     command: &Command,
-    pass: &mut Pass,
-    steps: &mut Steps<L>,
-    looks: &mut Steps<K>,
+    worker: &mut Worker<L, K>,
 ) -> Result<Answer, OutOfMemory>
-    requires place { IsAtWork place.now.mission.now place.now.lock.now pass.old }
-    ensures done { IfOk result (IsCarriedOn place.now.mission.now turn command.now [] pass.old pass.new steps.old steps.new) }
-    ensures steps { steps.old ≤ steps.new }
+    requires workplace { IsAssignedTo assignment.now worker.old.pass.now }
+    ensures done { IfOk result (IsCarriedOn (begun assignment.now command.now [])
+        (work_state worker.old) (work_state worker.new)) }
+    ensures later { IsLater worker.old worker.new }
 {
-    let action = command.first(alloc)?;
-    let first = act(alloc, place, turn, 0, action, pass)?;
-    let answer = carry_on(alloc, place, turn, command, first, pass, steps, looks)?;
+    let action = Action::first(alloc, command)?;
+    let first = act(alloc, assignment, 0, action, worker.pass)?;
+    let answer = carry_on(alloc, assignment, command, first, worker)?;
     Ok(answer)
 }

@@ -1,7 +1,7 @@
 //! Laws, each the promise of a function.
 
 ghost use Rattle.client_work.specs.laws.BranchIds.{NoIdIsUsedAgain};
-ghost use Rattle.client_work.specs.laws.ClientsWork.{PassesHaveTheirEntries, ToldWorksAreDone};
+ghost use Rattle.client_work.specs.laws.ClientsWork.{ToldWorksAreDone};
 
 use hangar_core::laws::{branches_are_isolated, revisions_name_plans};
 use scheduler::laws::schedules_only_add;
@@ -9,12 +9,6 @@ use scheduler::laws::schedules_only_add;
 /// Commands of which `work` tells a text were done with the pass, one after another.
 pub fn told_works_are_done()
     ensures { ToldWorksAreDone }
-{}
-
-/// Where each client's commands were done with a pass of its own and all passes were joined, the entries of a client's pass are
-/// those of the journal that are the client's.
-pub fn passes_have_their_entries()
-    ensures { PassesHaveTheirEntries }
 {}
 
 /// No id of a branch is used again: along a journal that fits the commands of clients, as long as the branch stands, the next id of

@@ -11,9 +11,9 @@ mod merging;
 mod missions;
 mod scheduling;
 mod simulating;
-mod turns;
+mod workplace;
 
 pub use carrying_out::carry_out;
 pub use client_commands::{work, work_on};
 pub use missions::{Mission, RuledModel};
-pub use turns::{ClientCommand, NumberedClient, Workplace};
+pub use workplace::{Assignment, ClientCommand, NumberedClient, Worker, Workplace};

@@ -6,43 +6,60 @@ ghost use Rattle.plan_merge.specs.Plans.{AreMergeable, IsInOrder};
 ghost use Rattle.hangar_core.specs.declared.actions.Action.TheVariants as action;
 ghost use Rattle.client_work.specs.Fetching.{reply_with};
 ghost use Rattle.client_work.specs.Meanings.{are_of_one_model};
+ghost use Rattle.client_work.specs.MergesCarriedOn.{AreFetchedAt, IsMergeCarriedOn, merge_begun, replies_with};
 ghost use Rattle.client_work.specs.Told.{merge_placed as placed_by};
-ghost use Rattle.client_work.specs.Working.{entry_of, HasOneMore, IsAtWork, IsMergeCarriedOn, IsPlanAt, IsReplyAt};
+ghost use Rattle.client_work.specs.Working.{entry_of, HasOneMore, IsAssignedTo, IsPlanAt, IsReplyAt};
 
 use crate::acting::act;
 use crate::fetching::{FetchedBranch, fetched};
-use crate::turns::{ClientCommand, Workplace};
+use crate::workplace::Assignment;
 use aerie_base::{List, Name, OutOfMemory, Plan};
 use aerie_edge::Gate;
 use hangar_core::{Action, Reply};
 use hangar_lock::Pass;
-use plan_merge::{MergeError, Merged, merge};
+use plan_merge::{MergeError, Merged, merge as merge_plans};
 use report_text::Answer;
 use std::alloc::Global;
 use std::sync::Wait;
 
-/// The branches of a merge.
+/// A merge that is carried out, with the branches that it names.
 #[derive(Drop)]
-pub(crate) struct MergedBranches<'a> {
-    pub(crate) target: &'a Name,
-    pub(crate) source: &'a Name,
-    pub(crate) base: &'a Name,
+pub(crate) struct MergeAssignment<'m, 'w, 'a, R: Wait, G: Gate> {
+    pub(crate) assignment: &'m Assignment<'w, 'a, R, G>,
+    pub(crate) target: &'m Name,
+    pub(crate) source: &'m Name,
+    pub(crate) base: &'m Name,
+}
+
+/// The target and the source of a merge as they were fetched.
+#[derive(Drop)]
+pub(crate) struct FetchedPair<'f> {
+    pub(crate) target: &'f FetchedBranch,
+    pub(crate) source: &'f FetchedBranch,
+}
+
+/// All branches of a merge as they were fetched.
+#[derive(Drop)]
+pub(crate) struct FetchedBranches<'f> {
+    pub(crate) target: &'f FetchedBranch,
+    pub(crate) source: &'f FetchedBranch,
+    pub(crate) base: &'f FetchedBranch,
 }
 
 /// Fetches a branch.
 fn fetch<R: Wait, G: Gate>(
     alloc: Global,
-    place: &Workplace<R, G>,
-    turn: ClientCommand,
+    assignment: &Assignment<R, G>,
     part: u32,
     branch: &Name,
     pass: &mut Pass,
 ) -> Result<Reply, OutOfMemory>
-    requires own { pass.old.lock ≡ place.now.lock.now }
-    ensures { IfOk result (HasOneMore pass.old pass.new (entry_of turn part (action.Fetch branch.now))) }
+    requires own { pass.old.lock ≡ assignment.now.workplace.now.lock.now }
+    ensures { IfOk result (HasOneMore pass.old pass.new
+        (entry_of assignment.now.whose part (action.Fetch branch.now))) }
 {
     let branch = branch.copy(alloc)?;
-    let reply = act(alloc, place, turn, part, Action::Fetch { branch }, pass)?;
+    let reply = act(alloc, assignment, part, Action::Fetch { branch }, pass)?;
     Ok(reply)
 }
 
@@ -64,7 +81,7 @@ fn merged_or_refused(
     ensures exact { IfOk result (λ made. made ≡ merge_of base.now source.now target.now) }
     ensures order { IfOk result (λ made. IfOk made (λ merged. IsInOrder merged.plan)) }
 {
-    match merge(alloc, base, source, target) {
+    match merge_plans(alloc, base, source, target) {
         Ok(merged) => Ok(Ok(merged)),
         Err(MergeError::OutOfMemory) => Err(OutOfMemory),
         Err(error) => Ok(Err(error)),
@@ -84,47 +101,42 @@ fn merge_told(added: List<u32>, reply: Reply) -> Answer
 /// Places a merged plan where the target was fetched.
 fn place_merged<R: Wait, G: Gate>(
     alloc: Global,
-    place: &Workplace<R, G>,
-    turn: ClientCommand,
-    branches: &MergedBranches,
+    merge: &MergeAssignment<R, G>,
     seen: u64,
     plan: Plan,
     pass: &mut Pass,
 ) -> Result<Reply, OutOfMemory>
-    requires own { pass.old.lock ≡ place.now.lock.now }
-    requires plan { IsPlanAt place.now.lock.now plan }
-    ensures { IfOk result (HasOneMore pass.old pass.new (entry_of turn 3 (action.Place branches.now.target.now seen plan))) }
+    requires own { pass.old.lock ≡ merge.now.assignment.now.workplace.now.lock.now }
+    requires plan { IsPlanAt merge.now.assignment.now.workplace.now.lock.now plan }
+    ensures { IfOk result (HasOneMore pass.old pass.new
+        (entry_of merge.now.assignment.now.whose 3 (action.Place merge.now.target.now seen plan))) }
 {
-    let branch = branches.target.copy(alloc)?;
+    let branch = merge.target.copy(alloc)?;
     let placing = Action::Place { branch, seen, plan };
-    let reply = act(alloc, place, turn, 3, placing, pass)?;
+    let reply = act(alloc, merge.assignment, 3, placing, pass)?;
     Ok(reply)
 }
 
 /// What becomes of a merge of three fetched branches of one model.
 fn merge_alike<R: Wait, G: Gate>(
     alloc: Global,
-    place: &Workplace<R, G>,
-    turn: ClientCommand,
-    branches: &MergedBranches,
-    target: &FetchedBranch,
-    source: &FetchedBranch,
-    base: &FetchedBranch,
+    merge: &MergeAssignment<R, G>,
+    all: &FetchedBranches,
     pass: &mut Pass,
 ) -> Result<Answer, OutOfMemory>
-    requires place { IsAtWork place.now.mission.now place.now.lock.now pass.old }
-    requires target { IsPlanAt place.now.lock.now target.now.plan }
-    requires source { IsPlanAt place.now.lock.now source.now.plan }
-    requires base { IsPlanAt place.now.lock.now base.now.plan }
-    requires alike { are_of_one_model base.now.plan source.now.plan target.now.plan ≡ true }
-    ensures { IfOk result (IsMergeCarriedOn place.now.mission.now turn branches.now.target.now branches.now.source.now branches.now.base.now
-        (reply_with target.now ∷ reply_with source.now ∷ reply_with base.now ∷ []) pass.old pass.new) }
+    requires workplace { IsAssignedTo merge.now.assignment.now pass.old }
+    requires fetched { AreFetchedAt merge.now.assignment.now.workplace.now.lock.now all.now }
+    requires alike { are_of_one_model all.now.base.now.plan all.now.source.now.plan all.now.target.now.plan ≡ true }
+    ensures { IfOk result (IsMergeCarriedOn (merge_begun merge.now (replies_with all.now))
+        pass.old pass.new) }
 {
+    let base = all.base;
+    let source = all.source;
+    let target = all.target;
     let made = merged_or_refused(alloc, base.plan.get(), source.plan.get(), target.plan.get())?;
     match made {
         Ok(merged) => {
-            let seen = target.revision;
-            let reply = place_merged(alloc, place, turn, branches, seen, merged.plan, pass)?;
+            let reply = place_merged(alloc, merge, target.revision, merged.plan, pass)?;
             Ok(merge_told(merged.added, reply))
         }
         Err(error) => Ok(Answer::MergeRefused(error)),
@@ -134,23 +146,20 @@ fn merge_alike<R: Wait, G: Gate>(
 /// What becomes of a merge of three fetched branches.
 fn merge_fetched<R: Wait, G: Gate>(
     alloc: Global,
-    place: &Workplace<R, G>,
-    turn: ClientCommand,
-    branches: &MergedBranches,
-    target: &FetchedBranch,
-    source: &FetchedBranch,
-    base: &FetchedBranch,
+    merge: &MergeAssignment<R, G>,
+    all: &FetchedBranches,
     pass: &mut Pass,
 ) -> Result<Answer, OutOfMemory>
-    requires place { IsAtWork place.now.mission.now place.now.lock.now pass.old }
-    requires target { IsPlanAt place.now.lock.now target.now.plan }
-    requires source { IsPlanAt place.now.lock.now source.now.plan }
-    requires base { IsPlanAt place.now.lock.now base.now.plan }
-    ensures { IfOk result (IsMergeCarriedOn place.now.mission.now turn branches.now.target.now branches.now.source.now branches.now.base.now
-        (reply_with target.now ∷ reply_with source.now ∷ reply_with base.now ∷ []) pass.old pass.new) }
+    requires workplace { IsAssignedTo merge.now.assignment.now pass.old }
+    requires fetched { AreFetchedAt merge.now.assignment.now.workplace.now.lock.now all.now }
+    ensures { IfOk result (IsMergeCarriedOn (merge_begun merge.now (replies_with all.now))
+        pass.old pass.new) }
 {
+    let base = all.base;
+    let source = all.source;
+    let target = all.target;
     if are_alike(base.plan.get(), source.plan.get(), target.plan.get()) {
-        return merge_alike(alloc, place, turn, branches, target, source, base, pass);
+        return merge_alike(alloc, merge, all, pass);
     }
     Ok(Answer::OtherModel)
 }
@@ -158,23 +167,27 @@ fn merge_fetched<R: Wait, G: Gate>(
 /// The same by the reply to the Fetch of the base.
 fn base_fetched<R: Wait, G: Gate>(
     alloc: Global,
-    place: &Workplace<R, G>,
-    turn: ClientCommand,
-    branches: &MergedBranches,
-    target: &FetchedBranch,
-    source: &FetchedBranch,
+    merge: &MergeAssignment<R, G>,
+    pair: &FetchedPair,
     third: Reply,
     pass: &mut Pass,
 ) -> Result<Answer, OutOfMemory>
-    requires place { IsAtWork place.now.mission.now place.now.lock.now pass.old }
-    requires target { IsPlanAt place.now.lock.now target.now.plan }
-    requires source { IsPlanAt place.now.lock.now source.now.plan }
-    requires third { IsReplyAt place.now.lock.now third }
-    ensures { IfOk result (IsMergeCarriedOn place.now.mission.now turn branches.now.target.now branches.now.source.now branches.now.base.now
-        (reply_with target.now ∷ reply_with source.now ∷ third ∷ []) pass.old pass.new) }
+    requires workplace { IsAssignedTo merge.now.assignment.now pass.old }
+    requires target { IsPlanAt merge.now.assignment.now.workplace.now.lock.now pair.now.target.now.plan }
+    requires source { IsPlanAt merge.now.assignment.now.workplace.now.lock.now pair.now.source.now.plan }
+    requires third { IsReplyAt merge.now.assignment.now.workplace.now.lock.now third }
+    ensures { IfOk result (IsMergeCarriedOn (merge_begun merge.now
+        (reply_with pair.now.target.now ∷ reply_with pair.now.source.now ∷ third ∷ [])) pass.old pass.new) }
 {
     match fetched(third) {
-        Ok(base) => merge_fetched(alloc, place, turn, branches, target, source, &base, pass),
+        Ok(base) => {
+            let all = FetchedBranches {
+                target: pair.target,
+                source: pair.source,
+                base: &base,
+            };
+            merge_fetched(alloc, merge, &all, pass)
+        }
         Err(refusal) => Ok(Answer::Reply(refusal)),
     }
 }
@@ -182,23 +195,25 @@ fn base_fetched<R: Wait, G: Gate>(
 /// The same by the reply to the Fetch of the source.
 fn source_fetched<R: Wait, G: Gate>(
     alloc: Global,
-    place: &Workplace<R, G>,
-    turn: ClientCommand,
-    branches: &MergedBranches,
+    merge: &MergeAssignment<R, G>,
     target: &FetchedBranch,
     second: Reply,
     pass: &mut Pass,
 ) -> Result<Answer, OutOfMemory>
-    requires place { IsAtWork place.now.mission.now place.now.lock.now pass.old }
-    requires target { IsPlanAt place.now.lock.now target.now.plan }
-    requires second { IsReplyAt place.now.lock.now second }
-    ensures { IfOk result (IsMergeCarriedOn place.now.mission.now turn branches.now.target.now branches.now.source.now branches.now.base.now
-        (reply_with target.now ∷ second ∷ []) pass.old pass.new) }
+    requires workplace { IsAssignedTo merge.now.assignment.now pass.old }
+    requires target { IsPlanAt merge.now.assignment.now.workplace.now.lock.now target.now.plan }
+    requires second { IsReplyAt merge.now.assignment.now.workplace.now.lock.now second }
+    ensures { IfOk result (IsMergeCarriedOn (merge_begun merge.now (reply_with target.now ∷ second ∷ []))
+        pass.old pass.new) }
 {
     match fetched(second) {
         Ok(source) => {
-            let third = fetch(alloc, place, turn, 2, branches.base, pass)?;
-            let answer = base_fetched(alloc, place, turn, branches, target, &source, third, pass)?;
+            let pair = FetchedPair {
+                target,
+                source: &source,
+            };
+            let third = fetch(alloc, merge.assignment, 2, merge.base, pass)?;
+            let answer = base_fetched(alloc, merge, &pair, third, pass)?;
             Ok(answer)
         }
         Err(refusal) => Ok(Answer::Reply(refusal)),
@@ -208,20 +223,18 @@ fn source_fetched<R: Wait, G: Gate>(
 /// The same by the reply to the Fetch of the target.
 pub(crate) fn merged<R: Wait, G: Gate>(
     alloc: Global,
-    place: &Workplace<R, G>,
-    turn: ClientCommand,
-    branches: &MergedBranches,
+    merge: &MergeAssignment<R, G>,
     first: Reply,
     pass: &mut Pass,
 ) -> Result<Answer, OutOfMemory>
-    requires place { IsAtWork place.now.mission.now place.now.lock.now pass.old }
-    requires first { IsReplyAt place.now.lock.now first }
-    ensures { IfOk result (IsMergeCarriedOn place.now.mission.now turn branches.now.target.now branches.now.source.now branches.now.base.now (first ∷ []) pass.old pass.new) }
+    requires workplace { IsAssignedTo merge.now.assignment.now pass.old }
+    requires first { IsReplyAt merge.now.assignment.now.workplace.now.lock.now first }
+    ensures { IfOk result (IsMergeCarriedOn (merge_begun merge.now (first ∷ [])) pass.old pass.new) }
 {
     match fetched(first) {
         Ok(target) => {
-            let second = fetch(alloc, place, turn, 1, branches.source, pass)?;
-            let answer = source_fetched(alloc, place, turn, branches, &target, second, pass)?;
+            let second = fetch(alloc, merge.assignment, 1, merge.source, pass)?;
+            let answer = source_fetched(alloc, merge, &target, second, pass)?;
             Ok(answer)
         }
         Err(refusal) => Ok(Answer::Reply(refusal)),

@@ -35,7 +35,7 @@ pub struct Mission {
     /// What the cost of a simulation may come to, at most 100,000,000.
     pub bound: u64,
     /// Whether reports tell how many statements their simulations ran.
-    pub counts: bool,
+    pub stats: bool,
 }
 
 impl Mission {
@@ -59,6 +59,6 @@ impl Mission {
     pub(crate) fn count(&self, statements: u64) -> Option<u64>
         ensures { result ≡ count_told self.now statements }
     {
-        if self.counts { Some(statements) } else { None }
+        if self.stats { Some(statements) } else { None }
     }
 }

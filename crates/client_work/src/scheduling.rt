@@ -2,24 +2,23 @@
 
 ghost use Rattle.std.specs.Prelude.{◌≡◌, ◌≤◌, [], ◌∷◌, IfOk};
 ghost use Rattle.aerie_base.specs.Ranges.{step_limit};
-ghost use Rattle.hangar_core.specs.declared.commands.Command.TheVariants as command;
+ghost use Rattle.commands.specs.declared.commands.Command.TheVariants as command;
 ghost use Rattle.scheduler.specs.Told.{IsLikePlan};
 ghost use Rattle.aerie_base.specs.plans.OfModel.{IsPlanOf};
 ghost use Rattle.client_work.specs.Fetching.{IsPlanOfMission, reply_with};
 ghost use Rattle.client_work.specs.Meanings.{ruled_by, scheduled as scheduled_by};
 ghost use Rattle.client_work.specs.Told.{schedule_told as told_by};
-ghost use Rattle.client_work.specs.Working.{IsAtWork, IsCarriedOn, IsPlanAt, IsReplyAt};
+ghost use Rattle.client_work.specs.Working.{begun, IsAssignedTo, IsCarriedOn, IsLater, IsPlanAt, IsReplyAt, work_state};
 
 use crate::acting::act;
 use crate::fetching::{FetchedBranch, fetched};
 use crate::missions::Mission;
-use crate::turns::{ClientCommand, Workplace};
+use crate::workplace::{Assignment, Worker};
 use aerie_base::{List, Name, OutOfMemory, Plan, Steps};
 use aerie_edge::Gate;
 use bench::Bench;
 use goals::GoalStatus;
 use hangar_core::{Action, Reply};
-use hangar_lock::Pass;
 use report_text::Answer;
 use scheduler::{Schedule, schedule};
 use std::alloc::Global;
@@ -38,7 +37,7 @@ fn schedule_of<L: Ledger, K: Ledger>(
     requires bound { mission.now.bound ≤ step_limit }
     ensures made { IfOk result (λ made. made ≡ scheduled_by mission.now.models mission.now.bound plan.now) }
     ensures of_model { IfOk result (λ made. IsPlanOf (ruled_by mission.now.models plan.now).model made.plan) }
-    ensures same_place { IfOk result (λ made. IsLikePlan plan.now made.plan) }
+    ensures same_position { IfOk result (λ made. IsLikePlan plan.now made.plan) }
     ensures steps { steps.old ≤ steps.new }
 {
     let ruled = mission.ruled(plan);
@@ -73,20 +72,20 @@ fn schedule_told(goals: List<GoalStatus>, trials: u32, reply: Reply) -> Answer
 /// Schedules a fetched branch: the plan is placed where no other change came between.
 fn schedule_fetched<R: Wait, G: Gate, L: Ledger, K: Ledger>(
     alloc: Global,
-    place: &Workplace<R, G>,
-    turn: ClientCommand,
+    assignment: &Assignment<R, G>,
     branch: &Name,
     found: &FetchedBranch,
-    pass: &mut Pass,
-    steps: &mut Steps<L>,
-    looks: &mut Steps<K>,
+    worker: &mut Worker<L, K>,
 ) -> Result<Answer, OutOfMemory>
-    requires place { IsAtWork place.now.mission.now place.now.lock.now pass.old }
-    requires found { IsPlanAt place.now.lock.now found.now.plan }
-    ensures done { IfOk result (IsCarriedOn place.now.mission.now turn (command.Schedule branch.now) (reply_with found.now ∷ []) pass.old pass.new steps.old steps.new) }
-    ensures steps { steps.old ≤ steps.new }
+    requires workplace { IsAssignedTo assignment.now worker.old.pass.now }
+    requires found { IsPlanAt assignment.now.workplace.now.lock.now found.now.plan }
+    ensures done { IfOk result (IsCarriedOn
+        (begun assignment.now (command.Schedule branch.now) (reply_with found.now ∷ []))
+        (work_state worker.old) (work_state worker.new)) }
+    ensures later { IsLater worker.old worker.new }
 {
-    let made = schedule_of(alloc, place.mission, found.plan.get(), steps, looks)?;
+    let mission = assignment.workplace.mission;
+    let made = schedule_of(alloc, mission, found.plan.get(), worker.steps, worker.looks)?;
     let seen = found.revision;
     let branch = branch.copy(alloc)?;
     let placing = Action::Place {
@@ -94,28 +93,26 @@ fn schedule_fetched<R: Wait, G: Gate, L: Ledger, K: Ledger>(
         seen,
         plan: made.plan,
     };
-    let reply = act(alloc, place, turn, 1, placing, pass)?;
+    let reply = act(alloc, assignment, 1, placing, worker.pass)?;
     Ok(schedule_told(made.goals, made.trials, reply))
 }
 
 /// What becomes of a schedule of a branch, by the reply to its Fetch.
 pub(crate) fn scheduled<R: Wait, G: Gate, L: Ledger, K: Ledger>(
     alloc: Global,
-    place: &Workplace<R, G>,
-    turn: ClientCommand,
+    assignment: &Assignment<R, G>,
     branch: &Name,
     first: Reply,
-    pass: &mut Pass,
-    steps: &mut Steps<L>,
-    looks: &mut Steps<K>,
+    worker: &mut Worker<L, K>,
 ) -> Result<Answer, OutOfMemory>
-    requires place { IsAtWork place.now.mission.now place.now.lock.now pass.old }
-    requires first { IsReplyAt place.now.lock.now first }
-    ensures done { IfOk result (IsCarriedOn place.now.mission.now turn (command.Schedule branch.now) (first ∷ []) pass.old pass.new steps.old steps.new) }
-    ensures steps { steps.old ≤ steps.new }
+    requires workplace { IsAssignedTo assignment.now worker.old.pass.now }
+    requires first { IsReplyAt assignment.now.workplace.now.lock.now first }
+    ensures done { IfOk result (IsCarriedOn (begun assignment.now (command.Schedule branch.now) (first ∷ []))
+        (work_state worker.old) (work_state worker.new)) }
+    ensures later { IsLater worker.old worker.new }
 {
     match fetched(first) {
-        Ok(found) => schedule_fetched(alloc, place, turn, branch, &found, pass, steps, looks),
+        Ok(found) => schedule_fetched(alloc, assignment, branch, &found, worker),
         Err(refusal) => Ok(Answer::Reply(refusal)),
     }
 }

@@ -3,18 +3,18 @@
 ghost use Rattle.std.specs.Prelude.{◌≡◌, ◌≤◌, [], ◌∷◌, IfOk};
 ghost use Rattle.aerie_base.specs.Ranges.{step_limit};
 ghost use Rattle.run_data.specs.Waves.{RoseAlike};
-ghost use Rattle.hangar_core.specs.Standing.{IsKeptIn};
+ghost use Rattle.hangar_core.specs.ValidWorkspaces.{IsKeptIn};
 ghost use Rattle.hangar_core.specs.declared.actions.Action.TheVariants as action;
-ghost use Rattle.hangar_core.specs.declared.commands.Command.TheVariants as command;
+ghost use Rattle.commands.specs.declared.commands.Command.TheVariants as command;
 ghost use Rattle.client_work.specs.Fetching.{IsPlanOfMission, reply_with};
 ghost use Rattle.client_work.specs.Meanings.{simulated};
 ghost use Rattle.client_work.specs.Told.{is_attached as is_run_kept, sequence_told};
-ghost use Rattle.client_work.specs.Working.{entry_of, HasOneMore, IsAtWork, IsCarriedOn, IsPlanAt, IsReplyAt};
+ghost use Rattle.client_work.specs.Working.{begun, entry_of, HasOneMore, IsAssignedTo, IsCarriedOn, IsLater, IsPlanAt, IsReplyAt, work_state};
 
 use crate::acting::act;
 use crate::fetching::{FetchedBranch, fetched};
 use crate::missions::Mission;
-use crate::turns::{ClientCommand, Workplace};
+use crate::workplace::{Assignment, Worker};
 use aerie_base::{Name, OutOfMemory, Plan, Shared, Steps};
 use aerie_edge::{Gate, Point};
 use bench::Bench;
@@ -72,20 +72,20 @@ fn is_attached(reply: &Reply) -> bool
 /// Keeps the run on the branch, and answers the reply.
 fn attach<R: Wait, G: Gate>(
     alloc: Global,
-    place: &Workplace<R, G>,
-    turn: ClientCommand,
+    assignment: &Assignment<R, G>,
     branch: &Name,
     run: &Shared<Kept>,
     pass: &mut Pass,
 ) -> Result<Reply, OutOfMemory>
-    requires own { pass.old.lock ≡ place.now.lock.now }
-    requires run { IsKeptIn place.now.lock.now.opened.workspace.models run.now }
-    ensures { IfOk result (HasOneMore pass.old pass.new (entry_of turn 1 (action.Attach branch.now run.now))) }
+    requires own { pass.old.lock ≡ assignment.now.workplace.now.lock.now }
+    requires run { IsKeptIn assignment.now.workplace.now.lock.now.opened.workspace.models run.now }
+    ensures { IfOk result (HasOneMore pass.old pass.new
+        (entry_of assignment.now.whose 1 (action.Attach branch.now run.now))) }
 {
     let branch = branch.copy(alloc)?;
     let kept = run.share()?;
     let attaching = Action::Attach { branch, kept };
-    let reply = act(alloc, place, turn, 1, attaching, pass)?;
+    let reply = act(alloc, assignment, 1, attaching, pass)?;
     Ok(reply)
 }
 
@@ -93,25 +93,29 @@ fn attach<R: Wait, G: Gate>(
 /// any turn of the lock.
 fn report_of<R: Wait, G: Gate, L: Ledger, K: Ledger>(
     alloc: Global,
-    place: &Workplace<R, G>,
-    turn: ClientCommand,
+    assignment: &Assignment<R, G>,
     branch: &Name,
     found: &FetchedBranch,
-    pass: &mut Pass,
-    steps: &mut Steps<L>,
-    looks: &mut Steps<K>,
+    worker: &mut Worker<L, K>,
 ) -> Result<Answer, OutOfMemory>
-    requires place { IsAtWork place.now.mission.now place.now.lock.now pass.old }
-    requires found { IsPlanAt place.now.lock.now found.now.plan }
-    ensures done { IfOk result (IsCarriedOn place.now.mission.now turn (command.Simulate branch.now) (reply_with found.now ∷ []) pass.old pass.new steps.old steps.new) }
-    ensures steps { steps.old ≤ steps.new }
+    requires workplace { IsAssignedTo assignment.now worker.old.pass.now }
+    requires found { IsPlanAt assignment.now.workplace.now.lock.now found.now.plan }
+    ensures done { IfOk result (IsCarriedOn
+        (begun assignment.now (command.Simulate branch.now) (reply_with found.now ∷ []))
+        (work_state worker.old) (work_state worker.new)) }
+    ensures later { IsLater worker.old worker.new }
 {
-    let mission = place.mission;
+    let whose = assignment.whose;
+    let workplace = assignment.workplace;
+    let mission = workplace.mission;
     let plan = found.plan.get();
-    place.gate.at(turn.client, turn.command, Point::Starts);
-    let made = simulate(alloc, mission, plan, found.kept.as_ref(), steps, looks)?;
-    place.gate.at(turn.client, turn.command, Point::Ends);
-    let reply = attach(alloc, place, turn, branch, &made.run, pass)?;
+    let kept = found.kept.as_ref();
+    workplace
+        .gate
+        .at(whose.client, whose.command, Point::Starts);
+    let made = simulate(alloc, mission, plan, kept, worker.steps, worker.looks)?;
+    workplace.gate.at(whose.client, whose.command, Point::Ends);
+    let reply = attach(alloc, assignment, branch, &made.run, worker.pass)?;
     let report = Report {
         start: mission.start,
         run: made.run,
@@ -126,21 +130,19 @@ fn report_of<R: Wait, G: Gate, L: Ledger, K: Ledger>(
 /// The report of a branch by the reply to its Fetch.
 pub(crate) fn reported<R: Wait, G: Gate, L: Ledger, K: Ledger>(
     alloc: Global,
-    place: &Workplace<R, G>,
-    turn: ClientCommand,
+    assignment: &Assignment<R, G>,
     branch: &Name,
     first: Reply,
-    pass: &mut Pass,
-    steps: &mut Steps<L>,
-    looks: &mut Steps<K>,
+    worker: &mut Worker<L, K>,
 ) -> Result<Answer, OutOfMemory>
-    requires place { IsAtWork place.now.mission.now place.now.lock.now pass.old }
-    requires first { IsReplyAt place.now.lock.now first }
-    ensures done { IfOk result (IsCarriedOn place.now.mission.now turn (command.Simulate branch.now) (first ∷ []) pass.old pass.new steps.old steps.new) }
-    ensures steps { steps.old ≤ steps.new }
+    requires workplace { IsAssignedTo assignment.now worker.old.pass.now }
+    requires first { IsReplyAt assignment.now.workplace.now.lock.now first }
+    ensures done { IfOk result (IsCarriedOn (begun assignment.now (command.Simulate branch.now) (first ∷ []))
+        (work_state worker.old) (work_state worker.new)) }
+    ensures later { IsLater worker.old worker.new }
 {
     match fetched(first) {
-        Ok(found) => report_of(alloc, place, turn, branch, &found, pass, steps, looks),
+        Ok(found) => report_of(alloc, assignment, branch, &found, worker),
         Err(refusal) => Ok(Answer::Reply(refusal)),
     }
 }
@@ -174,23 +176,23 @@ fn sequence_of<'a>(
 /// The commands that the run of a fetched branch gives; the run is kept on the branch.
 fn expansion_of<R: Wait, G: Gate, L: Ledger, K: Ledger>(
     alloc: Global,
-    place: &Workplace<R, G>,
-    turn: ClientCommand,
+    assignment: &Assignment<R, G>,
     branch: &Name,
     found: &FetchedBranch,
-    pass: &mut Pass,
-    steps: &mut Steps<L>,
-    looks: &mut Steps<K>,
+    worker: &mut Worker<L, K>,
 ) -> Result<Answer, OutOfMemory>
-    requires place { IsAtWork place.now.mission.now place.now.lock.now pass.old }
-    requires found { IsPlanAt place.now.lock.now found.now.plan }
-    ensures done { IfOk result (IsCarriedOn place.now.mission.now turn (command.Expand branch.now) (reply_with found.now ∷ []) pass.old pass.new steps.old steps.new) }
-    ensures steps { steps.old ≤ steps.new }
+    requires workplace { IsAssignedTo assignment.now worker.old.pass.now }
+    requires found { IsPlanAt assignment.now.workplace.now.lock.now found.now.plan }
+    ensures done { IfOk result (IsCarriedOn
+        (begun assignment.now (command.Expand branch.now) (reply_with found.now ∷ []))
+        (work_state worker.old) (work_state worker.new)) }
+    ensures later { IsLater worker.old worker.new }
 {
-    let mission = place.mission;
+    let mission = assignment.workplace.mission;
+    let plan = found.plan.get();
     let kept = found.kept.as_ref();
-    let made = simulate(alloc, mission, found.plan.get(), kept, steps, looks)?;
-    attach(alloc, place, turn, branch, &made.run, pass)?;
+    let made = simulate(alloc, mission, plan, kept, worker.steps, worker.looks)?;
+    attach(alloc, assignment, branch, &made.run, worker.pass)?;
     let answer = sequence_of(alloc, mission, found, made.run)?;
     Ok(answer)
 }
@@ -198,21 +200,19 @@ fn expansion_of<R: Wait, G: Gate, L: Ledger, K: Ledger>(
 /// The commands that the run of a branch gives, by the reply to its Fetch.
 pub(crate) fn expanded<R: Wait, G: Gate, L: Ledger, K: Ledger>(
     alloc: Global,
-    place: &Workplace<R, G>,
-    turn: ClientCommand,
+    assignment: &Assignment<R, G>,
     branch: &Name,
     first: Reply,
-    pass: &mut Pass,
-    steps: &mut Steps<L>,
-    looks: &mut Steps<K>,
+    worker: &mut Worker<L, K>,
 ) -> Result<Answer, OutOfMemory>
-    requires place { IsAtWork place.now.mission.now place.now.lock.now pass.old }
-    requires first { IsReplyAt place.now.lock.now first }
-    ensures done { IfOk result (IsCarriedOn place.now.mission.now turn (command.Expand branch.now) (first ∷ []) pass.old pass.new steps.old steps.new) }
-    ensures steps { steps.old ≤ steps.new }
+    requires workplace { IsAssignedTo assignment.now worker.old.pass.now }
+    requires first { IsReplyAt assignment.now.workplace.now.lock.now first }
+    ensures done { IfOk result (IsCarriedOn (begun assignment.now (command.Expand branch.now) (first ∷ []))
+        (work_state worker.old) (work_state worker.new)) }
+    ensures later { IsLater worker.old worker.new }
 {
     match fetched(first) {
-        Ok(found) => expansion_of(alloc, place, turn, branch, &found, pass, steps, looks),
+        Ok(found) => expansion_of(alloc, assignment, branch, &found, worker),
         Err(refusal) => Ok(Answer::Reply(refusal)),
     }
 }

@@ -13,7 +13,7 @@ use Rattle.command_line.proofs.Parts.{bad_none, judged, judged_with, mode, name_
 use Rattle.command_line.proofs.Rows.{Pending, none, some, all_different, conflict, held, is_stale, parts_in, row_added, row_there, rows_of, settle_faults, settles, texts_in, top}
 use Rattle.command_line.proofs.Ends.{answer_by, end_fault, ends}
 use Rattle.command_line.proofs.WordSorts.{Flag, Opt, View, a_limit, a_number, dashed, dashes_view, flag_name, flag_view, option_name, option_view, plain_view, serial, short_view, some_pieces, stats, text, unknown_view, valued_of, valued_view, view}
-use Rattle.command_line.proofs.Turns.{IsValue, answer_at, at, dashes_turn, dashes_walk, dead, fails, flag_stale, flag_turn, flag_walk, goes, last_turn, last_walk, behind_last, option_turn, option_walk, plain_is_value, second_turn, short_idle, short_is_value, short_waits, stays_dead, unknown_idle, unknown_waits, value_turn, value_walk, valued_stale, valued_turn, valued_walk, waiting, waits_at, waits_dashes_turn, waits_dashes_walk, waits_end, waits_flag, waits_option, waits_value_turn, waits_value_walk, waits_valued}
+use Rattle.command_line.proofs.WordByWord.{IsValue, answer_at, at, dashes_iteration, dashes_walk, dead, fails, flag_stale, flag_iteration, flag_walk, goes, last_iteration, last_walk, behind_last, option_iteration, option_walk, plain_is_value, second_iteration, short_idle, short_is_value, short_waits, stays_dead, unknown_idle, unknown_waits, value_iteration, value_walk, valued_stale, valued_iteration, valued_walk, waiting, waits_at, waits_dashes_iteration, waits_dashes_walk, waits_end, waits_flag, waits_option, waits_value_iteration, waits_value_walk, waits_valued}
 
 -- ---- where the walk stands
 
@@ -111,11 +111,11 @@ flag_step f rest next ps pending taken d m = go (is_stale ps pending) refl ∙ s
         → answer_at (at (held ps pending) taken false) (dashed (flag_name f) ∷ rest) ≡ judged (ps ++ parts_in pending) (with_part (flag_part (flag_name f)) (parts_from rest None))
     last true new twice =
         fails (at (held ps pending) taken false) (dashed (flag_name f)) rest
-        (ap is_no_fault (flag_turn f (held ps pending) taken true (settle_faults ps pending ∙ ap conflict new) (rows_there ps pending (flag_name f) true new twice)))
+        (ap is_no_fault (flag_iteration f (held ps pending) taken true (settle_faults ps pending ∙ ap conflict new) (rows_there ps pending (flag_name f) true new twice)))
         ∙ sym (judged_with (ps ++ parts_in pending) (flag_part (flag_name f)) (parts_from rest None) ∙ repeated_none (ps ++ parts_in pending) (flag_part (flag_name f)) (parts_from rest None) twice)
     last false new once =
         goes (at (held ps pending) taken false) (at (held ((ps ++ parts_in pending) ++ flag_part (flag_name f) ∷ []) none) taken false) (dashed (flag_name f)) rest
-        (flag_turn f (held ps pending) taken false (settle_faults ps pending ∙ ap conflict new) (rows_there ps pending (flag_name f) false new once))
+        (flag_iteration f (held ps pending) taken false (settle_faults ps pending ∙ ap conflict new) (rows_there ps pending (flag_name f) false new once))
         (flag_walk f (held ps pending) taken ∙ ap (λ h. at h taken false) (used ps pending (flag_name f) (codes "true") new once))
         ∙ behind_used rest next (ps ++ parts_in pending) (flag_name f) (codes "true") taken (all_different ps pending d new) m once (flag_no_mode f)
 
@@ -146,11 +146,11 @@ valued_step o value rest next ps pending taken d m = go (is_stale ps pending) re
         → answer_at (at (held ps pending) taken false) (dashed (option_name o ++ 61 ∷ value) ∷ rest) ≡ judged (ps ++ parts_in pending) (with_part (option_name o, value) (parts_from rest None))
     last true new twice =
         fails (at (held ps pending) taken false) (dashed (option_name o ++ 61 ∷ value)) rest
-        (ap is_no_fault (valued_turn o value (held ps pending) taken true (settle_faults ps pending ∙ ap conflict new) (rows_there ps pending (option_name o) true new twice)))
+        (ap is_no_fault (valued_iteration o value (held ps pending) taken true (settle_faults ps pending ∙ ap conflict new) (rows_there ps pending (option_name o) true new twice)))
         ∙ sym (judged_with (ps ++ parts_in pending) (option_name o, value) (parts_from rest None) ∙ repeated_none (ps ++ parts_in pending) (option_name o, value) (parts_from rest None) twice)
     last false new once =
         goes (at (held ps pending) taken false) (at (held ((ps ++ parts_in pending) ++ (option_name o, value) ∷ []) none) taken false) (dashed (option_name o ++ 61 ∷ value)) rest
-        (valued_turn o value (held ps pending) taken false (settle_faults ps pending ∙ ap conflict new) (rows_there ps pending (option_name o) false new once))
+        (valued_iteration o value (held ps pending) taken false (settle_faults ps pending ∙ ap conflict new) (rows_there ps pending (option_name o) false new once))
         (valued_walk o value (held ps pending) taken ∙ ap (λ h. at h taken false) (used ps pending (option_name o) value new once))
         ∙ behind_used rest next (ps ++ parts_in pending) (option_name o) value taken (all_different ps pending d new) m once (option_no_mode o)
 
@@ -175,11 +175,11 @@ option_step o rest next ps pending taken d m = go (is_stale ps pending) refl ∙
     go : (t : Bool) → is_stale ps pending ≡ t
         → answer_at (at (held ps pending) taken false) (dashed (option_name o) ∷ rest) ≡ judged (ps ++ parts_in pending) (parts_from rest (Some (option_name o)))
     go true stale =
-        fails (at (held ps pending) taken false) (dashed (option_name o)) rest (ap is_no_fault (option_turn o (held ps pending) taken true (settle_faults ps pending ∙ ap conflict stale)))
+        fails (at (held ps pending) taken false) (dashed (option_name o)) rest (ap is_no_fault (option_iteration o (held ps pending) taken true (settle_faults ps pending ∙ ap conflict stale)))
         ∙ sym (stale_none ps pending (parts_from rest (Some (option_name o))) stale)
     go false new =
         goes (at (held ps pending) taken false) (waits_at (waiting (ps ++ parts_in pending) o) o taken) (dashed (option_name o)) rest
-        (option_turn o (held ps pending) taken false (settle_faults ps pending ∙ ap conflict new))
+        (option_iteration o (held ps pending) taken false (settle_faults ps pending ∙ ap conflict new))
         (option_walk o (held ps pending) taken ∙ ap (λ (h : Held). waits_at (record h { pending = Some (option_name o, []) }) o taken) (settles ps pending new))
         ∙ next (ps ++ parts_in pending) (waits o) taken (all_different ps pending d new) m
 
@@ -206,11 +206,11 @@ value_step word rest is sort next ps pending taken d m = go taken refl m ∙ sym
     first : (t : Bool) → is_stale ps pending ≡ t
         → answer_at (at (held ps pending) false false) (word ∷ rest) ≡ judged (ps ++ parts_in pending) (with_part (mode_part word) (parts_from rest None))
     first true stale =
-        fails (at (held ps pending) false false) word rest (ap is_no_fault (value_turn word (rows_of ps) (texts_in pending) true is (settle_faults ps pending ∙ ap conflict stale)))
+        fails (at (held ps pending) false false) word rest (ap is_no_fault (value_iteration word (rows_of ps) (texts_in pending) true is (settle_faults ps pending ∙ ap conflict stale)))
         ∙ sym (stale_none ps pending (with_part (mode_part word) (parts_from rest None)) stale)
     first false new =
         goes (at (held ps pending) false false) (at (held (ps ++ parts_in pending) (some mode word)) true false) word rest
-        (value_turn word (rows_of ps) (texts_in pending) false is (settle_faults ps pending ∙ ap conflict new))
+        (value_iteration word (rows_of ps) (texts_in pending) false is (settle_faults ps pending ∙ ap conflict new))
         (value_walk word (rows_of ps) (texts_in pending) is ∙ ap (λ (h : Held). at (record h { pending = Some (codes "mode", word ∷ []) }) true false) (settles ps pending new))
         ∙ next (ps ++ parts_in pending) (free (some mode word)) true (all_different ps pending d new) (mode_comes (ps ++ parts_in pending) word)
         ∙ sym (judged_with (ps ++ parts_in pending) (mode_part word) (parts_from rest None))
@@ -219,7 +219,7 @@ value_step word rest is sort next ps pending taken d m = go taken refl m ∙ sym
         → answer_at (at (held ps pending) taken false) (word ∷ rest) ≡ judged (ps ++ parts_in pending) (with_part (mode_part word) (parts_from rest None))
     go true e there =
         fails (at (held ps pending) taken false) word rest
-        (ap (λ (t : Bool). is_no_fault (turn_fault top [] (at (held ps pending) t false) word)) e ∙ second_turn word (rows_of ps) (texts_in pending) is)
+        (ap (λ (t : Bool). is_no_fault (turn_fault top [] (at (held ps pending) t false) word)) e ∙ second_iteration word (rows_of ps) (texts_in pending) is)
         ∙ sym (judged_with (ps ++ parts_in pending) (mode_part word) (parts_from rest None) ∙ repeated_none (ps ++ parts_in pending) (mode_part word) (parts_from rest None) (there ∙ e))
     go false e there = ap (λ (t : Bool). answer_at (at (held ps pending) t false) (word ∷ rest)) e ∙ first (is_stale ps pending) refl
 
@@ -242,11 +242,11 @@ last_words ps pending taken (word ∷ rest) d m = go taken refl m
 
     first : (t : Bool) → is_stale ps pending ≡ t → answer_at (at (held ps pending) false true) (word ∷ rest) ≡ judged (ps ++ parts_in pending) (parts_behind_dashes (word ∷ rest))
     first true stale =
-        fails (at (held ps pending) false true) word rest (ap is_no_fault (last_turn word (held ps pending) true (settle_faults ps pending ∙ ap conflict stale)))
+        fails (at (held ps pending) false true) word rest (ap is_no_fault (last_iteration word (held ps pending) true (settle_faults ps pending ∙ ap conflict stale)))
         ∙ sym (stale_none ps pending (parts_behind_dashes (word ∷ rest)) stale)
     first false new =
         goes (at (held ps pending) false true) (at (held (ps ++ parts_in pending) (some mode word)) true true) word rest
-        (last_turn word (held ps pending) false (settle_faults ps pending ∙ ap conflict new))
+        (last_iteration word (held ps pending) false (settle_faults ps pending ∙ ap conflict new))
         (last_walk word (held ps pending) ∙ ap (λ (h : Held). at (record h { pending = Some (codes "mode", word ∷ []) }) true true) (settles ps pending new))
         ∙ after rest new
 
@@ -267,7 +267,7 @@ dashes_step : (rest : List Word) (ps : List CommandPart) (pending : Pending) (ta
     → is_part (codes "mode") (ps ++ parts_in pending) ≡ taken
     → answer_at (at (held ps pending) taken false) (dashed [] ∷ rest) ≡ judged (ps ++ parts_in pending) (parts_from (dashed [] ∷ rest) None)
 dashes_step rest ps pending taken d m =
-    goes (at (held ps pending) taken false) (at (held ps pending) taken true) (dashed []) rest (dashes_turn (held ps pending) taken) (dashes_walk (held ps pending) taken)
+    goes (at (held ps pending) taken false) (at (held ps pending) taken true) (dashed []) rest (dashes_iteration (held ps pending) taken) (dashes_walk (held ps pending) taken)
     ∙ last_words ps pending taken rest d m ∙ sym (ap (judged (ps ++ parts_in pending)) (dashes_parts rest))
 
 -- ---- any word
@@ -319,7 +319,7 @@ waits_fails o word tail rest ps taken hyphen fault = fails (waits_at (waiting ps
 waits_takes : (o : Opt) (word : Word) (rest : List Word) → IsValue word → Answers rest → (ps : List CommandPart) (taken : Bool) → are_different ps ≡ true → is_part (codes "mode") ps ≡ taken
     → answer_at (waits_at (waiting ps o) o taken) (word ∷ rest) ≡ judged ps (parts_from (word ∷ rest) (Some (option_name o)))
 waits_takes o word rest is next ps taken d m =
-    goes (waits_at (waiting ps o) o taken) (at (held ps (some (valued_of o) word)) taken false) word rest (waits_value_turn word ps o taken is) (waits_value_walk word ps o taken is)
+    goes (waits_at (waiting ps o) o taken) (at (held ps (some (valued_of o) word)) taken false) word rest (waits_value_iteration word ps o taken is) (waits_value_walk word ps o taken is)
     ∙ next ps (free (some (valued_of o) word)) taken d (stays ∙ m)
     ∙ sym (ap (judged ps) (waits_parts (option_name o) word rest) ∙ judged_with ps (option_name o, word) (parts_from rest None))
   where
@@ -330,7 +330,7 @@ waits_step : (word : Word) → View word → (rest : List Word) → Answers rest
     → answer_at (waits_at (waiting ps o) o taken) (word ∷ rest) ≡ judged ps (parts_from (word ∷ rest) (Some (option_name o)))
 waits_step word (dashes_view e) rest next ps o taken d m =
     subst (λ (w : Word). answer_at (waits_at (waiting ps o) o taken) (w ∷ rest) ≡ judged ps (parts_from (w ∷ rest) (Some (option_name o)))) e
-    (goes (waits_at (waiting ps o) o taken) (dead ps o taken) (dashed []) rest (waits_dashes_turn ps o taken) (waits_dashes_walk ps o taken) ∙ stays_dead ps o taken rest
+    (goes (waits_at (waiting ps o) o taken) (dead ps o taken) (dashed []) rest (waits_dashes_iteration ps o taken) (waits_dashes_walk ps o taken) ∙ stays_dead ps o taken rest
     ∙ sym (waits_none o (dashed []) (45 ∷ []) rest ps refl))
 waits_step word (flag_view f e) rest next ps o taken d m =
     waits_fails o word (45 ∷ flag_name f) rest ps taken (sym e) (subst (λ (w : Word). is_no_fault (turn_fault top [] (waits_at (waiting ps o) o taken) w) ≡ false) e (waits_flag f ps o taken))

@@ -4,6 +4,6 @@ pub mod Numerals
 pub mod Parts
 pub mod Rows
 pub mod Taken
-pub mod Turns
+pub mod WordByWord
 pub mod WordSorts
 pub mod WrittenLines

@@ -25,7 +25,7 @@ pub struct Invocation {
     pub limit: u64,
     /// Into how many pieces a batch is cut at most: 1 to 64.
     pub pieces: u32,
-    /// Whether the clients take turns, command by command.
+    /// Whether the clients go in rounds, command by command.
     pub serial: bool,
     /// Whether replies tell how many statements a simulation ran.
     pub stats: bool,

@@ -7,7 +7,7 @@ use Rattle.aerie_base.specs.declared.values.Value.TheVariants as value
 use Rattle.aerie_base.specs.Ranges.{IsNumber}
 use Rattle.aerie_base.specs.expressions.Arithmetic.{number_in}
 use Rattle.profiles.specs.Neighbours.{RiseUpTo, DivideTime, first_start_of}
-use Rattle.profiles.specs.Samples.{last_started}
+use Rattle.windows.specs.Begun.{last_begun}
 use Rattle.windows.specs.declared.segments.Segment.{Segment}
 use Rattle.windows.specs.Linear.{AreSegments, Follow, IsSum, first_start, segment_value, segments_value}
 use Rattle.constraints.specs.Steps.{Step, HaveNumbers, flat, step_value}
@@ -25,7 +25,7 @@ flat_value (step ∷ next ∷ rest) t = go (flat_value (next ∷ rest) t) (nat_l
   where
     go : segments_value (map flat (next ∷ rest)) t ≡ number_in (step_value (next ∷ rest) t) → (b : Bool) →
         cond b (segments_value (map flat (next ∷ rest)) t) (segment_value (flat step) t)
-        ≡ number_in (unwrap_or (option_map (λ (s : Step). s.1) (cond b (last_started (λ (s : Step). s.0) (next ∷ rest) t) (Some step))) (value.Int (pos 0)))
+        ≡ number_in (unwrap_or (option_map (λ (s : Step). s.1) (cond b (last_begun (λ (s : Step). s.0) (next ∷ rest) t) (Some step))) (value.Int (pos 0)))
     go there true = there
     go there false = stays step t
 

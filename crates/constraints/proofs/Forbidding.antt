@@ -2,19 +2,14 @@
 use Rattle.std.proofs.Common.{◌≡◌, ℕ, Bool, true, false, not, List, [], map, None, refl, sym, ap, subst, ◌∙◌}
 use Rattle.aerie_base.specs.declared.models.model.Parts.{Parts}
 use Rattle.run_data.specs.declared.runs.Run.{Run}
-use Rattle.run_data.specs.Spans.{SpanOf, timed, spans_from, spans_of}
+use Rattle.run_data.specs.Spans.{SpanOf, spans_of}
 use Rattle.span_table.specs.declared.span.Span.{Span}
 use Rattle.span_table.specs.AsDefined.{defined_span}
 use Rattle.windows.specs.Times.{TimeSet, AreIntervals}
-use Rattle.constraints.specs.Meeting.{ByStart}
 use Rattle.constraints.specs.Violating.{listed, meet, where_not}
 use Rattle.constraints.specs.declared.violation.Violation.{Violation}
 use Rattle.constraints.proofs.Listing.{set_is}
-use Rattle.constraints.proofs.SpanOrder.{sorted_order}
 use Rattle.constraints.proofs.SpanTimes.{same_times}
-
-pub in_order : (model : Parts) (run : Run) (spans : List Span) → map defined_span spans ≡ spans_of model run → ByStart (map defined_span spans)
-in_order model run spans exact = subst ByStart (sym exact) (sorted_order (spans_from (timed run.instants) model [] (timed run.instants)))
 
 not_not : (b : Bool) → b ≡ not (not b)
 not_not true = refl

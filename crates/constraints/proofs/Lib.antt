@@ -7,7 +7,6 @@ pub mod Listing
 pub mod Mapping
 pub mod Meetings
 pub mod Merging
-pub mod Products
 pub mod Pushing
 pub mod ReadSeries
 pub mod ReadByRules

@@ -148,14 +148,14 @@ module _ (reach one other t : ℕ) where
       eq_self : (n : ℕ) → nat_eq n n ≡ true
       eq_self n = grind arith
 
-  same_turned : (path another : List ℕ) → same_path path another ≡ same_path another path
-  same_turned [] [] = refl
-  same_turned [] (m ∷ another) = refl
-  same_turned (n ∷ path) [] = refl
-  same_turned (n ∷ path) (m ∷ another) = (λ i. eq_turned n m i && same_turned path another i)
+  same_swapped : (path another : List ℕ) → same_path path another ≡ same_path another path
+  same_swapped [] [] = refl
+  same_swapped [] (m ∷ another) = refl
+  same_swapped (n ∷ path) [] = refl
+  same_swapped (n ∷ path) (m ∷ another) = (λ i. eq_swapped n m i && same_swapped path another i)
     where
-      eq_turned : (n m : ℕ) → nat_eq n m ≡ nat_eq m n
-      eq_turned n m = grind arith
+      eq_swapped : (n m : ℕ) → nat_eq n m ≡ nat_eq m n
+      eq_swapped n m = grind arith
 
   -- of spans with other paths each is another one
   all_others : (span : SpanOf) (rest : List SpanOf) → NoneHasPath span.path rest → another_is_on reach other rest t span ≡ any other rest
@@ -186,7 +186,7 @@ module _ (reach one other t : ℕ) where
       ∙ mixed (is_on reach one t x) (is_on reach other t span) (another_is_on reach other rest t x) (any one xs) (list_any (λ x. is_on reach one t x && another_is_on reach other rest t x) xs)
     where
       apart : same_path x.path span.path ≡ false
-      apart = same_turned x.path span.path ∙ none.0
+      apart = same_swapped x.path span.path ∙ none.0
 
       mixed : (a c r y m : Bool) → ((a && (c || r)) || ((c && y) || m)) ≡ ((c && (a || y)) || ((a && r) || m))
       mixed true true true y m = refl

@@ -6,7 +6,7 @@ use Rattle.std.specs.Int.{w64, w128}
 use Rattle.std.proofs.lemmas.Int.{ints, to_z-of_z, fits_signed_from_abs}
 use Rattle.std.proofs.lemmas.Grind.{common_steps}
 use Rattle.std.proofs.Math.IntN.{*ℤ-zero}
-use Rattle.constraints.proofs.Products.{times_more, sum_times, times_sum, times_times}
+use Rattle.aerie_base.specs.Products.{times_more, sum_times, times_sum, times_times}
 use Rattle.windows.specs.declared.segments.Segment.{Segment}
 use Rattle.windows.specs.Linear.{AreSegments, IsSum, first_start, segment_value, segments_value}
 use Rattle.constraints.specs.Pieces.{IsPiece, CanBeAdded, IsAdded}

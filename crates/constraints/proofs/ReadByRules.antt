@@ -15,7 +15,7 @@ use Rattle.profiles.specs.declared.sampling.Profile.TheVariants.{Discrete, Linea
 use Rattle.profiles.specs.declared.sampling.Sample.{Sample}
 use Rattle.profiles.specs.declared.sampling.Sample.TheVariants as sample
 use Rattle.profiles.specs.GivenValues.{HasValues}
-use Rattle.profiles.specs.Samples.{RiseBehind}
+use Rattle.windows.specs.Begun.{StartsRise}
 use Rattle.profiles.specs.Neighbours.{RiseUpTo, DivideTime, first_start_of}
 use Rattle.windows.specs.declared.segments.Segment.{Segment}
 use Rattle.windows.specs.Linear.{segments_value}
@@ -33,7 +33,7 @@ use Rattle.constraints.proofs.FlatPieces.{flat_value, flat_segments_are, flat_sm
 -- ---- steps of a discrete profile
 
 -- starts that divide the time of a run are steps from 0 on
-rise_behind : (reach last : ℕ) (starts : List ℕ) → last < first_start_of reach starts → RiseUpTo reach starts → RiseBehind last starts
+rise_behind : (reach last : ℕ) (starts : List ℕ) → last < first_start_of reach starts → RiseUpTo reach starts → StartsRise last starts
 rise_behind reach last [] before rise = tt
 rise_behind reach last (from ∷ rest) before rise = (before, rise_behind reach from rest rise.0 rise.1)
 

@@ -8,7 +8,8 @@ use Rattle.aerie_base.specs.Ranges.{is_number, is_rate, IsNumber, IsRate}
 use Rattle.windows.specs.declared.segments.Segment.{Segment}
 use Rattle.dataset_in.specs.declared.series.Series.{Series}
 use Rattle.dataset_in.specs.declared.series.Series.TheVariants.{Truth, Whole, Linear}
-use Rattle.dataset_in.specs.Series.{StartsRise, AreStarts, IsSeries}
+use Rattle.windows.specs.Begun.{StartsRise}
+use Rattle.dataset_in.specs.Series.{AreStarts, IsSeries}
 use Rattle.constraints.specs.GivenSeries.{are_rising, are_starts, is_series}
 
 both : (a b : Bool) → a ≡ true → b ≡ true → (a && b) ≡ true

@@ -12,14 +12,14 @@ use Rattle.aerie_base.specs.declared.values.Kind.TheVariants as kind
 use Rattle.aerie_base.specs.declared.models.model.Parts.{Parts}
 use Rattle.aerie_base.specs.expressions.Arithmetic.{number_in, same_value}
 use Rattle.run_data.specs.declared.runs.Run.{Run}
-use Rattle.profiles.specs.Samples.{RiseBehind, last_started}
+use Rattle.windows.specs.Begun.{StartsRise, last_begun}
 use Rattle.windows.specs.declared.segments.Segment.{Segment}
 use Rattle.windows.specs.Linear.{AreSegments, segment_value, segments_value}
 use Rattle.windows.specs.Times.{TimeSet, AreIntervals}
 use Rattle.dataset_in.specs.declared.series.Series.{Series}
 use Rattle.dataset_in.specs.declared.series.Series.TheVariants.{Truth, Whole, Linear}
-use Rattle.dataset_in.specs.Levels.{constant, last_begun, level_at, segments_of, truth_of}
-use Rattle.dataset_in.specs.Series.{StartsRise, AreStarts, IsSeries, IsOfNumbers}
+use Rattle.dataset_in.specs.Levels.{constant, level_at, segments_of, truth_of}
+use Rattle.dataset_in.specs.Series.{AreStarts, IsSeries, IsOfNumbers}
 use Rattle.constraints.specs.declared.types.Reading.TheVariants as read
 use Rattle.constraints.specs.Following.{FollowsReading, AreTimesEqual}
 use Rattle.constraints.specs.GivenSeries.{is_series}
@@ -36,12 +36,12 @@ truth_value entry [] t = refl
 truth_value entry (next ∷ rest) t = go (truth_value next rest t) (nat_le next.0 t)
   where
     go : step_value (map truth_step (next ∷ rest)) t ≡ value.Truth (truth_of (last_begun (λ entry. entry.0) (next ∷ rest) t)) → (b : Bool) →
-        unwrap_or (option_map (λ (s : Step). s.1) (cond b (last_started (λ (s : Step). s.0) (map truth_step (next ∷ rest)) t) (Some (truth_step entry)))) (value.Int (pos 0))
+        unwrap_or (option_map (λ (s : Step). s.1) (cond b (last_begun (λ (s : Step). s.0) (map truth_step (next ∷ rest)) t) (Some (truth_step entry)))) (value.Int (pos 0))
         ≡ value.Truth (truth_of (cond b (last_begun (λ (e : ℕ × Bool). e.0) (next ∷ rest) t) (Some entry)))
     go there true = there
     go there false = refl
 
-rise : (last : ℕ) (entries : List (ℕ × Bool)) → StartsRise last (map (λ entry. entry.0) entries) → RiseBehind last (map (λ step. step.0) (map truth_step entries))
+rise : (last : ℕ) (entries : List (ℕ × Bool)) → StartsRise last (map (λ entry. entry.0) entries) → StartsRise last (map (λ step. step.0) (map truth_step entries))
 rise last [] are = tt
 rise last (entry ∷ rest) are = (are.0, rise entry.0 rest are.1)
 

@@ -4,13 +4,13 @@ use Rattle.std.specs.Prelude.{pos, option_map, unwrap_or, Some}
 use Rattle.std.proofs.lemmas.Grind.{common_steps}
 use Rattle.aerie_base.specs.declared.values.Value.{Value}
 use Rattle.aerie_base.specs.declared.values.Value.TheVariants as value
-use Rattle.profiles.specs.Samples.{RiseBehind, last_started}
+use Rattle.windows.specs.Begun.{StartsRise, last_begun}
 use Rattle.windows.specs.Times.{Interval, contains}
 use Rattle.constraints.specs.Steps.{Step, AreSteps, first_step, step_value, times_passing}
 use Rattle.constraints.specs.Meeting.{times_if}
 use Rattle.constraints.proofs.Merging.{append_none, cut_at, none_left}
 
-none_earlier : (reach : ℕ) (test : Value → Bool) (steps : List Step) (last t : ℕ) → RiseBehind last (map (λ step. step.0) steps) → t ≤ last → contains (times_passing reach test steps) t ≡ false
+none_earlier : (reach : ℕ) (test : Value → Bool) (steps : List Step) (last t : ℕ) → StartsRise last (map (λ step. step.0) steps) → t ≤ last → contains (times_passing reach test steps) t ≡ false
 none_earlier reach test [] last t rise early = refl
 none_earlier reach test (step ∷ rest) last t rise early = go (none_earlier reach test rest step.0 t rise.1 (omega (arith, rise.0, early))) (test step.1) refl
   where
@@ -19,7 +19,7 @@ none_earlier reach test (step ∷ rest) last t rise early = go (none_earlier rea
     go later false e = later
 
 -- at a time that is not before the first of them, a value passes exactly where its times have the time
-passing_from : (reach : ℕ) (test : Value → Bool) (step : Step) (rest : List Step) (t : ℕ) → RiseBehind step.0 (map (λ step. step.0) rest) → step.0 ≤ t → t < reach →
+passing_from : (reach : ℕ) (test : Value → Bool) (step : Step) (rest : List Step) (t : ℕ) → StartsRise step.0 (map (λ step. step.0) rest) → step.0 ≤ t → t < reach →
     contains (times_passing reach test (step ∷ rest)) t ≡ test (step_value (step ∷ rest) t)
 passing_from reach test step [] t rise begun within = go (test step.1) refl
   where
@@ -32,7 +32,7 @@ passing_from reach test step (next ∷ rest) t rise begun within = by_next (λ b
     by_next there true e =
         let begun_next : next.0 ≤ t = grind arith in
         let same : step_value (next ∷ rest) t ≡ step_value (step ∷ next ∷ rest) t =
-        ap (λ b. unwrap_or (option_map (λ (s : Step). s.1) (cond b (last_started (λ (s : Step). s.0) (next ∷ rest) t) (Some step))) (value.Int (pos 0))) (sym e) in
+        ap (λ b. unwrap_or (option_map (λ (s : Step). s.1) (cond b (last_begun (λ (s : Step). s.0) (next ∷ rest) t) (Some step))) (value.Int (pos 0))) (sym e) in
         skip (test step.1) ∙ there begun_next ∙ ap test same
       where
         skip : (b : Bool) → contains (if b then (step.0, next.0) ∷ times_passing reach test (next ∷ rest) else times_passing reach test (next ∷ rest)) t ≡ contains (times_passing reach test (next ∷ rest)) t
@@ -41,7 +41,7 @@ passing_from reach test step (next ∷ rest) t rise begun within = by_next (λ b
     by_next there false e =
         let before : t < next.0 = grind arith in
         let same : step.1 ≡ step_value (step ∷ next ∷ rest) t =
-        ap (λ b. unwrap_or (option_map (λ (s : Step). s.1) (cond b (last_started (λ (s : Step). s.0) (next ∷ rest) t) (Some step))) (value.Int (pos 0))) (sym e) in
+        ap (λ b. unwrap_or (option_map (λ (s : Step). s.1) (cond b (last_begun (λ (s : Step). s.0) (next ∷ rest) t) (Some step))) (value.Int (pos 0))) (sym e) in
         go before (test step.1) refl ∙ ap test same
       where
         none : t < next.0 → contains (times_passing reach test (next ∷ rest)) t ≡ false

@@ -8,7 +8,7 @@ use Rattle.std.proofs.lemmas.List.{take_more}
 use Rattle.aerie_base.specs.declared.models.model.Parts.{Parts}
 use Rattle.aerie_base.specs.declared.values.Kind.TheVariants as kind
 use Rattle.aerie_base.specs.expressions.Arithmetic.{compared}
-use Rattle.constraints.proofs.Products.{product_within}
+use Rattle.aerie_base.specs.Products.{product_within}
 use Rattle.run_data.specs.declared.runs.Run.{Run}
 use Rattle.windows.specs.declared.segments.Segment.{Segment}
 use Rattle.windows.specs.Linear.{AreSegments, IsSum, segments_value}

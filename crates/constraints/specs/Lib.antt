@@ -14,6 +14,7 @@ pub mod Recursion
 pub mod RecursionLaws
 pub mod SeriesLaws
 pub mod Sources
+pub mod SpansByStart
 pub mod Steps
 pub mod SumPieces
 pub mod Violating

@@ -1,5 +1,5 @@
 -- What windows and rules are over the model and the run of an evaluation.
-use Rattle.std.specs.Prelude.{ℕ, Bool, List, map, Option, Some}
+use Rattle.std.specs.Prelude.{◌≡◌, ℕ, Bool, true, List, map, Option, Some, None}
 use Rattle.aerie_base.specs.declared.expressions.Comparison.{Comparison}
 use Rattle.aerie_base.specs.declared.values.Value.{Value}
 use Rattle.aerie_base.specs.expressions.Arithmetic.{compared, truth_in}
@@ -8,6 +8,8 @@ use Rattle.span_table.specs.AsDefined.{defined_span}
 use Rattle.span_table.specs.declared.span.Span.{Span}
 use Rattle.windows.specs.Times.{Interval, TimeSet}
 use Rattle.windows.specs.declared.segments.Segment.{Segment}
+use Rattle.constraints.specs.declared.judging.Prepared.{Prepared}
+use Rattle.constraints.specs.declared.judging.Prepared.TheVariants.{Nothing, Twice}
 use Rattle.constraints.specs.declared.sources.Sources.{Sources}
 use Rattle.constraints.specs.declared.types.Reading.{Reading}
 use Rattle.constraints.specs.declared.types.RuleSum.{RuleSum}
@@ -16,6 +18,7 @@ use Rattle.constraints.specs.declared.violation.Violation.{Violation}
 use Rattle.constraints.specs.Evaluating.{holds_by_fold}
 use Rattle.constraints.specs.Following.{AreTimesEqual, FollowsReading}
 use Rattle.constraints.specs.Holding.{reading_value, some_covers, sum_value, window_holds}
+use Rattle.constraints.specs.Local.{is_local}
 use Rattle.constraints.specs.Judging.{times_held, times_not_held, violations_if}
 use Rattle.constraints.specs.Violating.{violations_of_spans}
 
@@ -62,6 +65,13 @@ AreEqualOver sources reading value equal made = AreTimesEqual sources.model.now 
 -- straight pieces with what is read at each time of the run
 abbrev pub FollowOver : Sources → Reading → List Segment → Type 0
 FollowOver sources reading made = FollowsReading sources.model.now sources.run.now reading made
+
+-- what was evaluated for all spans of a rule is of this window: of one that is local the times at which it does not hold, for no
+-- span and for one that lasts as long as the run
+abbrev pub IsPrepared : Sources → Window → Prepared → Type 0
+IsPrepared sources window Nothing = Unit {0}
+IsPrepared sources window (Twice outside inside) =
+    (is_local window ≡ true) × (outside ≡ not_held_over sources window None) × (inside ≡ not_held_over sources window (endless sources))
 
 -- ---- violations of a rule for each span of a type
 

@@ -4,7 +4,7 @@ use Rattle.aerie_base.specs.declared.values.Value.{Value}
 use Rattle.aerie_base.specs.declared.values.Value.TheVariants as value
 use Rattle.aerie_base.specs.Ranges.{IsNumber}
 use Rattle.aerie_base.specs.expressions.Arithmetic.{number_in, same_value}
-use Rattle.profiles.specs.Samples.{RiseBehind, last_started}
+use Rattle.windows.specs.Begun.{StartsRise, last_begun}
 use Rattle.windows.specs.declared.segments.Segment.{Segment}
 use Rattle.windows.specs.Times.{Interval}
 use Rattle.constraints.specs.Holding.{equals_or_not}
@@ -15,7 +15,7 @@ Step = ℕ × Value
 
 -- the value of the last step that begins no later; 0 where there is none
 abbrev pub step_value : List Step → ℕ → Value
-step_value steps t = unwrap_or (option_map (λ step. step.1) (last_started (λ step. step.0) steps t)) (value.Int (pos 0))
+step_value steps t = unwrap_or (option_map (λ step. step.1) (last_begun (λ step. step.0) steps t)) (value.Int (pos 0))
 
 -- whether that value is equal to another, or unequal
 abbrev pub step_equals : Bool → List Step → Value → ℕ → Bool
@@ -24,7 +24,7 @@ step_equals equal steps value t = equals_or_not equal (same_value (step_value st
 -- the first of them begins at 0, each further one later than the one before it, and there is one where there is some time
 abbrev pub RiseFromZero : List ℕ → Type 0
 RiseFromZero [] = Unit {0}
-RiseFromZero (from ∷ rest) = (from ≡ 0) × RiseBehind from rest
+RiseFromZero (from ∷ rest) = (from ≡ 0) × StartsRise from rest
 
 abbrev pub AreSteps : ℕ → List Step → Type 0
 AreSteps reach steps = RiseFromZero (map (λ step. step.0) steps) × (0 < reach → 0 < length steps)

@@ -7,7 +7,7 @@ ghost use Rattle.span_table.specs.SpanLaws.{AreSpansOf, IsInTime};
 ghost use Rattle.constraints.specs.Judging.{times_held};
 ghost use Rattle.constraints.specs.Local.{is_local as local};
 ghost use Rattle.constraints.specs.OfModel.{is_constraint, is_window};
-ghost use Rattle.constraints.specs.OverSources.{all_violations_over, endless, held_over, not_held_over, violations_over};
+ghost use Rattle.constraints.specs.OverSources.{IsPrepared, all_violations_over, endless, held_over, not_held_over, violations_over};
 ghost use Rattle.constraints.specs.Sources.{AreSources};
 ghost use Rattle.constraints.specs.Violating.{AreOfRule, listed_times, violations_of};
 ghost use Rattle.constraints.specs.declared.types.Rule.TheVariants as rule;
@@ -187,20 +187,66 @@ fn spliced(
     Ok(made)
 }
 
-/// Puts the violation for a span behind the others, if it is of the type and a local window does not hold for it.
-fn put_spliced(
+/// What is evaluated of a window for all spans of a rule.
+#[derive(Drop)]
+pub(crate) enum Prepared {
+    /// Nothing: it is evaluated for each of them.
+    Nothing,
+    /// Of a window that is local, the times at which it does not hold for no span, and for one that lasts as long as the run.
+    Twice { outside: Windows, inside: Windows },
+}
+
+/// Evaluates what may be evaluated once for all spans: a local window, twice.
+fn prepare(alloc: Global, sources: &Sources, window: &Window) -> Result<Prepared, OutOfMemory>
+    requires sources { AreSources sources.now }
+    requires window { IsTrue (is_window sources.now.model.now window.now) }
+    ensures { IfOk result (IsPrepared sources.now window.now) }
+{
+    if !is_local(window) {
+        return Ok(Prepared::Nothing);
+    }
+    let endless = Some((Time::zero(), sources.run.reach));
+    let outside = not_held(alloc, sources, window, &None)?;
+    let inside = not_held(alloc, sources, window, &endless)?;
+    Ok(Prepared::Twice { outside, inside })
+}
+
+/// The times at which a window does not hold for a span of these times.
+fn not_held_for(
+    alloc: Global,
+    sources: &Sources,
+    window: &Window,
+    prepared: &Prepared,
+    times: &(Time, Time),
+) -> Result<Windows, OutOfMemory>
+    requires sources { AreSources sources.now }
+    requires window { IsTrue (is_window sources.now.model.now window.now) }
+    requires prepared { IsPrepared sources.now window.now prepared.now }
+    requires order { times.now.0 ≤ times.now.1 }
+    requires within { times.now.1 ≤ sources.now.run.now.reach }
+    ensures { IfOk result (λ made. made ≡ not_held_over sources.now window.now (Some times.now)) }
+{
+    match prepared {
+        Prepared::Nothing => not_held(alloc, sources, window, &Some(*times)),
+        Prepared::Twice { outside, inside } => {
+            spliced(alloc, sources, window, outside, inside, times)
+        }
+    }
+}
+
+/// Puts the violation for a span behind the others, if it is of the type and the window does not hold for it.
+fn put_if_of_type(
     alloc: Global,
     found: &mut List<Violation>,
     sources: &Sources,
     window: &Window,
-    outside: &Windows,
-    inside: &Windows,
+    prepared: &Prepared,
     span: &Span,
     kind: u16,
 ) -> Result<(), OutOfMemory>
-    requires near { local window.now ≡ true }
-    requires outside { outside.now ≡ not_held_over sources.now window.now None }
-    requires inside { inside.now ≡ not_held_over sources.now window.now (endless sources.now) }
+    requires sources { AreSources sources.now }
+    requires window { IsTrue (is_window sources.now.model.now window.now) }
+    requires prepared { IsPrepared sources.now window.now prepared.now }
     requires in_time { IsInTime sources.now.run.now.reach span.now }
     ensures { OnOk result (found.new ≡ found.old ++ violations_over sources.now kind window.now span.now) }
 {
@@ -208,62 +254,36 @@ fn put_spliced(
         return Ok(());
     }
     let times = times_of(span, sources.run.reach);
-    let made = spliced(alloc, sources, window, outside, inside, &times)?;
+    let made = not_held_for(alloc, sources, window, prepared, &times)?;
     put_for_span(alloc, found, span, made)?;
     Ok(())
 }
 
-/// The violations of a rule for each span of a type, of a window that is local: it is evaluated twice for all spans, and
-/// each span takes steps as its violation has intervals, and three binary searches.
-fn each_spliced(
+/// The violations of a rule for each span of a type, with what was evaluated of its window for all of them.
+fn each_prepared(
     alloc: Global,
     sources: &Sources,
     spans: &[Span],
     kind: u16,
     window: &Window,
+    prepared: &Prepared,
 ) -> Result<List<Violation>, OutOfMemory>
     requires sources { AreSources sources.now }
     requires window { IsTrue (is_window sources.now.model.now window.now) }
-    requires near { local window.now ≡ true }
+    requires prepared { IsPrepared sources.now window.now prepared.now }
     requires in_time { All (IsInTime sources.now.run.now.reach) spans.now }
     ensures { IfOk result (λ found. found ≡ all_violations_over sources.now kind window.now spans.now) }
 {
-    let endless = Some((first_time(), sources.run.reach));
-    let outside = not_held(alloc, sources, window, &None)?;
-    let inside = not_held(alloc, sources, window, &endless)?;
     let mut found = List::new(alloc);
     for span in spans {
-        put_spliced(
-            alloc, &mut found, sources, window, &outside, &inside, span, kind,
-        )?;
+        put_if_of_type(alloc, &mut found, sources, window, prepared, span, kind)?;
     }
     Ok(found)
 }
 
-/// Puts the violation for a span behind the others, if it is of the type and the window does not hold for it.
-fn put_evaluated(
-    alloc: Global,
-    found: &mut List<Violation>,
-    sources: &Sources,
-    window: &Window,
-    span: &Span,
-    kind: u16,
-) -> Result<(), OutOfMemory>
-    requires sources { AreSources sources.now }
-    requires window { IsTrue (is_window sources.now.model.now window.now) }
-    ensures { OnOk result (found.new ≡ found.old ++ violations_over sources.now kind window.now span.now) }
-{
-    if !is_of_type(span, kind) {
-        return Ok(());
-    }
-    let bound = Some(times_of(span, sources.run.reach));
-    let made = not_held(alloc, sources, window, &bound)?;
-    put_for_span(alloc, found, span, made)?;
-    Ok(())
-}
-
-/// The violations of a rule for each span of a type: the window is evaluated for each span, over the whole run. It takes
-/// steps as there are spans of the type, times what the window names.
+/// The violations of a rule for each span of a type. A window that is local is evaluated twice for all spans, and each span
+/// takes steps as its violation has intervals, and three binary searches; any other is evaluated for each span, over the
+/// whole run.
 fn each_evaluated(
     alloc: Global,
     sources: &Sources,
@@ -273,16 +293,14 @@ fn each_evaluated(
 ) -> Result<List<Violation>, OutOfMemory>
     requires sources { AreSources sources.now }
     requires window { IsTrue (is_window sources.now.model.now window.now) }
+    requires in_time { All (IsInTime sources.now.run.now.reach) spans.now }
     ensures { IfOk result (λ found. found ≡ all_violations_over sources.now kind window.now spans.now) }
 {
-    let mut found = List::new(alloc);
-    for span in spans {
-        put_evaluated(alloc, &mut found, sources, window, span, kind)?;
-    }
-    Ok(found)
+    let prepared = prepare(alloc, sources, window)?;
+    each_prepared(alloc, sources, spans, kind, window, &prepared)
 }
 
-/// The violations of a rule for each span of a type, by whether the window speaks of the span under `shift` or `longer`.
+/// The same over a run, with what the window reads of it.
 fn each(
     alloc: Global,
     model: &Model,
@@ -297,17 +315,6 @@ fn each(
     ensures { IfOk result (AreOfRule model.now run.now (rule.Each kind window.now)) }
 {
     let sources = Sources::over(alloc, model, run, spans, window)?;
-    if is_local(window) {
-        let found = each_spliced(alloc, &sources, spans, kind, window)?;
-        return Ok(found);
-    }
     let found = each_evaluated(alloc, &sources, spans, kind, window)?;
     Ok(found)
-}
-
-/// The first time.
-fn first_time() -> Time
-    ensures { result ≡ 0 }
-{
-    Time::new(0).unwrap()
 }

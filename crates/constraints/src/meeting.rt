@@ -12,20 +12,6 @@ use span_table::Span;
 use std::alloc::Global;
 use windows::Windows;
 
-/// The earlier of two times.
-fn earlier(one: Time, other: Time) -> Time
-    ensures { result ≡ min one other }
-{
-    if one.get() <= other.get() { one } else { other }
-}
-
-/// The later of two times.
-fn later(one: Time, other: Time) -> Time
-    ensures { result ≡ max one other }
-{
-    if one.get() <= other.get() { other } else { one }
-}
-
 /// Of the spans so far, the last end of those of the one type and of those of the other.
 #[derive(Clone, Copy)]
 struct Ends {
@@ -38,8 +24,8 @@ fn no_ends() -> Ends
     ensures { result ≡ no_ends }
 {
     Ends {
-        one: first_time(),
-        other: first_time(),
+        one: Time::zero(),
+        other: Time::zero(),
     }
 }
 
@@ -47,7 +33,7 @@ fn no_ends() -> Ends
 fn later_if(test: bool, one: Time, other: Time) -> Time
     ensures { result ≡ (if test then max one other else one) }
 {
-    if test { later(one, other) } else { one }
+    if test { one.later(other) } else { one }
 }
 
 /// Those with one span more.
@@ -75,8 +61,8 @@ fn put_meetings(
     let lasts = times_of(span, reach);
     let is_other = is_of_type(span, other);
     let is_one = is_of_type(span, one);
-    put_if(times, is_other, (lasts.0, earlier(lasts.1, ends.one)))?;
-    put_if(times, is_one, (lasts.0, earlier(lasts.1, ends.other)))?;
+    put_if(times, is_other, (lasts.0, lasts.1.earlier(ends.one)))?;
+    put_if(times, is_one, (lasts.0, lasts.1.earlier(ends.other)))?;
     Ok(())
 }
 
@@ -103,11 +89,4 @@ pub(crate) fn meetings(
     let found = times.as_slice();
     let made = Windows::of_spans(alloc, reach, found)?;
     Ok(made)
-}
-
-/// The first time.
-fn first_time() -> Time
-    ensures { result ≡ 0 }
-{
-    Time::new(0).unwrap()
 }

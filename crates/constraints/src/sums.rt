@@ -2,74 +2,13 @@
 
 ghost use Rattle.std.specs.Prelude.{◌≡◌, ℕ, ◌+◌, ◌-◌, ◌<◌, ◌≤◌, ◌^◌, drop, length, min, pos, ◌+ℤ◌, ◌*ℤ◌, nat_le, nat_lt, if◌then◌else◌, IfOk};
 ghost use Rattle.std.specs.Int.RustNames.{unsigned_abs};
-ghost use Rattle.aerie_base.specs.Ranges.{IsTime};
 ghost use Rattle.constraints.specs.Pieces.{CanBeAdded, IsAdded};
 ghost use Rattle.constraints.specs.SumPieces.{HasMore, MayBeAdded};
 ghost use Rattle.windows.specs.Linear.{AreSegments, IsSum, first_start, segment_value, segments_value};
 
 use aerie_base::{List, OutOfMemory, Time};
 use std::alloc::Global;
-use windows::Segment;
-
-/// The microseconds from one time to a later one.
-fn elapsed(from: Time, to: Time) -> u128
-    requires { from ≤ to }
-    ensures micros { result ≡ to - from }
-    ensures time { IsTime result }
-{
-    (to.get() - from.get()) as u128
-}
-
-/// The value so many microseconds later, where it is below 2^120 before and after.
-fn later_value(value: i128, rate: i128, dt: u128) -> i128
-    requires value { unsigned_abs value < 2 ^ 120 }
-    requires product { unsigned_abs (rate *ℤ pos dt) < 2 ^ 121 }
-    requires some { 0 < dt }
-    requires time { IsTime dt }
-    ensures { result ≡ value +ℤ rate *ℤ pos dt }
-{
-    value + rate * dt as i128
-}
-
-/// The value of a straight piece at a time that is not before it, where it is below 2^120 at both.
-fn value_of(segment: &Segment, t: Time) -> i128
-    requires begun { segment.now.from ≤ t }
-    requires value { IsSum segment.now.value }
-    requires given { IsSum (segment_value segment.now t) }
-    ensures { result ≡ segment_value segment.now t }
-{
-    let dt = elapsed(segment.from, t);
-    if dt == 0 {
-        // the rate may be any number
-        return segment.value;
-    }
-    later_value(segment.value, segment.rate, dt)
-}
-
-/// Where the piece at this place ends: where the next one begins, or at the reach.
-fn end_of(reach: Time, segments: &[Segment], at: usize) -> Time
-    requires { at < length segments.now }
-    ensures { result ≡ first_start reach (drop (at + 1) segments.now) }
-{
-    match segments.get(at + 1) {
-        Some(next) => next.from,
-        None => reach,
-    }
-}
-
-/// The earlier of two times.
-fn earlier(one: Time, other: Time) -> Time
-    ensures { result ≡ min one other }
-{
-    if one.get() <= other.get() { one } else { other }
-}
-
-/// Whether the one time is no later than the other.
-fn is_by(one: Time, other: Time) -> bool
-    ensures { result ≡ nat_le one other }
-{
-    one.get() <= other.get()
-}
+use windows::{Segment, end_of};
 
 /// So many times the one number, and the other.
 fn sum_with(number: i128, coefficient: i64, more: i128) -> i128
@@ -100,8 +39,8 @@ fn added(sum: &Segment, coefficient: i64, more: &Segment, from: Time, end: Time)
     requires { CanBeAdded sum.now coefficient more.now from end }
     ensures { IsAdded sum.now coefficient more.now from end result }
 {
-    let here = value_of(sum, from);
-    let there = value_of(more, from);
+    let here = sum.value_at(from);
+    let there = more.value_at(from);
     let value = sum_with(here, coefficient, there);
     // of a piece of one microsecond the rate does not count
     let counts = is_longer(from, end);
@@ -136,29 +75,22 @@ pub(crate) fn plus_times(
 {
     let mut made = List::new(alloc);
     let (mut at_sum, mut at_more) = (0, 0);
-    let mut from = first_time();
+    let mut from = Time::zero();
     while at_sum < sum.len() && at_more < segments.len() {
         let one = sum[at_sum];
         let more = segments[at_more];
         let end_one = end_of(reach, sum, at_sum);
         let end_more = end_of(reach, segments, at_more);
-        let end = earlier(end_one, end_more);
+        let end = end_one.earlier(end_more);
         let piece = added(&one, coefficient, &more, from, end);
         made.push(piece)?;
-        let over_one = is_by(end_one, end);
-        let over_more = is_by(end_more, end);
+        let over_one = end_one.is_by(end);
+        let over_more = end_more.is_by(end);
         at_sum = place_behind(at_sum, over_one);
         at_more = place_behind(at_more, over_more);
         from = end;
     }
     Ok(made)
-}
-
-/// The first time.
-fn first_time() -> Time
-    ensures { result ≡ 0 }
-{
-    Time::new(0).unwrap()
 }
 
 /// A number that stays, as one straight piece; none where the reach is 0.
@@ -171,7 +103,7 @@ pub(crate) fn constant_segments(
     ensures form { IfOk result (λ made. AreSegments reach made) }
     ensures values { IfOk result (λ made. (t : ℕ) → t < reach → segments_value made t ≡ constant) }
 {
-    let from = first_time();
+    let from = Time::zero();
     let mut made = List::new(alloc);
     if from.get() < reach.get() {
         made.push(Segment {

@@ -10,7 +10,8 @@ use Rattle.aerie_base.specs.Ranges.{IsNumber, IsRate, time_limit}
 use Rattle.windows.specs.declared.segments.Segment.{Segment}
 use Rattle.windows.specs.Linear.{segment_value, segments_value, IsSum, Follow, AreSegments}
 use Rattle.dataset_in.specs.Levels.{constant, before}
-use Rattle.dataset_in.specs.Series.{StartsRise, AreStarts}
+use Rattle.windows.specs.Begun.{StartsRise}
+use Rattle.dataset_in.specs.Series.{AreStarts}
 
 abbrev pub InRange : Segment → Type 0
 InRange segment = IsNumber segment.value × IsRate segment.rate

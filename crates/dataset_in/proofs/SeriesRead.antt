@@ -6,6 +6,8 @@ use Rattle.std.proofs.lemmas.List.Elements.{All-cons, All-nil}
 use Rattle.std.specs.List.{All}
 use Rattle.serde_json.specs.Data.{Data}
 use Rattle.aerie_base.specs.Ranges.{IsNumber, IsRate, is_number, is_rate, checked_number}
+use Rattle.aerie_base.specs.UnlessMemory.{UnlessMemory}
+use Rattle.aerie_base.specs.UnlessMemoryLaws.{answered as answered_by}
 use Rattle.windows.specs.declared.segments.Segment.{Segment}
 use Rattle.dataset_in.specs.declared.series.Series.{Series}
 use Rattle.dataset_in.specs.declared.series.Series.TheVariants.{Truth, Whole, Linear}
@@ -13,8 +15,9 @@ use Rattle.dataset_in.specs.declared.dataset_error.DatasetError.{DatasetError}
 use Rattle.dataset_in.specs.declared.dataset_error.DatasetError.TheVariants.{TooMany}
 use Rattle.dataset_in.specs.declared.forms.SeriesKind.{SeriesKind}
 use Rattle.dataset_in.specs.declared.forms.SeriesKind.TheVariants as kind
-use Rattle.dataset_in.specs.Series.{StartsRise, AreStarts, IsSeries}
-use Rattle.dataset_in.specs.Datasets.{follows, put_first, then_entry, next_entry, entries_behind, entries_of, series_answer, series_of, form_answer, truth_entry, whole_entry, linear_entry, number_part, rate_part, time_part, whole_part, most_segments, IsAnswerIfMemory}
+use Rattle.windows.specs.Begun.{StartsRise}
+use Rattle.dataset_in.specs.Series.{AreStarts, IsSeries}
+use Rattle.dataset_in.specs.Datasets.{follows, put_first, then_entry, next_entry, entries_behind, entries_of, series_answer, series_of, form_answer, truth_entry, whole_entry, linear_entry, number_part, rate_part, time_part, whole_part, most_segments, ran_out}
 
 some_weaker : {A : Type 0} {P Q : A → Type 0} → ((x : A) → P x → Q x) → (o : Option A) → IfSome o P → IfSome o Q
 some_weaker f None h = tt
@@ -32,11 +35,11 @@ any : {A : Type 0} (o : Option A) → IfSome o (λ x. Unit {0})
 any None = tt
 any (Some x) = tt
 
-front_ok : {A : Type 0} (P : List A → Type 0) (next : A) (rest : Result (List A) ℕ) → IfOk rest (λ entries. P (next ∷ entries)) → IfOk (put_first next rest) P
+front_ok : {A : Type 0} (P : List A → Type 0) (next : A) (rest : Result (List A) DatasetError) → IfOk rest (λ entries. P (next ∷ entries)) → IfOk (put_first next rest) P
 front_ok P next (Ok rest) h = h
-front_ok P next (Err number) h = tt
+front_ok P next (Err refusal) h = tt
 
-then_ok : {A : Type 0} (P : List A → Type 0) (number : ℕ) (rest : A → Result (List A) ℕ) (o : Option A) →
+then_ok : {A : Type 0} (P : List A → Type 0) (number : ℕ) (rest : A → Result (List A) DatasetError) (o : Option A) →
     IfSome o (λ next. IfOk (rest next) (λ entries. P (next ∷ entries))) → IfOk (then_entry number rest o) P
 then_ok P number rest None h = tt
 then_ok P number rest (Some next) h = front_ok P next (rest next) h
@@ -99,11 +102,11 @@ rate_ok z = pick (is_rate z) refl where
   pick true e = grind (arith, common_steps)
   pick false e = tt
 
-number_part_ok : (place : ℕ) (row : Data) → IfSome (number_part place row) IsNumber
-number_part_ok place row = then_some IsNumber checked_number (λ z h. number_ok z) (whole_part place row) (any (whole_part place row))
+number_part_ok : (position : ℕ) (row : Data) → IfSome (number_part position row) IsNumber
+number_part_ok position row = then_some IsNumber checked_number (λ z h. number_ok z) (whole_part position row) (any (whole_part position row))
 
-rate_part_ok : (place : ℕ) (row : Data) → IfSome (rate_part place row) IsRate
-rate_part_ok place row = then_some IsRate (λ z. if is_rate z then Some z else None) (λ z h. rate_ok z) (whole_part place row) (any (whole_part place row))
+rate_part_ok : (position : ℕ) (row : Data) → IfSome (rate_part position row) IsRate
+rate_part_ok position row = then_some IsRate (λ z. if is_rate z then Some z else None) (λ z h. rate_ok z) (whole_part position row) (any (whole_part position row))
 
 whole_ok : (row : Data) → IfSome (whole_entry row) (λ entry. IsNumber entry.1)
 whole_ok row =
@@ -124,9 +127,9 @@ linear_ok row =
 
 -- ---- the answer
 
-answered : {A : Type 0} (series : List A → Series) (entries : Result (List A) ℕ) → IfOk entries (λ e. IsSeries (series e)) → IfOk (series_answer series entries) IsSeries
+answered : {A : Type 0} (series : List A → Series) (entries : Result (List A) DatasetError) → IfOk entries (λ e. IsSeries (series e)) → IfOk (series_answer series entries) IsSeries
 answered series (Ok entries) h = h
-answered series (Err number) h = tt
+answered series (Err refusal) h = tt
 
 of_kind : (kind : SeriesKind) (rows : List Data) → IfOk (series_of kind rows) IsSeries
 of_kind kind.Truth rows =
@@ -142,6 +145,5 @@ form_answer_ok (Some (kind, rows)) = pick (nat_lt most_segments (length rows)) w
   pick true = tt
   pick false = of_kind kind rows
 
-pub series_answered : (form : Option (SeriesKind × List Data)) (result : Result Series DatasetError) → IsAnswerIfMemory (form_answer form) result → IfOk result IsSeries
-series_answered form (Ok series) e = rw e at (form_answer_ok form)
-series_answered form (Err error) e = tt
+pub series_answered : (form : Option (SeriesKind × List Data)) (result : Result Series DatasetError) → UnlessMemory ran_out (form_answer form) result → IfOk result IsSeries
+series_answered form result is = answered_by ran_out IsSeries (form_answer form) result is (form_answer_ok form)

@@ -1,5 +1,5 @@
 -- What the text of a dataset says: `{"kind":K,"segments":[..]}`, where K tells what each segment has behind its start.
-use Rattle.std.specs.Prelude.{ℕ, ◌+◌, ◌≡◌, ℤ, Bool, false, List, [], ◌∷◌, codes, length, nat_eq, nat_lt, if◌then◌else◌, Option, Some, None, option_map, option_and_then, Result, Ok, Err}
+use Rattle.std.specs.Prelude.{ℕ, ◌+◌, ℤ, Bool, true, false, List, [], ◌∷◌, codes, length, nat_eq, nat_lt, if◌then◌else◌, Option, Some, None, option_map, option_and_then, Result, Ok, Err}
 use Rattle.std.specs.List.{list_all}
 use Rattle.std.specs.Cmp.Lexicographic.{pointwise}
 use Rattle.serde_json.specs.Data.{Data, Items, no_items, item, Members, no_members, member}
@@ -75,19 +75,19 @@ kind_and_rows whole =
 
 -- a part that is a whole number, one that is a time, a number of a model, a rate, a truth
 abbrev pub whole_part : ℕ → Data → Option ℤ
-whole_part place row = option_and_then as_i64 (option_and_then as_number (at place row))
+whole_part position row = option_and_then as_i64 (option_and_then as_number (at position row))
 
 abbrev pub time_part : ℕ → Data → Option ℕ
-time_part place row = option_and_then time_of_signed (whole_part place row)
+time_part position row = option_and_then time_of_signed (whole_part position row)
 
 abbrev pub number_part : ℕ → Data → Option ℤ
-number_part place row = option_and_then checked_number (whole_part place row)
+number_part position row = option_and_then checked_number (whole_part position row)
 
 abbrev pub rate_part : ℕ → Data → Option ℤ
-rate_part place row = option_and_then (λ rate. if is_rate rate then Some rate else None) (whole_part place row)
+rate_part position row = option_and_then (λ rate. if is_rate rate then Some rate else None) (whole_part position row)
 
 abbrev pub truth_part : ℕ → Data → Option Bool
-truth_part place row = option_and_then as_bool (at place row)
+truth_part position row = option_and_then as_bool (at position row)
 
 abbrev pub truth_entry : Data → Option (ℕ × Bool)
 truth_entry row = option_and_then (λ from. option_map (λ truth. (from, truth)) (truth_part 1 row)) (time_part 0 row)
@@ -107,12 +107,13 @@ abbrev pub follows : Option ℕ → ℕ → Bool
 follows None from = nat_eq from 0
 follows (Some last) from = nat_lt last from
 
-abbrev pub put_first : {A : Type 0} → A → Result (List A) ℕ → Result (List A) ℕ
+abbrev pub put_first : {A : Type 0} → A → Result (List A) DatasetError → Result (List A) DatasetError
 put_first next (Ok rest) = Ok (next ∷ rest)
-put_first next (Err number) = Err number
+put_first next (Err refusal) = Err refusal
 
-abbrev pub then_entry : {A : Type 0} → ℕ → (A → Result (List A) ℕ) → Option A → Result (List A) ℕ
-then_entry number rest None = Err number
+-- what the segment with this number makes of those behind it; where there is none, it is bad
+abbrev pub then_entry : {A : Type 0} → ℕ → (A → Result (List A) DatasetError) → Option A → Result (List A) DatasetError
+then_entry number rest None = Err (BadSegment number)
 then_entry number rest (Some next) = put_first next (rest next)
 
 module _ {A : Type 0} (entry : Data → Option A) (from : A → ℕ) where
@@ -120,30 +121,22 @@ module _ {A : Type 0} (entry : Data → Option A) (from : A → ℕ) where
   abbrev pub next_entry : Option ℕ → Data → Option A
   next_entry last row = option_and_then (λ next. if follows last (from next) then Some next else None) (entry row)
 
-  -- the segments of the rows behind one that begins there, or the number of the first row that gives none
-  abbrev pub entries_behind : Option ℕ → ℕ → List Data → Result (List A) ℕ
+  -- the segments of the rows behind one that begins there, or the first row that gives none
+  abbrev pub entries_behind : Option ℕ → ℕ → List Data → Result (List A) DatasetError
   entries_behind last number [] = Ok []
   entries_behind last number (row ∷ rest) =
       then_entry number (λ next. entries_behind (Some (from next)) (number + 1) rest) (next_entry last row)
 
   -- a series has one segment at least: where there is none, the first one is missing
-  abbrev pub entries_of : List Data → Result (List A) ℕ
-  entries_of [] = Err 0
+  abbrev pub entries_of : List Data → Result (List A) DatasetError
+  entries_of [] = Err (BadSegment 0)
   entries_of (row ∷ rest) = entries_behind None 0 (row ∷ rest)
-
--- what reading the segments answers, unless memory ran out: them, or the number of the first that is bad
-abbrev pub AreEntries : {A : Type 0} → Result (List A) ℕ → Result (List A) DatasetError → Type 0
-AreEntries answer (Ok entries) = answer ≡ Ok entries
-AreEntries answer (Err (BadSegment number)) = answer ≡ Err number
-AreEntries answer (Err OutOfMemory) = Unit {0}
-AreEntries answer (Err NotADataset) = ⊥
-AreEntries answer (Err TooMany) = ⊥
 
 -- ---- the answer
 
-abbrev pub series_answer : {A : Type 0} → (List A → Series) → Result (List A) ℕ → Result Series DatasetError
+abbrev pub series_answer : {A : Type 0} → (List A → Series) → Result (List A) DatasetError → Result Series DatasetError
 series_answer series (Ok entries) = Ok (series entries)
-series_answer series (Err number) = Err (BadSegment number)
+series_answer series (Err refusal) = Err refusal
 
 abbrev pub series_of : SeriesKind → List Data → Result Series DatasetError
 series_of kind.Truth rows = series_answer Truth (entries_of truth_entry (λ entry. entry.0) rows)
@@ -158,7 +151,7 @@ form_answer (Some form) = if nat_lt most_segments (length form.1) then Err TooMa
 abbrev pub dataset_of : List ℕ → Result Series DatasetError
 dataset_of text = form_answer (option_and_then kind_and_rows (read text))
 
--- the answer is this one, unless memory ran out
-abbrev pub IsAnswerIfMemory : Result Series DatasetError → Result Series DatasetError → Type 0
-IsAnswerIfMemory answer (Err OutOfMemory) = Unit {0}
-IsAnswerIfMemory answer result = answer ≡ result
+-- whether an error says that memory ran out
+abbrev pub ran_out : DatasetError → Bool
+ran_out OutOfMemory = true
+ran_out error = false

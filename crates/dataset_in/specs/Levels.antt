@@ -1,5 +1,6 @@
 -- What a series says at a time.
-use Rattle.std.specs.Prelude.{ℕ, ◌≡◌, ℤ, pos, Bool, true, false, cond, nat_le, nat_lt, if◌then◌else◌, List, [], ◌∷◌, map, Option, Some, None, refl}
+use Rattle.std.specs.Prelude.{ℕ, ◌≡◌, ℤ, pos, Bool, true, false, nat_lt, if◌then◌else◌, List, [], ◌∷◌, map, Option, Some, None, refl}
+use Rattle.windows.specs.Begun.{last_begun}
 use Rattle.windows.specs.declared.segments.Segment.{Segment}
 use Rattle.windows.specs.Linear.{segments_value}
 use Rattle.dataset_in.specs.declared.series.Series.{Series}
@@ -16,12 +17,6 @@ abbrev pub segments_of : Series → List Segment
 segments_of (Truth entries) = []
 segments_of (Whole entries) = map constant entries
 segments_of (Linear segments) = segments
-
--- The last entry that begins no later than a time, where the first begins at 0. The last of all never ends.
-abbrev pub last_begun : {A : Type 0} → (A → ℕ) → List A → ℕ → Option A
-last_begun from [] t = None
-last_begun from (entry ∷ []) t = Some entry
-last_begun from (entry ∷ next ∷ rest) t = cond (nat_le (from next) t) (last_begun from (next ∷ rest) t) (Some entry)
 
 abbrev pub truth_of : Option (ℕ × Bool) → Bool
 truth_of None = false

@@ -1,14 +1,10 @@
 -- Which series a dataset may be.
-use Rattle.std.specs.Prelude.{ℕ, ◌≡◌, ◌<◌, List, [], ◌∷◌, map}
+use Rattle.std.specs.Prelude.{ℕ, ◌≡◌, List, [], ◌∷◌, map}
 use Rattle.std.specs.List.{All}
 use Rattle.aerie_base.specs.Ranges.{IsNumber, IsRate}
+use Rattle.windows.specs.Begun.{StartsRise}
 use Rattle.dataset_in.specs.declared.series.Series.{Series}
 use Rattle.dataset_in.specs.declared.series.Series.TheVariants.{Truth, Whole, Linear}
-
--- each time is after the one before it
-abbrev pub StartsRise : ℕ → List ℕ → Type 0
-StartsRise last [] = Unit {0}
-StartsRise last (next ∷ rest) = (last < next) × StartsRise next rest
 
 -- where segments begin: there is one at least, the first begins at 0, and each later one after the one before it
 abbrev pub AreStarts : List ℕ → Type 0

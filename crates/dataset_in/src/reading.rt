@@ -2,7 +2,8 @@
 
 ghost use Rattle.std.specs.Prelude.{◌≤◌, IfOk, length, map};
 ghost use Rattle.serde_json.specs.View.{view};
-ghost use Rattle.dataset_in.specs.Datasets.{IsAnswerIfMemory, dataset_of, kind_and_rows, form_answer, most_segments, series_of};
+ghost use Rattle.aerie_base.specs.UnlessMemory.{UnlessMemory};
+ghost use Rattle.dataset_in.specs.Datasets.{dataset_of, kind_and_rows, form_answer, most_segments, ran_out, series_of};
 ghost use Rattle.dataset_in.specs.Series.{IsSeries};
 
 use crate::dataset_error::DatasetError;
@@ -20,7 +21,7 @@ const MOST_SEGMENTS: usize = 10_000;
 /// microseconds from 0 to 10^15, values from -10^18 to 10^18, rates from -10^12 to 10^12 a microsecond. It takes time
 /// linear in the text.
 pub fn read_dataset(alloc: Global, text: &str) -> Result<Series, DatasetError>
-    ensures exact { IsAnswerIfMemory (dataset_of text.now) result }
+    ensures exact { UnlessMemory ran_out (dataset_of text.now) result }
     ensures series { IfOk result IsSeries }
 {
     match Value::from_str(alloc, text) {
@@ -32,7 +33,7 @@ pub fn read_dataset(alloc: Global, text: &str) -> Result<Series, DatasetError>
 
 /// The series that JSON says, or why it says none.
 fn answer_form(alloc: Global, dataset: &Value) -> Result<Series, DatasetError>
-    ensures { IsAnswerIfMemory (form_answer (kind_and_rows (view dataset.now))) result }
+    ensures { UnlessMemory ran_out (form_answer (kind_and_rows (view dataset.now))) result }
 {
     let (kind, rows) = match dataset_form(dataset) {
         Some(form) => form,
@@ -47,7 +48,7 @@ fn answer_form(alloc: Global, dataset: &Value) -> Result<Series, DatasetError>
 /// The series of the segments.
 fn series_of(alloc: Global, kind: SeriesKind, rows: &[Value]) -> Result<Series, DatasetError>
     requires { length rows.now ≤ most_segments }
-    ensures { IsAnswerIfMemory (series_of kind (map view rows.now)) result }
+    ensures { UnlessMemory ran_out (series_of kind (map view rows.now)) result }
 {
     match kind {
         SeriesKind::Truth => Ok(Series::Truth(entries(alloc, rows)?)),

@@ -1,16 +1,16 @@
 //! Series, and what they say at a time.
 
-ghost use Rattle.std.specs.Prelude.{◌≡◌, ◌≤◌, ◌<◌, ◌-◌, ℕ, map, pos, ◌+ℤ◌, ◌*ℤ◌, IfOk};
+ghost use Rattle.std.specs.Prelude.{◌≡◌, ◌≤◌, ◌<◌, ℕ, map, pos, ◌+ℤ◌, ◌*ℤ◌, IfOk};
 ghost use Rattle.std.specs.List.{All};
 ghost use Rattle.aerie_base.specs.Ranges.{IsNumber, IsRate, IsTime};
+ghost use Rattle.windows.specs.Begun.{last_begun};
 ghost use Rattle.windows.specs.Linear.{AreSegments, segment_value, segments_value};
-ghost use Rattle.dataset_in.specs.Levels.{before, constant, last_begun, level_at, segments_of, truth_of};
+ghost use Rattle.dataset_in.specs.Levels.{before, constant, level_at, segments_of, truth_of};
 ghost use Rattle.dataset_in.specs.Series.{AreStarts, IsOfNumbers, IsSeries};
 
-use crate::entries::last_begun;
 use aerie_base::{List, Number, OutOfMemory, Time};
 use std::alloc::Global;
-use windows::Segment;
+use windows::{Segment, last_begun};
 
 /// Values over time, in segments: each has its value from its start to the next one, and the last one for ever. A series
 /// that was read has a segment at 0, later ones rise, and its numbers and rates are in their ranges.
@@ -116,6 +116,7 @@ fn linear_before(
 }
 
 /// The truth at a time.
+#[tactic(auto, using(crate::proofs::LastBegun::have_begun))]
 fn truth_at(entries: &[(Time, bool)], t: Time) -> bool
     requires { AreStarts (map (λ entry. entry.0) entries.now) }
     ensures { result ≡ truth_of (last_begun (λ entry. entry.0) entries.now t) }
@@ -124,7 +125,7 @@ fn truth_at(entries: &[(Time, bool)], t: Time) -> bool
 }
 
 /// The whole number at a time.
-#[tactic(auto, using(crate::proofs::LastBegun::constant_is))]
+#[tactic(auto, using(crate::proofs::LastBegun::constant_is, crate::proofs::LastBegun::have_begun))]
 fn whole_at(entries: &[(Time, Number)], t: Time) -> i128
     requires { AreStarts (map (λ entry. entry.0) entries.now) }
     ensures { result ≡ segments_value (map constant entries.now) t }
@@ -133,7 +134,7 @@ fn whole_at(entries: &[(Time, Number)], t: Time) -> i128
 }
 
 /// The value of straight pieces at a time.
-#[tactic(auto, using(crate::proofs::LastBegun::linear_is))]
+#[tactic(auto, using(windows::specs::BegunLaws::linear_is, crate::proofs::LastBegun::have_begun))]
 fn linear_at(segments: &[Segment], t: Time) -> i128
     requires starts { AreStarts (map (λ segment. segment.from) segments.now) }
     requires ranges { All (λ segment. IsNumber segment.value × IsRate segment.rate) segments.now }
@@ -156,16 +157,7 @@ fn value_of(segment: &Segment, t: Time) -> i128
     requires begun { segment.now.from ≤ t }
     ensures { result ≡ segment_value segment.now t }
 {
-    value_after(segment.value, segment.rate, elapsed(segment.from, t))
-}
-
-/// The microseconds from one time to a later one.
-fn elapsed(from: Time, to: Time) -> u128
-    requires { from ≤ to }
-    ensures micros { result ≡ to - from }
-    ensures time { IsTime result }
-{
-    (to.get() - from.get()) as u128
+    value_after(segment.value, segment.rate, segment.from.micros_until(t))
 }
 
 /// The value so many microseconds later.

@@ -14,7 +14,8 @@ use Rattle.run_data.specs.laws.NumberedTasks.{sorted_tasks, Distinct, ChangedByN
 use Rattle.engine_core.specs.GoingOn.{HaveGoneOn, GoOnOf, MayGoOnAfter}
 use Rattle.engine_core.proofs.Candidates.{none_yet, goes_then, goes_as}
 use Rattle.engine_core.proofs.GoingOnTasks.{all_stay}
-use Rattle.engine_core.proofs.PathTables.{at_number, at_with, is_same}
+use Rattle.run_data.specs.NumberLaws.{at_number}
+use Rattle.run_data.specs.TableLaws.{at_with, is_same}
 
 -- ---- frame by frame
 

@@ -7,7 +7,7 @@ use Rattle.aerie_base.specs.Paths.{path_cmp}
 use Rattle.run_data.specs.declared.frames.Frame.{Frame}
 use Rattle.run_data.specs.Tasks.{Table, task_at, children_made, children_in, task_after, after_frame, after_frames}
 use Rattle.engine_core.specs.TasksByNumber.{MadeIsSmall}
-use Rattle.engine_core.proofs.PathTables.{path_itself, is_same, at_with}
+use Rattle.run_data.specs.TableLaws.{path_itself, is_same, at_with}
 
 made_here : (now : ℕ) (frame : Frame) (table : Table) → children_made (task_at (after_frame now frame table) frame.path) ≡ children_made (task_at table frame.path) + children_in frame.items
 made_here now frame table =

@@ -113,20 +113,6 @@ first_is_least frames = sym (least_is_first (by_path frames) (sorted_in_order fr
 
 -- ---- counts in order
 
-put_cost : (frame : Frame) (frames : List Frame) → cost_of (put_by_path frame frames) ≡ frame.cost + cost_of frames
-put_cost frame [] = refl
-put_cost frame (first ∷ rest) = by (path_cmp frame.path first.path) (put_cost frame rest)
-  where
-    by : (o : Ordering) → cost_of (put_by_path frame rest) ≡ frame.cost + cost_of rest →
-        cost_of (in_front_unless_greater o frame first rest (put_by_path frame rest)) ≡ frame.cost + (first.cost + cost_of rest)
-    by Less further = refl
-    by Equal further = refl
-    by Greater further = omega (arith, further)
-
-pub sorted_cost : (frames : List Frame) → cost_of (by_path frames) ≡ cost_of frames
-sorted_cost [] = refl
-sorted_cost (frame ∷ rest) = put_cost frame (by_path rest) ∙ ap (λ n. frame.cost + n) (sorted_cost rest)
-
 put_length : (frame : Frame) (frames : List Frame) → length (put_by_path frame frames) ≡ length frames + 1
 put_length frame [] = omega arith
 put_length frame (first ∷ rest) = by (path_cmp frame.path first.path) (put_length frame rest)
@@ -167,7 +153,7 @@ module _ (records : List Record) where
 
 -- ---- a frame more
 
-pub fault_turn : (frames : List Frame) (at : ℕ) (frame : Frame) (fault : Option Fault) → at < length frames → frame ≡ get_or frames at frame → fault ≡ fault_in frame.status →
+pub fault_iteration : (frames : List Frame) (at : ℕ) (frame : Frame) (fault : Option Fault) → at < length frames → frame ≡ get_or frames at frame → fault ≡ fault_in frame.status →
     first_fault (drop at frames) ≡ unless_faulted frame.path fault (first_fault (drop (at + 1) frames))
-fault_turn frames at frame fault less is e =
+fault_iteration frames at frame fault less is e =
     ap first_fault (here frames at frame less is) ∙ ap (λ (o : Option Fault). unless_faulted frame.path o (first_fault (drop (at + 1) frames))) (sym e)

@@ -31,8 +31,9 @@ use Rattle.engine_core.specs.BatchEnds.{AreReadyJobs, IsFrugalEnd, HasFewLooks, 
 use Rattle.engine_core.specs.BatchGenerations.{in_generations, AreDueJobs, AreAllFrames, PaysForAll, LooksForAll}
 use Rattle.engine_core.specs.BatchOrders.{AreByPath, AreMade, first_fault}
 use Rattle.engine_core.specs.BatchTrees.{HaveFewItems}
-use Rattle.engine_core.proofs.BatchFaults.{first_is_least, sorted_cost, sorted_length, sorted_unmatched}
-use Rattle.engine_core.proofs.BatchOrder.{by_path_stays, each_sorted, sorted_in_order}
+use Rattle.run_data.specs.FrameLaws.{sorted_cost, each_sorted}
+use Rattle.engine_core.proofs.BatchFaults.{first_is_least, sorted_length, sorted_unmatched}
+use Rattle.engine_core.proofs.BatchOrder.{by_path_stays, sorted_in_order}
 use Rattle.engine_core.proofs.TreeSizes.{may_commit}
 
 -- ---- costs

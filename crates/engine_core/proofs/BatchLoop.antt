@@ -21,9 +21,9 @@ use Rattle.run_data.specs.laws.Orders.{EachOf, EachTwo, AreApart}
 use Rattle.run_data.specs.laws.SmallSteps.{IsJobWithin, StepsAreSmall, PendingStepsAreJobs, WithinIsJob}
 use Rattle.run_data.specs.laws.WaveFuel.{WaveTellsFrames, SpentIsLimit}
 use Rattle.run_data.specs.laws.WaveGenerations.{generation_of, generation_by, GenerationByFrames}
-use Rattle.engine_core.specs.BatchGenerations.{jobs_of, so_far, AddsGeneration, IsTurn, MayRun, PaysForTurn, LooksForTurn, in_generations, reach_after, AreDueJobs, StandsBetween, AreAllFrames}
+use Rattle.engine_core.specs.BatchGenerations.{jobs_of, gathered_so_far, AddsGeneration, IsGenerationRun, MayRun, PaysForGeneration, LooksForGeneration, in_generations, reach_after, AreDueJobs, StandsBetween, AreAllFrames}
 use Rattle.engine_core.proofs.ChildEffects.{seen_steps}
-use Rattle.engine_core.proofs.BatchTurns.{as_many, turn_counts}
+use Rattle.engine_core.proofs.FrameByFrame.{as_many, frame_counts}
 
 -- ---- frames in front
 
@@ -74,7 +74,7 @@ begins model bound spent jobs made none less due = record {
   few = due.made;
 }
 
--- ---- one turn
+-- ---- one iteration
 
 module _ (model : Parts) (bound spent : ℕ) (jobs : List (ℕ × Job)) (count : ℕ) (made : List Frame) (left : ℕ) (dues : List (ℕ × Job)) (stands : StandsBetween model bound spent jobs (suc count) made left dues) where
   -- its jobs may be run
@@ -91,9 +91,9 @@ module _ (model : Parts) (bound spent : ℕ) (jobs : List (ℕ × Job)) (count :
       law model bound spent left cells jobs made count (map pending_of dues) apart stands.whole (omega (arith, stands.paid)) (omega (arith, stands.paid))
       (ap (wave_of model left) (jobs_are dues) ∙ is)
 
-  pub stopped : SpentIsLimit → EachTwo AreApart jobs → (after : List Frame) (next : Option (List (ℕ × Job) × ℕ)) → next ≡ None → IsTurn model dues left made after next →
+  pub stopped : SpentIsLimit → EachTwo AreApart jobs → (after : List Frame) (next : Option (List (ℕ × Job) × ℕ)) → next ≡ None → IsGenerationRun model dues left made after next →
       (cells : List CellState) → batch model bound spent cells jobs ≡ limit
-  stopped law apart after next e turn = stops law apart (subst (IsTurn model dues left made after) e turn)
+  stopped law apart after next e iteration = stops law apart (subst (IsGenerationRun model dues left made after) e iteration)
 
   -- the generation is what its frames say
   generation_is : WaveTellsFrames → GenerationByFrames → (frames : List Frame) → wave_of model left (jobs_of dues) ≡ Frames frames →
@@ -107,18 +107,18 @@ module _ (model : Parts) (bound spent : ℕ) (jobs : List (ℕ × Job)) (count :
     abbrev Splits : Generation → Type 0
     Splits here = (own : List Frame) × (here ≡ Some (own, map pending_of next)) × (after ≡ made ++ own)
 
-    splits : (here : Generation) → beside_generation (so_far made []) here ≡ so_far after next → Splits here
+    splits : (here : Generation) → beside_generation (gathered_so_far made []) here ≡ gathered_so_far after next → Splits here
     splits None e = absurd (cc)
     splits (Some here) e =
         let pair : ◌≡◌ {A = List Frame × List PendingStep} (made ++ here.0, here.1) (after, map pending_of next) = cc in
         (here.0, ap (λ (l : List PendingStep). Some (here.0, l)) (ap (λ (p : List Frame × List PendingStep). p.1) pair), sym (ap (λ (p : List Frame × List PendingStep). p.0) pair))
 
-    turns : StandsBetween model bound spent jobs count after rest next
-    turns =
+    iterations : StandsBetween model bound spent jobs count after rest next
+    iterations =
         let parts = splits (generation_of model (map pending_of dues) frames) adds in
         let here = generation_is tells law frames is ∙ parts.1 in
         let told = tells model left bound (jobs_of dues) frames (omega (arith, stands.paid)) is in
-        let counts = turn_counts model dues frames made after next (as_many model bound dues frames told.0) adds in
+        let counts = frame_counts model dues frames made after next (as_many model bound dues frames told.0) adds in
         record {
           whole =
               stands.whole
@@ -134,34 +134,34 @@ module _ (model : Parts) (bound spent : ℕ) (jobs : List (ℕ × Job)) (count :
           few = counts.few;
         }
 
-pub turned : (model : Parts) (bound spent : ℕ) (jobs : List (ℕ × Job)) (count : ℕ) (made : List Frame) (left : ℕ) (dues : List (ℕ × Job)) → StandsBetween model bound spent jobs (suc count) made left dues →
+pub iterated : (model : Parts) (bound spent : ℕ) (jobs : List (ℕ × Job)) (count : ℕ) (made : List Frame) (left : ℕ) (dues : List (ℕ × Job)) → StandsBetween model bound spent jobs (suc count) made left dues →
     WaveTellsFrames → GenerationByFrames → PendingStepsAreJobs → IsTrue (valid_model model) → bound ≤ step_limit → count ≤ child_limit →
-    (after : List Frame) (next : Option (List (ℕ × Job) × ℕ)) (later : List (ℕ × Job)) (rest : ℕ) → next ≡ Some (later, rest) → IsTurn model dues left made after next →
+    (after : List Frame) (next : Option (List (ℕ × Job) × ℕ)) (later : List (ℕ × Job)) (rest : ℕ) → next ≡ Some (later, rest) → IsGenerationRun model dues left made after next →
     StandsBetween model bound spent jobs count after rest later
-turned model bound spent jobs count made left dues stands tells law small valid few least after next later rest e turn =
-    let is = subst (IsTurn model dues left made after) e turn in
-    turns model bound spent jobs count made left dues stands tells law small valid few least is.0 after rest later is.1 is.2 is.3
+iterated model bound spent jobs count made left dues stands tells law small valid few least after next later rest e iteration =
+    let is = subst (IsGenerationRun model dues left made after) e iteration in
+    iterations model bound spent jobs count made left dues stands tells law small valid few least is.0 after rest later is.1 is.2 is.3
 
 -- one generation less is left
-pub one_less : (model : Parts) (bound spent : ℕ) (jobs : List (ℕ × Job)) (turn : ℕ) (made : List Frame) (left : ℕ) (dues : List (ℕ × Job)) → turn < child_limit →
-    StandsBetween model bound spent jobs (child_limit - turn) made left dues → StandsBetween model bound spent jobs (suc (child_limit - (turn + 1))) made left dues
-one_less model bound spent jobs turn made left dues less stands =
-    subst (λ n. StandsBetween model bound spent jobs n made left dues) (let e : child_limit - turn ≡ suc (child_limit - (turn + 1)) = omega (arith, less) in e) stands
+pub one_less : (model : Parts) (bound spent : ℕ) (jobs : List (ℕ × Job)) (iteration : ℕ) (made : List Frame) (left : ℕ) (dues : List (ℕ × Job)) → iteration < child_limit →
+    StandsBetween model bound spent jobs (child_limit - iteration) made left dues → StandsBetween model bound spent jobs (suc (child_limit - (iteration + 1))) made left dues
+one_less model bound spent jobs iteration made left dues less stands =
+    subst (λ n. StandsBetween model bound spent jobs n made left dues) (let e : child_limit - iteration ≡ suc (child_limit - (iteration + 1)) = omega (arith, less) in e) stands
 
 -- ---- what is paid
 
 pub pays_on : {A : Type 0} (next : Option A) (one : A) (records had : List Record) (made after : List Frame) (start before now : ℕ) → next ≡ Some one → records ≡ had →
-    before ≤ start + unmatched made had → PaysForTurn next records made after before now → now ≤ start + unmatched after had
-pays_on next one records had made after start before now e same paid turn =
-    let at_some : now + unmatched made records ≤ before + unmatched after records = subst (λ o. PaysForTurn o records made after before now) e turn in
+    before ≤ start + unmatched made had → PaysForGeneration next records made after before now → now ≤ start + unmatched after had
+pays_on next one records had made after start before now e same paid iteration =
+    let at_some : now + unmatched made records ≤ before + unmatched after records = subst (λ o. PaysForGeneration o records made after before now) e iteration in
     let at_made : unmatched made records ≡ unmatched made had = ap (unmatched made) same in
     let at_after : unmatched after records ≡ unmatched after had = ap (unmatched after) same in
     omega (arith, at_some, at_made, at_after, paid)
 
 pub looks_on : {A : Type 0} (next : Option A) (one : A) (made after : List Frame) (start before now : ℕ) → next ≡ Some one →
-    before ≤ start + 2 * length made → LooksForTurn next made after before now → now ≤ start + 2 * length after
-looks_on next one made after start before now e paid turn =
-    let at_some : now + 2 * length made ≤ before + 2 * length after = subst (λ o. LooksForTurn o made after before now) e turn in omega (arith, at_some, paid)
+    before ≤ start + 2 * length made → LooksForGeneration next made after before now → now ≤ start + 2 * length after
+looks_on next one made after start before now e paid iteration =
+    let at_some : now + 2 * length made ≤ before + 2 * length after = subst (λ o. LooksForGeneration o made after before now) e iteration in omega (arith, at_some, paid)
 
 -- ---- the end
 
@@ -178,11 +178,11 @@ ended model bound spent jobs count made left dues none stands = (
   omega (arith, stands.paid),
 )
 
-pub out_of_turns : (model : Parts) (bound spent : ℕ) (jobs : List (ℕ × Job)) (made : List Frame) (left : ℕ) (dues : List (ℕ × Job)) (turn : ℕ) → child_limit ≤ turn →
-    StandsBetween model bound spent jobs (child_limit - turn) made left dues → AreAllFrames model bound spent jobs (Some made)
-out_of_turns model bound spent jobs made left dues turn past stands = (
+pub out_of_iterations : (model : Parts) (bound spent : ℕ) (jobs : List (ℕ × Job)) (made : List Frame) (left : ℕ) (dues : List (ℕ × Job)) (iteration : ℕ) → child_limit ≤ iteration →
+    StandsBetween model bound spent jobs (child_limit - iteration) made left dues → AreAllFrames model bound spent jobs (Some made)
+out_of_iterations model bound spent jobs made left dues iteration past stands = (
   stands.whole
-      ∙ ap (λ n. beside_frames (Some made) (generations model bound n (map pending_of dues))) (let e : child_limit - turn ≡ 0 = omega (arith, past) in e)
+      ∙ ap (λ n. beside_frames (Some made) (generations model bound n (map pending_of dues))) (let e : child_limit - iteration ≡ 0 = omega (arith, past) in e)
       ∙ ap Some (append-nil made),
   omega (arith, stands.paid),
 )

@@ -13,6 +13,7 @@ use Rattle.std.specs.declared.cmp.Ordering.TheVariants.{Less, Equal, Greater}
 use Rattle.aerie_base.specs.Paths.{path_cmp}
 use Rattle.run_data.specs.declared.frames.Frame.{Frame}
 use Rattle.run_data.specs.Batches.{by_path, put_by_path, in_front_unless_greater}
+use Rattle.run_data.specs.FrameLaws.{each_put}
 use Rattle.run_data.specs.laws.Orders.{EachOf}
 use Rattle.engine_core.specs.BatchOrders.{is_before, AreByPath}
 
@@ -86,19 +87,6 @@ by_path_stays (frame ∷ rest) h = ap (put_by_path frame) (by_path_stays rest h.
 each_weaker : (P Q : Frame → Type 0) → ((frame : Frame) → P frame → Q frame) → (frames : List Frame) → EachOf P frames → EachOf Q frames
 each_weaker P Q gives [] h = tt
 each_weaker P Q gives (frame ∷ rest) h = (gives frame h.0, each_weaker P Q gives rest h.1)
-
-pub each_put : (P : Frame → Type 0) (frame : Frame) (frames : List Frame) → P frame → EachOf P frames → EachOf P (put_by_path frame frames)
-each_put P frame [] one h = (one, tt)
-each_put P frame (first ∷ rest) one h = by (path_cmp frame.path first.path) (each_put P frame rest one h.1)
-  where
-    by : (o : Ordering) → EachOf P (put_by_path frame rest) → EachOf P (in_front_unless_greater o frame first rest (put_by_path frame rest))
-    by Less further = (one, h)
-    by Equal further = (one, h)
-    by Greater further = (h.0, further)
-
-pub each_sorted : (P : Frame → Type 0) (frames : List Frame) → EachOf P frames → EachOf P (by_path frames)
-each_sorted P [] h = tt
-each_sorted P (frame ∷ rest) h = each_put P frame (by_path rest) h.0 (each_sorted P rest h.1)
 
 -- a frame that is put keeps the order
 put_in_order : (frame : Frame) (frames : List Frame) → AreByPath frames → AreByPath (put_by_path frame frames)

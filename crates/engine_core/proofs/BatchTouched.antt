@@ -12,7 +12,7 @@ use Rattle.effect_cells.specs.Worth.{has_effect_on, worth_of}
 use Rattle.effect_cells.specs.WorthLaws.{is_some_where_on}
 use Rattle.run_data.specs.Batches.{touched_from}
 use Rattle.engine_core.specs.BatchNumbers.{number_if, numbers_from}
-use Rattle.engine_core.proofs.BatchTurns.{drop_here}
+use Rattle.engine_core.proofs.FrameByFrame.{drop_here}
 
 -- a valid model has at most 256 cells
 pub few_cells : (model : Parts) → IsTrue (valid_model model) → length model.cells ≤ 256
@@ -41,9 +41,9 @@ touched_are tree blank touched count none numbers cells long =
 
 -- ---- a flag more
 
-pub flag_turn : (flags : List Bool) (at : ℕ) (flag : Bool) (numbers more whole : List ℕ) → slice_get flags at ≡ Some flag → more ≡ numbers ++ number_if flag at →
+pub flag_iteration : (flags : List Bool) (at : ℕ) (flag : Bool) (numbers more whole : List ℕ) → slice_get flags at ≡ Some flag → more ≡ numbers ++ number_if flag at →
     numbers ++ numbers_from at (drop at flags) ≡ whole → more ++ numbers_from (at + 1) (drop (at + 1) flags) ≡ whole
-flag_turn flags at flag numbers more whole is put made =
+flag_iteration flags at flag numbers more whole is put made =
     ap (λ (l : List ℕ). l ++ numbers_from (at + 1) (drop (at + 1) flags)) put ∙ append_assoc numbers (number_if flag at) (numbers_from (at + 1) (drop (at + 1) flags))
     ∙ ap (λ (l : List ℕ). numbers ++ l) (by flag) ∙ ap (λ (l : List Bool). numbers ++ numbers_from at l) (sym (drop_here flags at flag is)) ∙ made
   where

@@ -15,7 +15,7 @@ use Rattle.engine_core.specs.GoingOn.{HaveGoneOn, GoOnOf, IsAt, IsAbove, IsAncho
 use Rattle.engine_core.specs.TasksByNumber.{number_for}
 use Rattle.engine_core.proofs.GoingOnTasks.{there_below, same_as_whole, quiet_stays}
 use Rattle.engine_core.proofs.ListedTimes.{get_set}
-use Rattle.engine_core.proofs.PathTables.{at_number}
+use Rattle.run_data.specs.NumberLaws.{at_number}
 use Rattle.engine_core.proofs.PutTasks.{number_same}
 use Rattle.engine_core.proofs.RestingTasks.{within}
 
@@ -82,14 +82,14 @@ goes_as of all now first after otherwise one whole ends = record { ends = begun.
 pub goes_by_number : GoOnInTurn → QuietAfter → (now number : ℕ) (tasks next : Table) (path : List ℕ) (task : Task) → Distinct tasks → slice_get tasks number ≡ Some (path, task) →
     next ≡ slice_set tasks number (path, gone_on (sorted_tasks tasks) now path task) → GoOnOf (IsAt path) now tasks next
 goes_by_number in_turn quiet now number tasks next path task distinct at is whole ends = record {
-  ends = subst (EndsAs whole) (sym is) turn.0;
-  same = ap (on_each (gone_on whole now)) is ∙ turn.1;
+  ends = subst (EndsAs whole) (sym is) iteration.0;
+  same = ap (on_each (gone_on whole now)) is ∙ iteration.1;
   each = each;
 }
   where
-    turn : EndsAs whole (slice_set tasks number (path, gone_on (sorted_tasks tasks) now path task))
+    iteration : EndsAs whole (slice_set tasks number (path, gone_on (sorted_tasks tasks) now path task))
         × (on_each (gone_on whole now) (slice_set tasks number (path, gone_on (sorted_tasks tasks) now path task)) ≡ on_each (gone_on whole now) tasks)
-    turn = in_turn now whole tasks number path task distinct ends at
+    iteration = in_turn now whole tasks number path task distinct ends at
 
     same : gone_on (sorted_tasks tasks) now path task ≡ gone_on whole now path task
     same = same_as_whole whole tasks now path task ends
@@ -126,8 +126,8 @@ goes_nowhere now path tasks distinct none =
 
 -- ---- those above a path
 
-turned : (a b : ℕ) → nat_eq a b ≡ nat_eq b a
-turned a b = grind (arith, nat_tests)
+swapped : (a b : ℕ) → nat_eq a b ≡ nat_eq b a
+swapped a b = grind (arith, nat_tests)
 
 -- the path of a directive or daemon has none above it
 pub above_root : (other : List ℕ) (kind id : ℕ) → is_prefix other (kind ∷ id ∷ []) ≡ true → 2 ≤ length other → kind ∷ id ∷ [] ≡ other

@@ -20,6 +20,7 @@ use Rattle.run_data.specs.declared.frames.Item.TheVariants as item
 use Rattle.run_data.specs.declared.frames.Status.{Status}
 use Rattle.run_data.specs.declared.jobs.Job.{Job}
 use Rattle.run_data.specs.Frames.{job_step, frame_of}
+use Rattle.run_data.specs.MagnitudeLaws.{set_within, applied_within, is_small}
 use Rattle.run_data.specs.Magnitudes.{state_magnitude, effect_magnitude, AreWithin}
 use Rattle.run_data.specs.StepStates.{StepState}
 use Rattle.run_data.specs.Steps.{Stepped}
@@ -33,32 +34,6 @@ use Rattle.engine_core.specs.BatchGenerations.{jobs_of}
 use Rattle.engine_core.specs.BatchViews.{CanEmitAll}
 
 -- ---- how far numbers come
-
-set_within : (cells : List CellState) (cell most : ℕ) (new : CellState) → AreWithin most cells → state_magnitude new ≤ most → AreWithin most (slice_set cells cell new)
-set_within [] cell most new h k j s e = h j s e
-set_within (first ∷ rest) zero most new h k zero s e = (let i : new ≡ s = cc in omega (arith, k, ap state_magnitude i))
-set_within (first ∷ rest) zero most new h k (suc j) s e = h (suc j) s e
-set_within (first ∷ rest) (suc cell) most new h k zero s e = h 0 s e
-set_within (first ∷ rest) (suc cell) most new h k (suc j) s e = set_within rest cell most new (λ i. h (suc i)) k j s e
-
-applied_within : (before : CellState) (effect : Effect) → state_magnitude (applied before effect) ≤ state_magnitude before + effect_magnitude effect
-applied_within (state.Counter n) (Add x) = omega (arith, ints)
-applied_within (state.Counter n) (Register c) = omega arith
-applied_within (state.Counter n) (Flow x y) = omega arith
-applied_within (state.Register v f) (Add x) = omega arith
-applied_within (state.Register v f) (Register change.Nothing) = omega arith
-applied_within (state.Register v f) (Register (change.Set w)) = omega arith
-applied_within (state.Register v f) (Register change.Mark) = omega arith
-applied_within (state.Register v f) (Register (change.SetMark w)) = omega arith
-applied_within (state.Register v f) (Flow x y) = omega arith
-applied_within (state.Volume v r) (Add x) = omega arith
-applied_within (state.Volume v r) (Register c) = omega arith
-applied_within (state.Volume v r) (Flow x y) = omega (arith, ints)
-
-is_small : (state : CellState) → state_magnitude state < sum_limit → IsSmallState state
-is_small (state.Counter n) h = h
-is_small (state.Register v f) h = tt
-is_small (state.Volume v r) h = (omega (arith, h), omega (arith, h))
 
 -- after one effect on a view of such numbers
 record AfterOne (view after : List CellState) (cell most : ℕ) (effect : Effect) : Type 0 where

@@ -14,16 +14,17 @@ use Rattle.run_data.specs.declared.jobs.Job.{Job}
 use Rattle.run_data.specs.Frames.{child_job}
 use Rattle.run_data.specs.laws.Generations.{child_jobs, deep_frame}
 use Rattle.engine_core.specs.BatchDues.{fresh, deep_children}
-use Rattle.engine_core.specs.BatchViews.{seen_after, CanEmitAll}
+use Rattle.run_data.specs.StepStates.{after_items}
+use Rattle.engine_core.specs.BatchViews.{CanEmitAll}
 
 -- ---- items one after another
 
-pub seen_append : (view : List CellState) (first second : List Item) → seen_after view (first ++ second) ≡ seen_after (seen_after view first) second
+pub seen_append : (view : List CellState) (first second : List Item) → after_items view (first ++ second) ≡ after_items (after_items view first) second
 seen_append view [] second = refl
 seen_append view (item.Emit cell effect ∷ rest) second = seen_append (emitted view cell effect) rest second
 seen_append view (item.Child kind arguments ∷ rest) second = seen_append view rest second
 
-can_split : (view : List CellState) (first second : List Item) → CanEmitAll view (first ++ second) → CanEmitAll view first × CanEmitAll (seen_after view first) second
+can_split : (view : List CellState) (first second : List Item) → CanEmitAll view (first ++ second) → CanEmitAll view first × CanEmitAll (after_items view first) second
 can_split view [] second can = (tt, can)
 can_split view (item.Emit cell effect ∷ rest) second can =
     let parts = can_split (emitted view cell effect) rest second can.1 in ((can.0, parts.0), parts.1)
@@ -52,53 +53,53 @@ one_more {A} items at one within is =
 -- ---- along a step
 
 module _ (view : List CellState) (items : List Item) where
-  pub all_can : (at : ℕ) → CanEmitAll view items → CanEmitAll (seen_after view (take at items)) (drop at items)
+  pub all_can : (at : ℕ) → CanEmitAll view items → CanEmitAll (after_items view (take at items)) (drop at items)
   all_can at can = (can_split view (take at items) (drop at items) (subst (CanEmitAll view) (sym (take-append-drop at items)) can)).1
 
   -- what is between two places can be emitted after what is before them, and then all before the second was
-  pub between_can : (first more : ℕ) → CanEmitAll view items → CanEmitAll (seen_after view (take first items)) (take more (drop first items))
+  pub between_can : (first more : ℕ) → CanEmitAll view items → CanEmitAll (after_items view (take first items)) (take more (drop first items))
   between_can first more can =
-      (can_split (seen_after view (take first items)) (take more (drop first items)) (drop more (drop first items))
-      (subst (CanEmitAll (seen_after view (take first items))) (sym (take-append-drop more (drop first items))) (all_can first can))).0
+      (can_split (after_items view (take first items)) (take more (drop first items)) (drop more (drop first items))
+      (subst (CanEmitAll (after_items view (take first items))) (sym (take-append-drop more (drop first items))) (all_can first can))).0
 
-  pub between_seen : (first more : ℕ) → seen_after (seen_after view (take first items)) (take more (drop first items)) ≡ seen_after view (take (first + more) items)
+  pub between_seen : (first more : ℕ) → after_items (after_items view (take first items)) (take more (drop first items)) ≡ after_items view (take (first + more) items)
   between_seen first more =
-      sym (seen_append view (take first items) (take more (drop first items))) ∙ ap (seen_after view) (sym (take_parts items first more))
+      sym (seen_append view (take first items) (take more (drop first items))) ∙ ap (after_items view) (sym (take_parts items first more))
 
   -- a child is nothing to what those behind it see
   pub child_unseen : (at : ℕ) (one : Item) → at < length items → one ≡ get_or items at one → (kind : ℕ) (arguments : List Value) → one ≡ item.Child kind arguments →
-      seen_after view (take at items) ≡ seen_after view (take (at + 1) items)
+      after_items view (take at items) ≡ after_items view (take (at + 1) items)
   child_unseen at one within is kind arguments e =
-      sym (ap (seen_after view) (one_more items at one within is ∙ ap (λ (x : Item). take at items ++ x ∷ []) e) ∙ seen_append view (take at items) (item.Child kind arguments ∷ []))
+      sym (ap (after_items view) (one_more items at one within is ∙ ap (λ (x : Item). take at items ++ x ∷ []) e) ∙ seen_append view (take at items) (item.Child kind arguments ∷ []))
 
   module _ (model : Parts) (maker : List ℕ) (number at : ℕ) (one : Item) (within : at < length items) (is : one ≡ get_or items at one) where
     abbrev left : ℕ → List Job
-    left next = child_jobs model maker next (seen_after view (take (at + 1) items)) (drop (at + 1) items)
+    left next = child_jobs model maker next (after_items view (take (at + 1) items)) (drop (at + 1) items)
 
     -- an effect makes no child, and the children behind it see it
-    past_effect : (cell : ℕ) (effect : Effect) → one ≡ item.Emit cell effect → child_jobs model maker number (seen_after view (take at items)) (drop at items) ≡ left number
+    past_effect : (cell : ℕ) (effect : Effect) → one ≡ item.Emit cell effect → child_jobs model maker number (after_items view (take at items)) (drop at items) ≡ left number
     past_effect cell effect e =
-        ap (child_jobs model maker number (seen_after view (take at items))) (here items at one within is ∙ ap (λ (x : Item). x ∷ drop (at + 1) items) e)
+        ap (child_jobs model maker number (after_items view (take at items))) (here items at one within is ∙ ap (λ (x : Item). x ∷ drop (at + 1) items) e)
         ∙ ap (λ (seen : List CellState). child_jobs model maker number seen (drop (at + 1) items))
-        (sym (ap (seen_after view) (one_more items at one within is ∙ ap (λ (x : Item). take at items ++ x ∷ []) e) ∙ seen_append view (take at items) (item.Emit cell effect ∷ [])))
+        (sym (ap (after_items view) (one_more items at one within is ∙ ap (λ (x : Item). take at items ++ x ∷ []) e) ∙ seen_append view (take at items) (item.Emit cell effect ∷ [])))
 
     -- a child is made, and the next has the next number
     past_child : (kind : ℕ) (arguments : List Value) → one ≡ item.Child kind arguments →
-        child_jobs model maker number (seen_after view (take at items)) (drop at items)
-        ≡ child_job model maker number (seen_after view (take at items)) kind arguments ∷ left (number + 1)
+        child_jobs model maker number (after_items view (take at items)) (drop at items)
+        ≡ child_job model maker number (after_items view (take at items)) kind arguments ∷ left (number + 1)
     past_child kind arguments e =
-        ap (child_jobs model maker number (seen_after view (take at items))) (here items at one within is ∙ ap (λ (x : Item). x ∷ drop (at + 1) items) e)
-        ∙ ap (λ (seen : List CellState). child_job model maker number (seen_after view (take at items)) kind arguments ∷ child_jobs model maker (number + 1) seen (drop (at + 1) items))
-        (sym (ap (seen_after view) (one_more items at one within is ∙ ap (λ (x : Item). take at items ++ x ∷ []) e) ∙ seen_append view (take at items) (item.Child kind arguments ∷ [])))
+        ap (child_jobs model maker number (after_items view (take at items))) (here items at one within is ∙ ap (λ (x : Item). x ∷ drop (at + 1) items) e)
+        ∙ ap (λ (seen : List CellState). child_job model maker number (after_items view (take at items)) kind arguments ∷ child_jobs model maker (number + 1) seen (drop (at + 1) items))
+        (sym (ap (after_items view) (one_more items at one within is ∙ ap (λ (x : Item). take at items ++ x ∷ []) e) ∙ seen_append view (take at items) (item.Child kind arguments ∷ [])))
 
-    pub effect_turn : (all whole : List (ℕ × Job)) (cell : ℕ) (effect : Effect) → one ≡ item.Emit cell effect →
-        all ++ fresh (child_jobs model maker number (seen_after view (take at items)) (drop at items)) ≡ whole → all ++ fresh (left number) ≡ whole
-    effect_turn all whole cell effect e made = ap (λ (jobs : List Job). all ++ fresh jobs) (sym (past_effect cell effect e)) ∙ made
+    pub effect_iteration : (all whole : List (ℕ × Job)) (cell : ℕ) (effect : Effect) → one ≡ item.Emit cell effect →
+        all ++ fresh (child_jobs model maker number (after_items view (take at items)) (drop at items)) ≡ whole → all ++ fresh (left number) ≡ whole
+    effect_iteration all whole cell effect e made = ap (λ (jobs : List Job). all ++ fresh jobs) (sym (past_effect cell effect e)) ∙ made
 
-    pub child_turn : (all more whole : List (ℕ × Job)) (seen : List CellState) (job : Job) (kind : ℕ) (arguments : List Value) → one ≡ item.Child kind arguments →
-        seen ≡ seen_after view (take at items) → job ≡ child_job model maker number seen kind arguments → more ≡ all ++ (0, job) ∷ [] →
-        all ++ fresh (child_jobs model maker number (seen_after view (take at items)) (drop at items)) ≡ whole → more ++ fresh (left (number + 1)) ≡ whole
-    child_turn all more whole seen job kind arguments e sees is_job put made =
+    pub child_iteration : (all more whole : List (ℕ × Job)) (seen : List CellState) (job : Job) (kind : ℕ) (arguments : List Value) → one ≡ item.Child kind arguments →
+        seen ≡ after_items view (take at items) → job ≡ child_job model maker number seen kind arguments → more ≡ all ++ (0, job) ∷ [] →
+        all ++ fresh (child_jobs model maker number (after_items view (take at items)) (drop at items)) ≡ whole → more ++ fresh (left (number + 1)) ≡ whole
+    child_iteration all more whole seen job kind arguments e sees is_job put made =
         ap (λ (l : List (ℕ × Job)). l ++ fresh (left (number + 1))) put
         ∙ append_assoc all ((0, job) ∷ []) (fresh (left (number + 1)))
         ∙ ap (λ (x : Job). all ++ (0, x) ∷ fresh (left (number + 1))) (is_job ∙ ap (λ (v : List CellState). child_job model maker number v kind arguments) sees)

@@ -12,60 +12,60 @@ use Rattle.run_data.specs.Records.{unmatched}
 use Rattle.run_data.specs.Transitions.{more, finished}
 use Rattle.run_data.specs.laws.Weights.{WeightFalls}
 use Rattle.engine_core.specs.RunFrames.{PaysForRun, LooksForRun}
-use Rattle.engine_core.specs.Standing.{Standing, Stands, LeadsTo, turned, jobs_in, PaysForBatch, LooksForBatch}
+use Rattle.engine_core.specs.EngineStates.{EngineState, IsEngineState, LeadsTo, after_transition, jobs_in, PaysForBatch, LooksForBatch}
 use Rattle.engine_core.proofs.RunCounts.{SoFar, step_pays, step_looks, step_smaller, pays_first, looks_first, at_run}
-use Rattle.engine_core.proofs.StandingTurns.{place_weight}
+use Rattle.engine_core.proofs.Transitions.{point_weight}
 
-pub record IsCounted (model : Parts) (plan : Plan) (bound : ℕ) (records : List Record) (steps looks : ℕ) (standing : Standing) (steps_now looks_now : ℕ) : Type 0 where
-  pub stands : Stands standing
-  pub same_model : standing.model ≡ model
-  pub same_plan : standing.plan ≡ plan
-  pub same_bound : standing.bound ≡ bound
-  pub pays : SoFar (λ frames. steps_now ≤ steps + unmatched frames records) standing.place
-  pub few_looks : SoFar (λ frames. looks_now ≤ looks + 2 * length frames) standing.place
+pub record IsCounted (model : Parts) (plan : Plan) (bound : ℕ) (records : List Record) (steps looks : ℕ) (engine : EngineState) (steps_now looks_now : ℕ) : Type 0 where
+  pub stands : IsEngineState engine
+  pub same_model : engine.model ≡ model
+  pub same_plan : engine.plan ≡ plan
+  pub same_bound : engine.bound ≡ bound
+  pub pays : SoFar (λ frames. steps_now ≤ steps + unmatched frames records) engine.point
+  pub few_looks : SoFar (λ frames. looks_now ≤ looks + 2 * length frames) engine.point
 
-pub counted_first : (model : Parts) (plan : Plan) (bound : ℕ) (records : List Record) (steps looks : ℕ) (standing : Standing) → Stands standing → standing.model ≡ model → standing.plan ≡ plan →
-    standing.bound ≡ bound → LeadsTo model plan bound (more (start model plan)) standing.place → IsCounted model plan bound records steps looks standing steps looks
-counted_first model plan bound records steps looks standing stands same_model same_plan same_bound leads = record {
+pub counted_first : (model : Parts) (plan : Plan) (bound : ℕ) (records : List Record) (steps looks : ℕ) (engine : EngineState) → IsEngineState engine → engine.model ≡ model → engine.plan ≡ plan →
+    engine.bound ≡ bound → LeadsTo model plan bound (more (start model plan)) engine.point → IsCounted model plan bound records steps looks engine steps looks
+counted_first model plan bound records steps looks engine stands same_model same_plan same_bound leads = record {
   stands = stands;
   same_model = same_model;
   same_plan = same_plan;
   same_bound = same_bound;
-  pays = pays_first model plan bound steps records standing.place leads;
-  few_looks = looks_first model plan bound looks standing.place leads;
+  pays = pays_first model plan bound steps records engine.point leads;
+  few_looks = looks_first model plan bound looks engine.point leads;
 }
 
-module _ (model : Parts) (plan : Plan) (bound : ℕ) (records : List Record) (steps looks : ℕ) (standing : Standing) (steps_now looks_now : ℕ)
-    (counted : IsCounted model plan bound records steps looks standing steps_now looks_now) where
-  module _ (some : jobs_in standing.place ≡ [] → ⊥) (later : Standing)
-      (leads : LeadsTo standing.model standing.plan standing.bound (turned standing.model standing.plan standing.bound standing.place) later.place)
-      (same_model : later.model ≡ standing.model) (same_plan : later.plan ≡ standing.plan) (same_bound : later.bound ≡ standing.bound) where
-    pub counted_on : Stands later → (has : List Record) → has ≡ records → (steps_later looks_later : ℕ) → PaysForBatch standing has steps_now steps_later → LooksForBatch standing looks_now looks_later →
+module _ (model : Parts) (plan : Plan) (bound : ℕ) (records : List Record) (steps looks : ℕ) (engine : EngineState) (steps_now looks_now : ℕ)
+    (counted : IsCounted model plan bound records steps looks engine steps_now looks_now) where
+  module _ (some : jobs_in engine.point ≡ [] → ⊥) (later : EngineState)
+      (leads : LeadsTo engine.model engine.plan engine.bound (after_transition engine.model engine.plan engine.bound engine.point) later.point)
+      (same_model : later.model ≡ engine.model) (same_plan : later.plan ≡ engine.plan) (same_bound : later.bound ≡ engine.bound) where
+    pub counted_on : IsEngineState later → (has : List Record) → has ≡ records → (steps_later looks_later : ℕ) → PaysForBatch engine has steps_now steps_later → LooksForBatch engine looks_now looks_later →
         IsCounted model plan bound records steps looks later steps_later looks_later
     counted_on stands has same steps_later looks_later pays few = record {
       stands = stands;
       same_model = same_model ∙ counted.same_model;
       same_plan = same_plan ∙ counted.same_plan;
       same_bound = same_bound ∙ counted.same_bound;
-      pays = step_pays standing later some leads records steps steps_now steps_later (subst (λ (r : List Record). PaysForBatch standing r steps_now steps_later) same pays) counted.pays;
-      few_looks = step_looks standing later some leads looks looks_now looks_later few counted.few_looks;
+      pays = step_pays engine later some leads records steps steps_now steps_later (subst (λ (r : List Record). PaysForBatch engine r steps_now steps_later) same pays) counted.pays;
+      few_looks = step_looks engine later some leads looks looks_now looks_later few counted.few_looks;
     }
 
-    pub counted_less : WeightFalls → place_weight later.plan later.bound later.place < place_weight standing.plan standing.bound standing.place
-    counted_less falls = step_smaller standing later some leads falls counted.stands.reached same_plan same_bound
+    pub counted_less : WeightFalls → point_weight later.plan later.bound later.point < point_weight engine.plan engine.bound engine.point
+    counted_less falls = step_smaller engine later some leads falls counted.stands.reached same_plan same_bound
 
-  module _ (run : Run) (is : standing.place ≡ finished run) where
+  module _ (run : Run) (is : engine.point ≡ finished run) where
     pub run_pays : PaysForRun run records steps steps_now
-    run_pays = at_run (λ frames. steps_now ≤ steps + unmatched frames records) standing.place run is counted.pays
+    run_pays = at_run (λ frames. steps_now ≤ steps + unmatched frames records) engine.point run is counted.pays
 
     pub run_looks : LooksForRun run looks looks_now
-    run_looks = at_run (λ frames. looks_now ≤ looks + 2 * length frames) standing.place run is counted.few_looks
+    run_looks = at_run (λ frames. looks_now ≤ looks + 2 * length frames) engine.point run is counted.few_looks
 
-    pub run_fresh : IsFresh standing.model standing.plan standing.bound run → IsFresh model plan bound run
+    pub run_fresh : IsFresh engine.model engine.plan engine.bound run → IsFresh model plan bound run
     run_fresh fresh =
         subst (λ (m : Parts). IsFresh m plan bound run) counted.same_model
-        (subst (λ (p : Plan). IsFresh standing.model p bound run) counted.same_plan
-        (subst (λ n. IsFresh standing.model standing.plan n run) counted.same_bound fresh))
+        (subst (λ (p : Plan). IsFresh engine.model p bound run) counted.same_plan
+        (subst (λ n. IsFresh engine.model engine.plan n run) counted.same_bound fresh))
 
 -- no job is there where the list of jobs is empty
 pub no_job : (jobs : List (ℕ × Job)) (listed : List Job) → listed ≡ map (λ job. job.1) jobs → length listed ≡ 0 → jobs ≡ []

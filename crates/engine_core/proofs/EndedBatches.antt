@@ -16,7 +16,7 @@ use Rattle.run_data.specs.laws.NumberedTasks.{sorted_tasks}
 use Rattle.engine_core.specs.BatchEnds.{batch_as, SpendsWith}
 use Rattle.engine_core.specs.Passing.{run_with}
 use Rattle.engine_core.specs.TasksByNumber.{AreKept, AgreeBut}
-use Rattle.engine_core.specs.Turns.{state_of, TouchesAll}
+use Rattle.engine_core.specs.Stages.{state_of, TouchesAll}
 use Rattle.engine_core.specs.declared.batch_ends.BatchEnd.{BatchEnd}
 use Rattle.engine_core.specs.declared.batch_ends.BatchEnd.TheVariants.{Limit, Failed, Committed}
 use Rattle.engine_core.specs.declared.history.History.{History}
@@ -24,22 +24,22 @@ use Rattle.engine_core.specs.declared.present.Present.{Present}
 use Rattle.engine_core.specs.declared.simulation.Request.{Request}
 
 module _ (model : Parts) (request : Request) (history : History) (present : Present) (end : BatchEnd) where
-  pub limit_place : end ≡ Limit → (run : Run) → run ≡ run_with request history present.time (StepLimit present.time) →
+  pub limit_point : end ≡ Limit → (run : Run) → run ≡ run_with request history present.time (StepLimit present.time) →
       finished run ≡ after_outcome model request.plan request.bound (state_of history present) (batch_as end present.cells)
-  limit_place is run same =
+  limit_point is run same =
       ap finished same ∙ ap (λ (e : BatchEnd). after_outcome model request.plan request.bound (state_of history present) (batch_as e present.cells)) (sym is)
 
-  pub failed_place : (who : Who) (fault : Fault) → end ≡ Failed who fault → (run : Run) → run ≡ run_with request history present.time (Failed_ present.time who fault) →
+  pub failed_point : (who : Who) (fault : Fault) → end ≡ Failed who fault → (run : Run) → run ≡ run_with request history present.time (Failed_ present.time who fault) →
       finished run ≡ after_outcome model request.plan request.bound (state_of history present) (batch_as end present.cells)
-  failed_place who fault is run same =
+  failed_point who fault is run same =
       ap finished same ∙ ap (λ (e : BatchEnd). after_outcome model request.plan request.bound (state_of history present) (batch_as e present.cells)) (sym is)
 
-  pub committed_place : (frames : List Frame) (touched : List ℕ) (spent : ℕ) → end ≡ Committed frames touched spent → SpendsWith present.spent end →
+  pub committed_point : (frames : List Frame) (touched : List ℕ) (spent : ℕ) → end ≡ Committed frames touched spent → SpendsWith present.spent end →
       (after : History) (later : Present) → later.time ≡ present.time → later.spent ≡ spent → later.cells ≡ present.cells →
       sorted_tasks later.tasks.tasks ≡ after_batch present.time frames (sorted_tasks present.tasks.tasks) →
       after.instants ≡ history.instants → after.batches ≡ history.batches ++ frames ∷ [] → after.touched ≡ history.touched ++ touched →
       more (state_of after later) ≡ after_outcome model request.plan request.bound (state_of history present) (batch_as end present.cells)
-  committed_place frames touched spent is spends after later same_time same_spent same_cells table instants batches touches =
+  committed_point frames touched spent is spends after later same_time same_spent same_cells table instants batches touches =
       (λ i. more (record {
         time = same_time i;
         cells = same_cells i;

@@ -8,8 +8,9 @@ use Rattle.std.proofs.lemmas.List.{at_drop_all, append-nil, length-set}
 use Rattle.std.specs.List.{list_all, list_any}
 use Rattle.effect_cells.specs.declared.effects.CellState.{CellState}
 use Rattle.run_data.specs.Fresh.{states_from}
-use Rattle.engine_core.specs.Flags.{flagged_by_numbers, flagged_state, flagged_states}
-use Rattle.engine_core.proofs.BatchTurns.{drop_here}
+use Rattle.run_data.specs.Frames.{read_from}
+use Rattle.engine_core.specs.Flags.{flagged_by_numbers, flagged_state}
+use Rattle.engine_core.proofs.FrameByFrame.{drop_here}
 use Rattle.engine_core.proofs.ListedTimes.{get_set}
 
 -- ---- flags
@@ -53,11 +54,11 @@ flag_at [] flags at was is = is ∙ ap Some (or_false was)
 flag_at (number ∷ rest) flags at was is = by (λ set there. flag_at rest (slice_set flags number true) at set there) (nat_eq at number) refl
   where
     stays : nat_eq number at ≡ false → slice_get (slice_set flags number true) at ≡ Some was
-    stays differs = by_place (nat_lt number (length flags)) refl
+    stays differs = by_number (nat_lt number (length flags)) refl
       where
-        by_place : (b : Bool) → nat_lt number (length flags) ≡ b → slice_get (slice_set flags number true) at ≡ Some was
-        by_place true less = get_set flags number at true (ltb-true number (length flags) less) ∙ ap (λ t. cond t (Some true) (slice_get flags at)) differs ∙ is
-        by_place false more = ap (λ (f : List Bool). slice_get f at) (set_beyond flags number true (ltb-false number (length flags) more)) ∙ is
+        by_number : (b : Bool) → nat_lt number (length flags) ≡ b → slice_get (slice_set flags number true) at ≡ Some was
+        by_number true less = get_set flags number at true (ltb-true number (length flags) less) ∙ ap (λ t. cond t (Some true) (slice_get flags at)) differs ∙ is
+        by_number false more = ap (λ (f : List Bool). slice_get f at) (set_beyond flags number true (ltb-false number (length flags) more)) ∙ is
 
     by : ((set : Bool) → slice_get (slice_set flags number true) at ≡ Some set →
         slice_get (flagged_by_numbers (slice_set flags number true) rest) at ≡ Some (set || list_any (nat_eq at) rest)) →
@@ -87,7 +88,7 @@ unset_at (suc count) (suc at) less = unset_at count at (omega (arith, less))
 
 -- flags that are those of some numbers give the states of these numbers
 by_flags : (touched : List ℕ) (from : ℕ) (flags : List Bool) (cells : List CellState) → length flags ≡ length cells →
-    ((at : ℕ) → at < length cells → slice_get flags at ≡ Some (list_any (nat_eq (from + at)) touched)) → flagged_states from flags cells ≡ states_from from touched cells
+    ((at : ℕ) → at < length cells → slice_get flags at ≡ Some (list_any (nat_eq (from + at)) touched)) → read_from from flags cells ≡ states_from from touched cells
 by_flags touched from [] [] same are = refl
 by_flags touched from [] (state ∷ rest) same are = absurd (omega (arith, same))
 by_flags touched from (flag ∷ flags) [] same are = absurd (omega (arith, same))
@@ -112,7 +113,7 @@ pub as_long : (flags : List Bool) (touched : List ℕ) (count : ℕ) → flags �
 as_long flags touched count is = ap (λ (f : List Bool). length f) is ∙ long_flags touched (replicate count false) ∙ long_blank count
 
 pub touched_states : (touched : List ℕ) (count : ℕ) (cells : List CellState) (flags : List Bool) → count ≡ length cells → flags ≡ flagged_by_numbers (replicate count false) touched →
-    flagged_states 0 flags cells ≡ states_from 0 touched cells
+    read_from 0 flags cells ≡ states_from 0 touched cells
 touched_states touched count cells flags long is =
     by_flags touched 0 flags cells (as_long flags touched count is ∙ long)
     (λ at less. ap (λ (f : List Bool). slice_get f at) is ∙ flag_at touched (replicate count false) at false (unset_at count at (omega (arith, less, long)))
@@ -127,20 +128,20 @@ state_at (state ∷ rest) (suc at) less = state_at rest at (omega (arith, less))
 
 pub state_next : (flags : List Bool) (cells : List CellState) (at : ℕ) (flag : Bool) (states after whole : List (ℕ × CellState)) → length flags ≡ length cells → at < length flags →
     slice_get flags at ≡ Some flag → ((state : CellState) → slice_get cells at ≡ Some state → after ≡ states ++ flagged_state flag at state) →
-    states ++ flagged_states at (drop at flags) (drop at cells) ≡ whole → after ++ flagged_states (at + 1) (drop (at + 1) flags) (drop (at + 1) cells) ≡ whole
+    states ++ read_from at (drop at flags) (drop at cells) ≡ whole → after ++ read_from (at + 1) (drop (at + 1) flags) (drop (at + 1) cells) ≡ whole
 state_next flags cells at flag states after whole same less is put made =
     let found = state_at cells at (omega (arith, less, same)) in
-    ap (λ (l : List (ℕ × CellState)). l ++ flagged_states (at + 1) (drop (at + 1) flags) (drop (at + 1) cells)) (put found.0 found.1)
-    ∙ append_assoc states (flagged_state flag at found.0) (flagged_states (at + 1) (drop (at + 1) flags) (drop (at + 1) cells))
+    ap (λ (l : List (ℕ × CellState)). l ++ read_from (at + 1) (drop (at + 1) flags) (drop (at + 1) cells)) (put found.0 found.1)
+    ∙ append_assoc states (flagged_state flag at found.0) (read_from (at + 1) (drop (at + 1) flags) (drop (at + 1) cells))
     ∙ ap (λ (l : List (ℕ × CellState)). states ++ l) (by flag found.0)
-    ∙ (λ i. states ++ flagged_states at (sym (drop_here flags at flag is) i) (sym (drop_here cells at found.0 found.1) i))
+    ∙ (λ i. states ++ read_from at (sym (drop_here flags at flag is) i) (sym (drop_here cells at found.0 found.1) i))
     ∙ made
   where
-    by : (f : Bool) (state : CellState) → flagged_state f at state ++ flagged_states (at + 1) (drop (at + 1) flags) (drop (at + 1) cells) ≡ flagged_states at (f ∷ drop (at + 1) flags) (state ∷ drop (at + 1) cells)
+    by : (f : Bool) (state : CellState) → flagged_state f at state ++ read_from (at + 1) (drop (at + 1) flags) (drop (at + 1) cells) ≡ read_from at (f ∷ drop (at + 1) flags) (state ∷ drop (at + 1) cells)
     by true state = refl
     by false state = refl
 
 pub all_states : (flags : List Bool) (cells : List CellState) (at : ℕ) (states whole : List (ℕ × CellState)) → length flags ≤ at →
-    states ++ flagged_states at (drop at flags) (drop at cells) ≡ whole → states ≡ whole
+    states ++ read_from at (drop at flags) (drop at cells) ≡ whole → states ≡ whole
 all_states flags cells at states whole past made =
-    sym (append-nil states) ∙ sym (ap (λ (l : List Bool). states ++ flagged_states at l (drop at cells)) (at_drop_all (λ (l : List Bool). l) flags at past)) ∙ made
+    sym (append-nil states) ∙ sym (ap (λ (l : List Bool). states ++ read_from at l (drop at cells)) (at_drop_all (λ (l : List Bool). l) flags at past)) ∙ made

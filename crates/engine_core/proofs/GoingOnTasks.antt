@@ -205,10 +205,10 @@ pub goes_on_going : GoOnInTurn → QuietAfter → (now number : ℕ) (first task
 goes_on_going in_turn quiet now number first tasks next going distinct below is =
     let there = there_below tasks number (let long = going.changed.long in omega (arith, long, below)) in
     let next_is = is there.0 there.1 there.2 in
-    let turn = in_turn now (sorted_tasks first) tasks number there.0 there.1 distinct going.ends there.2 in
+    let iteration = in_turn now (sorted_tasks first) tasks number there.0 there.1 distinct going.ends there.2 in
     let same = same_as_whole (sorted_tasks first) tasks now there.0 there.1 going.ends in
     record {
-      ends = subst (EndsAs (sorted_tasks first)) (sym next_is) turn.0;
+      ends = subst (EndsAs (sorted_tasks first)) (sym next_is) iteration.0;
       changed = one_changed (gone_on (sorted_tasks first) now) number first tasks next there.0 there.1 (gone_on (sorted_tasks tasks) now there.0 there.1) going.changed there.2 next_is same
           (ap (gone_on (sorted_tasks first) now there.0) same
           ∙ quiet_stays (sorted_tasks first) now there.0 (gone_on (sorted_tasks first) now there.0 there.1) (quiet now (sorted_tasks first) there.0 there.1)

@@ -8,7 +8,7 @@ mod BatchLoop
 mod BatchOrder
 mod BatchRuns
 mod BatchTouched
-mod BatchTurns
+mod FrameByFrame
 mod Candidates
 mod CellsRead
 mod ChildEffects
@@ -23,10 +23,8 @@ mod ListedTimes
 mod LongPaths
 mod MarkedPaths
 mod Pairs
-mod PassedPlaces
+mod PassedPoints
 mod PassingTime
-mod PathTables
-mod PathsAbove
 mod PlanningTasks
 mod PutIndexes
 mod PutTables
@@ -38,7 +36,7 @@ mod RestingTasks
 mod RunCounts
 mod SimulationBatches
 mod SimulationMoves
-mod StandingTurns
+mod Transitions
 mod StartedSimulation
 mod TreeLookup
 mod TreeParts

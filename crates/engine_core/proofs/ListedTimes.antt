@@ -180,18 +180,18 @@ all_from (time ∷ rest) t h = from_both t time (least_time rest) (first time re
     first None e = tt
     first (Some u) e = h 0 u (is_this u time e)
 
-place : (times : List (Option ℕ)) (m : ℕ) → least_time times ≡ Some m → (i : ℕ) × (stands_at m (slice_get times i) ≡ true)
-place [] m h = absurd (cc)
-place (time ∷ rest) m h = by time (least_time rest) refl refl h (place rest m)
+position : (times : List (Option ℕ)) (m : ℕ) → least_time times ≡ Some m → (i : ℕ) × (stands_at m (slice_get times i) ≡ true)
+position [] m h = absurd (cc)
+position (time ∷ rest) m h = by time (least_time rest) refl refl h (position rest m)
   where
-    Place : Type 0
-    Place = (i : ℕ) × (stands_at m (slice_get (time ∷ rest) i) ≡ true)
+    Position : Type 0
+    Position = (i : ℕ) × (stands_at m (slice_get (time ∷ rest) i) ≡ true)
 
-    which : (a b : ℕ) → time ≡ Some a → least_time rest ≡ Some b → min a b ≡ m → (least_time rest ≡ Some m → (i : ℕ) × (stands_at m (slice_get rest i) ≡ true)) → (c : Bool) → ltb b a ≡ c → Place
+    which : (a b : ℕ) → time ≡ Some a → least_time rest ≡ Some b → min a b ≡ m → (least_time rest ≡ Some m → (i : ℕ) × (stands_at m (slice_get rest i) ≡ true)) → (c : Bool) → ltb b a ≡ c → Position
     which a b x y z further true l = let k : b ≡ m = grind (arith, nat_tests) in let r = further (y ∙ ap Some k) in (suc r.0, r.1)
     which a b x y z further false l = let k : a ≡ m = grind (arith, nat_tests) in (0, is_this m time (x ∙ ap Some k))
 
-    by : (a b : Option ℕ) → time ≡ a → least_time rest ≡ b → earlier a b ≡ Some m → (least_time rest ≡ Some m → (i : ℕ) × (stands_at m (slice_get rest i) ≡ true)) → Place
+    by : (a b : Option ℕ) → time ≡ a → least_time rest ≡ b → earlier a b ≡ Some m → (least_time rest ≡ Some m → (i : ℕ) × (stands_at m (slice_get rest i) ≡ true)) → Position
     by None b x y z further = let r = further (y ∙ z) in (suc r.0, r.1)
     by (Some a) None x y z further = (0, is_this m time (x ∙ z))
     by (Some a) (Some b) x y z further = let k : min a b ≡ m = cc in which a b x y k further (ltb b a) refl
@@ -228,7 +228,7 @@ none_is times listed are none = sym (go (least_time times) refl)
     go : (o : Option ℕ) → least_time times ≡ o → o ≡ None
     go None e = refl
     go (Some m) e =
-        let r = place times m e in
+        let r = position times m e in
         let has : has_time listed m r.0 ≡ true = are.exact m r.0 ∙ r.1 in
         let f = rw none at has in absurd (cc)
 

@@ -11,7 +11,7 @@ use Rattle.run_data.specs.laws.NumberedTasks.{sorted_tasks, Distinct}
 use Rattle.engine_core.specs.Phases.{returned_to}
 use Rattle.engine_core.specs.GoingOn.{returning}
 use Rattle.engine_core.specs.TasksByNumber.{HavePaths}
-use Rattle.engine_core.proofs.PathTables.{none_at}
+use Rattle.run_data.specs.NumberLaws.{none_at}
 
 -- a path has two numbers and at most 64 more
 few : (path : List ℕ) → IsTrue (is_path path) → length (children_of path) ≤ 64

@@ -6,7 +6,7 @@ use Rattle.std.specs.BTreeSet.{BTreeSet}
 use Rattle.aerie_base.specs.Paths.{path_cmp}
 use Rattle.run_data.specs.laws.ReadyTasks.{number_of_path}
 use Rattle.engine_core.specs.TasksByNumber.{has_path}
-use Rattle.engine_core.proofs.PathTables.{is_same}
+use Rattle.run_data.specs.TableLaws.{is_same}
 
 pub marked_already : (paths : BTreeSet (List ℕ)) (path : List ℕ) (stood stands : Bool) → stood ≡ stands → has_path paths path ≡ stood →
     (p : List ℕ) → has_path paths p ≡ cond (is_at (path_cmp path) p) stands (has_path paths p)

@@ -20,7 +20,7 @@ use Rattle.run_data.specs.laws.ReadyTasks.{is_ready_phase, number_of_path}
 use Rattle.engine_core.specs.Phases.{is_waiting, followed_id}
 use Rattle.engine_core.specs.Times.{put_at}
 use Rattle.engine_core.specs.TasksByNumber.{put_task, number_for, delays_of, anchors_of, has_path, AreFollowed, HavePaths, AreIndexed, Tracked, has_number, IsWatched, IsKept, AreKept}
-use Rattle.engine_core.proofs.PathTables.{is_same, at_with}
+use Rattle.run_data.specs.TableLaws.{is_same, at_with}
 use Rattle.engine_core.proofs.PutTasks.{flip, table_put, get_put, delays_put, number_at, number_same, number_most}
 
 pub delays_long : (tasks : Table) → length (delays_of tasks) ≡ length tasks
@@ -88,7 +88,7 @@ module _ (tasks : Table) (delays delays' : List (Option ℕ)) (opens opens' : BT
       by : (b : Bool) → nat_eq (number_for tasks path) n ≡ b → cond b (Some (path, task)) (slice_get tasks n) ≡ Some (p, one)
       by true e =
           let same : path ≡ p = number_is tasks path task indexed.distinct n p one at e in
-          let k : is_at (path_cmp path) p ≡ true = subst (λ q. is_at (path_cmp path) q ≡ true) same (ap Rattle.std.specs.Ordering.is_eq (Rattle.engine_core.proofs.PathTables.path_itself path)) in
+          let k : is_at (path_cmp path) p ≡ true = subst (λ q. is_at (path_cmp path) q ≡ true) same (ap Rattle.std.specs.Ordering.is_eq (Rattle.run_data.specs.TableLaws.path_itself path)) in
           absurd (cc)
       by false e = at
 
@@ -117,7 +117,7 @@ module _ (tasks : Table) (delays delays' : List (Option ℕ)) (opens opens' : BT
           let both : (path, task) ≡ (p, one) = cc in
           let q : path ≡ p = ap (λ (z : List ℕ × Task). z.0) both in
           let t : task ≡ one = ap (λ (z : List ℕ × Task). z.1) both in
-          let k : is_at (path_cmp path) p ≡ true = subst (λ z. is_at (path_cmp path) z ≡ true) q (ap Rattle.std.specs.Ordering.is_eq (Rattle.engine_core.proofs.PathTables.path_itself path)) in
+          let k : is_at (path_cmp path) p ≡ true = subst (λ z. is_at (path_cmp path) z ≡ true) q (ap Rattle.std.specs.Ordering.is_eq (Rattle.run_data.specs.TableLaws.path_itself path)) in
           let r : is_ready_phase task.phase ≡ true = subst (λ (z : Task). is_ready_phase z.phase ≡ true) (sym t) is_ready in
           let m : number ≡ n = (let i = is in grind (arith, nat_tests)) in rw (k, r) (ap Some m)
       by false e f = go (is_at (path_cmp path) p) refl

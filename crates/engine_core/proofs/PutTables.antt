@@ -15,15 +15,15 @@ use Rattle.run_data.specs.Tasks.{Task, Table, task_at, children_made}
 use Rattle.run_data.specs.laws.EndedTasks.{open_is}
 use Rattle.run_data.specs.laws.NumberedTasks.{sorted_tasks, Distinct}
 use Rattle.run_data.specs.laws.ReadyTasks.{is_ready_phase, number_of_path}
-use Rattle.engine_core.specs.Indexes.{standing_in, SayOf, SayAnew}
+use Rattle.engine_core.specs.Indexes.{index_entry_in, SayOf, SayChanged}
 use Rattle.engine_core.specs.Phases.{followed_id, is_waiting}
 use Rattle.engine_core.specs.TaskTables.{tracked_in, AreInStep}
 use Rattle.engine_core.specs.TasksByNumber.{anchors_of, AreIndexed, AreFollowed, HavePaths, KeepsWakes, put_task, number_for, has_path}
 use Rattle.engine_core.specs.Times.{put_at}
 use Rattle.engine_core.specs.Watching.{AlsoHas, numbers_by_cell}
-use Rattle.engine_core.specs.declared.indexes.Standing.{Standing}
+use Rattle.engine_core.specs.declared.indexes.IndexEntry.{IndexEntry}
 use Rattle.engine_core.specs.declared.tasks.TaskTables.{TaskTables}
-use Rattle.engine_core.proofs.PathTables.{at_number}
+use Rattle.run_data.specs.NumberLaws.{at_number}
 use Rattle.engine_core.proofs.GoingOnTasks.{there_below}
 use Rattle.engine_core.proofs.PutTasks.{length_put, look_is, number_at, number_same}
 use Rattle.engine_core.proofs.RestingTasks.{value_put}
@@ -31,14 +31,14 @@ use Rattle.engine_core.proofs.PutIndexes.{indexed_put, kept_put, followed_put, p
 
 module _ (old new : TaskTables) (path : List ℕ) (task : Task) (number : ℕ) (before : AreInStep old) (is : number ≡ number_for old.tasks.entries path)
     (tasks_is : new.tasks.entries ≡ put_task old.tasks.entries path task) (wakes_is : new.waits.wakes ≡ put_at old.waits.wakes number None) where
-  pub in_step : IsTrue (is_path path) → SayAnew path number (standing_in task.phase) old.indexes new.indexes → AreInStep new
-  in_step is_one anew = record {
+  pub in_step : IsTrue (is_path path) → SayChanged path number (index_entry_in task.phase) old.indexes new.indexes → AreInStep new
+  in_step is_one changed = record {
     indexed = subst (λ (tasks : Table). AreIndexed tasks new.indexes.delays new.indexes.opens new.indexes.readies) (sym tasks_is)
         (indexed_put old.tasks.entries old.indexes.delays new.indexes.delays old.indexes.opens new.indexes.opens old.indexes.readies new.indexes.readies path task number
-        before.indexed is anew.delays anew.opens anew.opens_sorted anew.readies anew.readies_sorted);
+        before.indexed is changed.delays changed.opens changed.opens_sorted changed.readies changed.readies_sorted);
     long = ap length wakes_is ∙ length_put _ _ _ old.tasks.entries path task before.long is ∙ ap length (sym tasks_is);
     followed = subst (λ (tasks : Table). AreFollowed tasks new.indexes.followers.starts new.indexes.followers.ends) (sym tasks_is)
-        (followed_put old.tasks.entries path task number _ _ _ _ is before.followed anew.starts anew.ends);
+        (followed_put old.tasks.entries path task number _ _ _ _ is before.followed changed.starts changed.ends);
     paths = subst HavePaths (sym tasks_is) (paths_put old.tasks.entries path task is_one before.paths);
   }
 
@@ -142,11 +142,11 @@ number_of_none tasks path none = go tasks (look_is tasks path ∙ none)
         by false f further = ap suc (further f)
 
 -- what the indexes say of the task at a number is what they say of the value there
-pub standing_at : (tasks : Table) (n : ℕ) →
-    option_map (λ (e : List ℕ × Task). standing_in e.1.phase) (slice_get tasks n) ≡ option_map (λ (t : Task). standing_in t.phase) (slice_get (values_of tasks) n)
-standing_at [] n = refl
-standing_at (entry ∷ rest) zero = refl
-standing_at (entry ∷ rest) (suc n) = standing_at rest n
+pub index_entry_at : (tasks : Table) (n : ℕ) →
+    option_map (λ (e : List ℕ × Task). index_entry_in e.1.phase) (slice_get tasks n) ≡ option_map (λ (t : Task). index_entry_in t.phase) (slice_get (values_of tasks) n)
+index_entry_at [] n = refl
+index_entry_at (entry ∷ rest) zero = refl
+index_entry_at (entry ∷ rest) (suc n) = index_entry_at rest n
 
 -- ---- one task put at its number
 
@@ -177,10 +177,10 @@ module _ (old : TaskTables) (before : AreInStep old) (number : ℕ) (task : Task
       ∙ ap (λ (o : Option (List ℕ × Task)). option_map (λ (e : List ℕ × Task). e.0) o) at_number_there in cc
 
   -- what the indexes say of the task that stood there
-  pub this_standing : (standing : Standing) → option_map (λ (e : List ℕ × Task). standing_in e.1.phase) (slice_get old.tasks.entries number) ≡ Some standing →
-      standing ≡ standing_in was_there.phase
-  this_standing standing found =
-      let k : Some standing ≡ Some (standing_in was_there.phase) = sym found ∙ ap (λ (o : Option (List ℕ × Task)). option_map (λ (e : List ℕ × Task). standing_in e.1.phase) o) at_number_there in cc
+  pub this_index_entry : (index_entry : IndexEntry) → option_map (λ (e : List ℕ × Task). index_entry_in e.1.phase) (slice_get old.tasks.entries number) ≡ Some index_entry →
+      index_entry ≡ index_entry_in was_there.phase
+  this_index_entry index_entry found =
+      let k : Some index_entry ≡ Some (index_entry_in was_there.phase) = sym found ∙ ap (λ (o : Option (List ℕ × Task)). option_map (λ (e : List ℕ × Task). index_entry_in e.1.phase) o) at_number_there in cc
 
   anchor_there : (edge : Edge) → slice_get (anchors_of edge old.tasks.entries) number ≡ Some (followed_id edge was_there.phase)
   anchor_there edge =
@@ -188,7 +188,7 @@ module _ (old : TaskTables) (before : AreInStep old) (number : ℕ) (task : Task
       ∙ ap (λ (o : Option (List ℕ × Task)). option_map (λ (e : List ℕ × Task). followed_id edge e.1.phase) o) at_number_there
 
   -- what the indexes say of it
-  says_there : SayOf path_there number (standing_in was_there.phase) old.indexes
+  says_there : SayOf path_there number (index_entry_in was_there.phase) old.indexes
   says_there =
       let delays = delays_as_long old before in
       let starts = starts_as_long old before in
@@ -205,9 +205,9 @@ module _ (old : TaskTables) (before : AreInStep old) (number : ℕ) (task : Task
         };
       }
 
-  pub says_of : (path : List ℕ) (standing : Standing) → path ≡ path_there → standing ≡ standing_in was_there.phase → SayOf path number standing old.indexes
-  says_of path standing same stood =
-      subst (λ (p : List ℕ). SayOf p number standing old.indexes) (sym same) (subst (λ (s : Standing). SayOf path_there number s old.indexes) (sym stood) says_there)
+  pub says_of : (path : List ℕ) (index_entry : IndexEntry) → path ≡ path_there → index_entry ≡ index_entry_in was_there.phase → SayOf path number index_entry old.indexes
+  says_of path index_entry same stood =
+      subst (λ (p : List ℕ). SayOf p number index_entry old.indexes) (sym same) (subst (λ (s : IndexEntry). SayOf path_there number s old.indexes) (sym stood) says_there)
 
   pub is_path_there : IsTrue (is_path path_there)
   is_path_there = before.paths number path_there was_there at_number_there

@@ -13,7 +13,8 @@ use Rattle.run_data.specs.laws.NextTimes.{delay_in}
 use Rattle.run_data.specs.laws.NumberedTasks.{sorted_tasks, Distinct}
 use Rattle.engine_core.specs.Times.{put_at}
 use Rattle.engine_core.specs.TasksByNumber.{put_task, number_for, delays_of}
-use Rattle.engine_core.proofs.PathTables.{path_itself, is_same, with_twice, with_with, at_with, at_number}
+use Rattle.run_data.specs.NumberLaws.{at_number}
+use Rattle.run_data.specs.TableLaws.{path_itself, is_same, with_twice, with_with, at_with}
 
 -- ---- equal paths
 

@@ -14,7 +14,8 @@ use Rattle.engine_core.specs.TasksByNumber.{anchors_of}
 use Rattle.engine_core.proofs.AnchoredTasks.{follows, anchors_at}
 use Rattle.engine_core.proofs.Candidates.{none_yet, goes_as, goes_root_of}
 use Rattle.engine_core.proofs.GoingOnTasks.{other_stays}
-use Rattle.engine_core.proofs.PathTables.{at_number, is_same, path_itself}
+use Rattle.run_data.specs.NumberLaws.{at_number}
+use Rattle.run_data.specs.TableLaws.{is_same, path_itself}
 
 -- a task that calls no child and is not anchored stays as it is
 pub stays_there : (now : ℕ) (path : List ℕ) (found : Task) (tasks : Table) → Distinct tasks → task_at (sorted_tasks tasks) path ≡ Some found → None ≡ callee_in found.phase → None ≡ anchor_in found.phase →

@@ -24,15 +24,15 @@ use Rattle.run_data.specs.laws.NumberedTasks.{sorted_tasks, OrderIsDistinct, Ord
 use Rattle.run_data.specs.laws.Orders.{EachOf}
 use Rattle.run_data.specs.laws.ReachedStates.{ReachedIsOfModel, IsStateOf}
 use Rattle.engine_core.specs.BatchEnds.{batch_as, IsFrugalEnd, HasFewLooks, AreReadyJobs}
-use Rattle.engine_core.specs.Standing.{PaysForBatch, LooksForBatch}
+use Rattle.engine_core.specs.EngineStates.{PaysForBatch, LooksForBatch}
 use Rattle.engine_core.specs.TasksByNumber.{MadeIsSmall}
-use Rattle.engine_core.specs.Turns.{state_of, MakesFew}
+use Rattle.engine_core.specs.Stages.{state_of, MakesFew}
 use Rattle.engine_core.specs.declared.batch_ends.BatchEnd.{BatchEnd}
 use Rattle.engine_core.specs.declared.batch_ends.BatchEnd.TheVariants.{Limit, Failed, Committed}
 use Rattle.engine_core.specs.declared.history.History.{History}
 use Rattle.engine_core.specs.declared.present.Present.{Present}
 
--- ---- a turn with a batch
+-- ---- a transition with a batch
 
 pub next_is_batch : (model : Parts) (plan : Plan) (bound : ℕ) (at : SimulationState) → (ready_jobs at.cells at.table ≡ [] → ⊥) →
     next_state model plan bound at ≡ after_outcome model plan bound at (batch model bound at.spent at.cells (ready_jobs at.cells at.table))
@@ -116,24 +116,24 @@ makes_few of_model model plan bound history present cells Limit valid good small
 makes_few of_model model plan bound history present cells (Failed who fault) valid good small reached some is = tt
 makes_few of_model model plan bound history present cells (Committed frames touched spent) valid good small reached some is =
     let at = state_of history present in
-    let place : next_state model plan bound at ≡ after_outcome model plan bound at (committed cells touched frames) = next_is_batch model plan bound at some ∙ ap (after_outcome model plan bound at) (sym is) in
+    let point : next_state model plan bound at ≡ after_outcome model plan bound at (committed cells touched frames) = next_is_batch model plan bound at some ∙ ap (after_outcome model plan bound at) (sym is) in
     few_after of_model model plan bound _ (after_frames present.time frames (sorted_tasks present.tasks.tasks)) present.time valid good small
-    (subst (IsReached model plan bound) place (onward reached)) refl
+    (subst (IsReached model plan bound) point (onward reached)) refl
 
 -- what was committed is known from how the batch ended
 pub pays_batch : (model : Parts) (plan : Plan) (bound : ℕ) (history : History) (present : Present) (cells : List CellState) (end : BatchEnd) (records : List Record) (before after : ℕ) →
     batch_as end cells ≡ batch model bound present.spent present.cells (ready_jobs present.cells (sorted_tasks present.tasks.tasks)) → IsFrugalEnd end records before after →
-    PaysForBatch (record { model = model; plan = plan; bound = bound; place = more (state_of history present) }) records before after
-pays_batch model plan bound history present cells end records before after is frugal at later touched frames place whole =
-    by end (is ∙ of_place place ∙ whole) frugal
+    PaysForBatch (record { model = model; plan = plan; bound = bound; point = more (state_of history present) }) records before after
+pays_batch model plan bound history present cells end records before after is frugal at later touched frames point whole =
+    by end (is ∙ of_point point ∙ whole) frugal
   where
     state_in : SimulationState → Next SimulationState Run → SimulationState
     state_in other (more one) = one
     state_in other (finished run) = other
 
-    of_place : ◌≡◌ {A = Next SimulationState Run} (more (state_of history present)) (more at) →
+    of_point : ◌≡◌ {A = Next SimulationState Run} (more (state_of history present)) (more at) →
         batch model bound present.spent present.cells (ready_jobs present.cells (sorted_tasks present.tasks.tasks)) ≡ batch model bound at.spent at.cells (ready_jobs at.cells at.table)
-    of_place e = ap (λ (p : Next SimulationState Run). let one = state_in at p in batch model bound one.spent one.cells (ready_jobs one.cells one.table)) e
+    of_point e = ap (λ (p : Next SimulationState Run). let one = state_in at p in batch model bound one.spent one.cells (ready_jobs one.cells one.table)) e
 
     by : (end : BatchEnd) → batch_as end cells ≡ committed later touched frames → IsFrugalEnd end records before after → after ≤ before + unmatched frames records
     by Limit e f = absurd (cc)
@@ -142,17 +142,17 @@ pays_batch model plan bound history present cells end records before after is fr
 
 pub looks_batch : (model : Parts) (plan : Plan) (bound : ℕ) (history : History) (present : Present) (cells : List CellState) (end : BatchEnd) (before after : ℕ) →
     batch_as end cells ≡ batch model bound present.spent present.cells (ready_jobs present.cells (sorted_tasks present.tasks.tasks)) → HasFewLooks end before after →
-    LooksForBatch (record { model = model; plan = plan; bound = bound; place = more (state_of history present) }) before after
-looks_batch model plan bound history present cells end before after is few at later touched frames place whole =
-    by end (is ∙ of_place place ∙ whole) few
+    LooksForBatch (record { model = model; plan = plan; bound = bound; point = more (state_of history present) }) before after
+looks_batch model plan bound history present cells end before after is few at later touched frames point whole =
+    by end (is ∙ of_point point ∙ whole) few
   where
     state_in : SimulationState → Next SimulationState Run → SimulationState
     state_in other (more one) = one
     state_in other (finished run) = other
 
-    of_place : ◌≡◌ {A = Next SimulationState Run} (more (state_of history present)) (more at) →
+    of_point : ◌≡◌ {A = Next SimulationState Run} (more (state_of history present)) (more at) →
         batch model bound present.spent present.cells (ready_jobs present.cells (sorted_tasks present.tasks.tasks)) ≡ batch model bound at.spent at.cells (ready_jobs at.cells at.table)
-    of_place e = ap (λ (p : Next SimulationState Run). let one = state_in at p in batch model bound one.spent one.cells (ready_jobs one.cells one.table)) e
+    of_point e = ap (λ (p : Next SimulationState Run). let one = state_in at p in batch model bound one.spent one.cells (ready_jobs one.cells one.table)) e
 
     by : (end : BatchEnd) → batch_as end cells ≡ committed later touched frames → HasFewLooks end before after → after ≤ before + 2 * length frames
     by Limit e f = absurd (cc)

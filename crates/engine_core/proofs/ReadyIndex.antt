@@ -11,7 +11,7 @@ use Rattle.run_data.specs.Tasks.{TaskPhase, anchored, ready, delayed, waiting, c
 use Rattle.run_data.specs.laws.NumberedTasks.{sorted_tasks}
 use Rattle.run_data.specs.laws.ReadyTasks.{ReadyByIndex, HasAllReady, is_ready, is_ready_phase, number_of_path, job_of, jobs_by}
 use Rattle.engine_core.specs.TasksByNumber.{AreIndexed, number_for}
-use Rattle.engine_core.proofs.PathTables.{path_itself}
+use Rattle.run_data.specs.TableLaws.{path_itself}
 use Rattle.engine_core.proofs.PutTasks.{found_at}
 
 all_ready : (tasks : Table) (delays : List (Option ℕ)) (opens : BTreeSet (List ℕ)) (readies : BTreeMap (List ℕ) ℕ) → AreIndexed tasks delays opens readies → HasAllReady tasks readies

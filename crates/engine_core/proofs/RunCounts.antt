@@ -22,9 +22,9 @@ use Rattle.run_data.specs.Waves.{last_count, RoseAlike}
 use Rattle.run_data.specs.laws.Weights.{weight, WeightFalls}
 use Rattle.engine_core.specs.BatchGenerations.{Ran}
 use Rattle.engine_core.specs.RunFrames.{frames_in_batches, frames_in_instants, frames_in_run}
-use Rattle.engine_core.specs.Standing.{Standing, LeadsTo, there, on, turned, jobs_in, OfBatch, PaysForBatch, LooksForBatch}
+use Rattle.engine_core.specs.EngineStates.{EngineState, LeadsTo, there, on, after_transition, jobs_in, OfBatch, PaysForBatch, LooksForBatch}
 use Rattle.engine_core.proofs.ReadyBatches.{next_is_batch}
-use Rattle.engine_core.proofs.StandingTurns.{place_weight}
+use Rattle.engine_core.proofs.Transitions.{point_weight}
 
 -- ---- frames
 
@@ -73,9 +73,9 @@ module _ (P : List Frame → Type 0) (model : Parts) (plan : Plan) (bound : ℕ)
       by [] = by_move at (below plan.duration (least_due at.time plan.duration at.cells at.table)) holds
       by (job ∷ rest) = holds
 
-  pub led : (place later : Next SimulationState Run) → LeadsTo model plan bound place later → SoFar P place → SoFar P later
-  led place later (there job) holds = holds
-  led place later (on {at} none leads) holds = led (next_state model plan bound at) later leads (idle_on at none holds)
+  pub led : (point later : Next SimulationState Run) → LeadsTo model plan bound point later → SoFar P point → SoFar P later
+  led point later (there job) holds = holds
+  led point later (on {at} none leads) holds = led (next_state model plan bound at) later leads (idle_on at none holds)
 
   -- ---- a batch
 
@@ -117,61 +117,61 @@ looks_more frames others before then_ after first second = (let whole = length-a
 -- ---- the weight
 
 module _ (model : Parts) (plan : Plan) (bound : ℕ) (falls : WeightFalls) where
-  turn_less : (at : SimulationState) → IsReached model plan bound (more at) → place_weight plan bound (next_state model plan bound at) < place_weight plan bound (more at)
-  turn_less at reached = by (next_state model plan bound at) refl
+  transition_less : (at : SimulationState) → IsReached model plan bound (more at) → point_weight plan bound (next_state model plan bound at) < point_weight plan bound (more at)
+  transition_less at reached = by (next_state model plan bound at) refl
     where
-      by : (place : Next SimulationState Run) → next_state model plan bound at ≡ place → place_weight plan bound place < weight plan bound at + 1
+      by : (point : Next SimulationState Run) → next_state model plan bound at ≡ point → point_weight plan bound point < weight plan bound at + 1
       by (more later) is = omega (arith, falls model plan bound at later reached is)
       by (finished run) is = omega arith
 
-  led_less : (place later : Next SimulationState Run) → IsReached model plan bound place → LeadsTo model plan bound place later → place_weight plan bound later ≤ place_weight plan bound place
-  led_less place later reached (there job) = omega arith
-  led_less place later reached (on {at} none leads) =
-      omega (arith, turn_less at reached, led_less (next_state model plan bound at) later (onward reached) leads)
+  led_less : (point later : Next SimulationState Run) → IsReached model plan bound point → LeadsTo model plan bound point later → point_weight plan bound later ≤ point_weight plan bound point
+  led_less point later reached (there job) = omega arith
+  led_less point later reached (on {at} none leads) =
+      omega (arith, transition_less at reached, led_less (next_state model plan bound at) later (onward reached) leads)
 
   -- a step with a batch leads to a lower weight
   pub step_less : (at : SimulationState) (later : Next SimulationState Run) → IsReached model plan bound (more at) → LeadsTo model plan bound (next_state model plan bound at) later →
-      place_weight plan bound later < place_weight plan bound (more at)
-  step_less at later reached leads = omega (arith, turn_less at reached, led_less (next_state model plan bound at) later (onward reached) leads)
+      point_weight plan bound later < point_weight plan bound (more at)
+  step_less at later reached leads = omega (arith, transition_less at reached, led_less (next_state model plan bound at) later (onward reached) leads)
 
 -- ---- a step of an engine
 
-module _ (standing later : Standing) (some : jobs_in standing.place ≡ [] → ⊥)
-    (leads : LeadsTo standing.model standing.plan standing.bound (turned standing.model standing.plan standing.bound standing.place) later.place) where
+module _ (engine later : EngineState) (some : jobs_in engine.point ≡ [] → ⊥)
+    (leads : LeadsTo engine.model engine.plan engine.bound (after_transition engine.model engine.plan engine.bound engine.point) later.point) where
   -- what holds of the frames so far, and of them with those of a batch, holds of the frames where it leads
-  step_frames : (P Q : List Frame → Type 0) → OfBatch (λ frames. (earlier : List Frame) → P earlier → Q (earlier ++ frames)) standing → SoFar P standing.place → SoFar Q later.place
-  step_frames P Q more_ holds = by standing.place refl some holds leads
+  step_frames : (P Q : List Frame → Type 0) → OfBatch (λ frames. (earlier : List Frame) → P earlier → Q (earlier ++ frames)) engine → SoFar P engine.point → SoFar Q later.point
+  step_frames P Q more_ holds = by engine.point refl some holds leads
     where
-      by : (place : Next SimulationState Run) → standing.place ≡ place → (jobs_in place ≡ [] → ⊥) → SoFar P place →
-          LeadsTo standing.model standing.plan standing.bound (turned standing.model standing.plan standing.bound place) later.place → SoFar Q later.place
+      by : (point : Next SimulationState Run) → engine.point ≡ point → (jobs_in point ≡ [] → ⊥) → SoFar P point →
+          LeadsTo engine.model engine.plan engine.bound (after_transition engine.model engine.plan engine.bound point) later.point → SoFar Q later.point
       by (more at) is jobs so_far goes =
-          led Q standing.model standing.plan standing.bound (next_state standing.model standing.plan standing.bound at) later.place goes
-          (batched Q standing.model standing.plan standing.bound at jobs (λ cells touched frames whole. more_ at cells touched frames is whole (frames_so_far at) so_far))
+          led Q engine.model engine.plan engine.bound (next_state engine.model engine.plan engine.bound at) later.point goes
+          (batched Q engine.model engine.plan engine.bound at jobs (λ cells touched frames whole. more_ at cells touched frames is whole (frames_so_far at) so_far))
       by (finished run) is jobs so_far goes = absurd (jobs refl)
 
-  pub step_pays : (records : List Record) (before then_ after : ℕ) → PaysForBatch standing records then_ after →
-      SoFar (λ frames. then_ ≤ before + unmatched frames records) standing.place → SoFar (λ frames. after ≤ before + unmatched frames records) later.place
+  pub step_pays : (records : List Record) (before then_ after : ℕ) → PaysForBatch engine records then_ after →
+      SoFar (λ frames. then_ ≤ before + unmatched frames records) engine.point → SoFar (λ frames. after ≤ before + unmatched frames records) later.point
   step_pays records before then_ after pays =
       step_frames (λ frames. then_ ≤ before + unmatched frames records) (λ frames. after ≤ before + unmatched frames records)
       (λ at cells touched frames is whole earlier first. pays_more records earlier frames before then_ after first (pays at cells touched frames is whole))
 
-  pub step_looks : (before then_ after : ℕ) → LooksForBatch standing then_ after →
-      SoFar (λ frames. then_ ≤ before + 2 * length frames) standing.place → SoFar (λ frames. after ≤ before + 2 * length frames) later.place
+  pub step_looks : (before then_ after : ℕ) → LooksForBatch engine then_ after →
+      SoFar (λ frames. then_ ≤ before + 2 * length frames) engine.point → SoFar (λ frames. after ≤ before + 2 * length frames) later.point
   step_looks before then_ after looks =
       step_frames (λ frames. then_ ≤ before + 2 * length frames) (λ frames. after ≤ before + 2 * length frames)
       (λ at cells touched frames is whole earlier first. looks_more earlier frames before then_ after first (looks at cells touched frames is whole))
 
-  pub step_smaller : WeightFalls → IsReached standing.model standing.plan standing.bound standing.place → later.plan ≡ standing.plan → later.bound ≡ standing.bound →
-      place_weight later.plan later.bound later.place < place_weight standing.plan standing.bound standing.place
+  pub step_smaller : WeightFalls → IsReached engine.model engine.plan engine.bound engine.point → later.plan ≡ engine.plan → later.bound ≡ engine.bound →
+      point_weight later.plan later.bound later.point < point_weight engine.plan engine.bound engine.point
   step_smaller falls reached same_plan same_bound =
-      subst (λ n. place_weight later.plan n later.place < place_weight standing.plan standing.bound standing.place) (sym same_bound)
-      (subst (λ (p : Plan). place_weight p standing.bound later.place < place_weight standing.plan standing.bound standing.place) (sym same_plan)
-      (by standing.place some reached leads))
+      subst (λ n. point_weight later.plan n later.point < point_weight engine.plan engine.bound engine.point) (sym same_bound)
+      (subst (λ (p : Plan). point_weight p engine.bound later.point < point_weight engine.plan engine.bound engine.point) (sym same_plan)
+      (by engine.point some reached leads))
     where
-      by : (place : Next SimulationState Run) → (jobs_in place ≡ [] → ⊥) → IsReached standing.model standing.plan standing.bound place →
-          LeadsTo standing.model standing.plan standing.bound (turned standing.model standing.plan standing.bound place) later.place →
-          place_weight standing.plan standing.bound later.place < place_weight standing.plan standing.bound place
-      by (more at) jobs comes goes = step_less standing.model standing.plan standing.bound falls at later.place comes goes
+      by : (point : Next SimulationState Run) → (jobs_in point ≡ [] → ⊥) → IsReached engine.model engine.plan engine.bound point →
+          LeadsTo engine.model engine.plan engine.bound (after_transition engine.model engine.plan engine.bound point) later.point →
+          point_weight engine.plan engine.bound later.point < point_weight engine.plan engine.bound point
+      by (more at) jobs comes goes = step_less engine.model engine.plan engine.bound falls at later.point comes goes
       by (finished run) jobs comes goes = absurd (jobs refl)
 
 -- ---- at the start and where nothing is run
@@ -179,26 +179,26 @@ module _ (standing later : Standing) (some : jobs_in standing.place ≡ [] → �
 pub rose_not : (count steps : ℕ) → count ≤ last_count → RoseAlike count steps count steps
 rose_not count steps small = (omega arith, λ rise is. let none : rise ≡ 0 = omega (arith, is) in omega (arith, none, small))
 
-pub ran_not : (was : Parts → Type 0) (records : List Record) (anchor opened steps looks : ℕ) → opened ≤ last_count → Ran was was records records anchor anchor opened steps looks opened steps looks
-ran_not was records anchor opened steps looks small = record {
+pub ran_not : (was : Parts → Type 0) (records : List Record) (address opened steps looks : ℕ) → opened ≤ last_count → Ran was was records records address address opened steps looks opened steps looks
+ran_not was records address opened steps looks small = record {
   models = λ of. (λ h. h, λ h. h);
   records = refl;
-  same_anchor = refl;
+  same_address = refl;
   rose = rose_not opened steps small;
   looked = omega arith;
 }
 
-pub pays_first : (model : Parts) (plan : Plan) (bound steps : ℕ) (records : List Record) (place : Next SimulationState Run) → LeadsTo model plan bound (more (start model plan)) place →
-    SoFar (λ frames. steps ≤ steps + unmatched frames records) place
-pays_first model plan bound steps records place leads =
-    led (λ frames. steps ≤ steps + unmatched frames records) model plan bound (more (start model plan)) place leads (let none : steps ≤ steps + 0 = omega arith in none)
+pub pays_first : (model : Parts) (plan : Plan) (bound steps : ℕ) (records : List Record) (point : Next SimulationState Run) → LeadsTo model plan bound (more (start model plan)) point →
+    SoFar (λ frames. steps ≤ steps + unmatched frames records) point
+pays_first model plan bound steps records point leads =
+    led (λ frames. steps ≤ steps + unmatched frames records) model plan bound (more (start model plan)) point leads (let none : steps ≤ steps + 0 = omega arith in none)
 
-pub looks_first : (model : Parts) (plan : Plan) (bound looks : ℕ) (place : Next SimulationState Run) → LeadsTo model plan bound (more (start model plan)) place →
-    SoFar (λ frames. looks ≤ looks + 2 * length frames) place
-looks_first model plan bound looks place leads =
-    led (λ frames. looks ≤ looks + 2 * length frames) model plan bound (more (start model plan)) place leads (let none : looks ≤ looks + 2 * 0 = omega arith in none)
+pub looks_first : (model : Parts) (plan : Plan) (bound looks : ℕ) (point : Next SimulationState Run) → LeadsTo model plan bound (more (start model plan)) point →
+    SoFar (λ frames. looks ≤ looks + 2 * length frames) point
+looks_first model plan bound looks point leads =
+    led (λ frames. looks ≤ looks + 2 * length frames) model plan bound (more (start model plan)) point leads (let none : looks ≤ looks + 2 * 0 = omega arith in none)
 
 -- ---- the run
 
-pub at_run : (P : List Frame → Type 0) (place : Next SimulationState Run) (run : Run) → place ≡ finished run → SoFar P place → run.outcome ≡ Completed → P (frames_in_run run)
-at_run P place run is holds = subst (SoFar P) is holds
+pub at_run : (P : List Frame → Type 0) (point : Next SimulationState Run) (run : Run) → point ≡ finished run → SoFar P point → run.outcome ≡ Completed → P (frames_in_run run)
+at_run P point run is holds = subst (SoFar P) is holds

@@ -15,9 +15,9 @@ use Rattle.run_data.specs.laws.NumberedTasks.{sorted_tasks, OrderIsDistinct, Ord
 use Rattle.run_data.specs.laws.QuietStates.{ReachedIsQuiet}
 use Rattle.run_data.specs.laws.ReachedStates.{ReachedIsOfModel, IsStateOf}
 use Rattle.engine_core.specs.BatchEnds.{batch_as, IsFrugalEnd, HasFewLooks, AreReadyJobs}
-use Rattle.engine_core.specs.Standing.{PaysForBatch, LooksForBatch}
+use Rattle.engine_core.specs.EngineStates.{PaysForBatch, LooksForBatch}
 use Rattle.engine_core.specs.TasksByNumber.{AreKept}
-use Rattle.engine_core.specs.Turns.{state_of, place_in, plan_in, bound_in, standing_of, AreKeptIn, IsOnCourse, StandsAt, MakesFew, TouchesAll}
+use Rattle.engine_core.specs.Stages.{state_of, point_in, plan_in, bound_in, engine_state_of, AreKeptIn, IsOnCourse, StandsAt, MakesFew, TouchesAll}
 use Rattle.engine_core.specs.declared.batch_ends.BatchEnd.{BatchEnd}
 use Rattle.engine_core.specs.declared.batch_ends.BatchEnd.TheVariants.{Limit, Failed, Committed}
 use Rattle.engine_core.specs.declared.simulation.Simulation.{Simulation}
@@ -65,14 +65,14 @@ module _ (of_model : ReachedIsOfModel) (model : Parts) (simulation : Simulation)
     few_made =
         makes_few of_model model simulation.request.plan simulation.request.bound simulation.history simulation.present cells end valid course.plan course.bound course.reached some_ready whole
 
-    pub stands_after : (turn : Stage) →
-        ((of : Parts) → place_in turn ≡ after_outcome of simulation.request.plan simulation.request.bound (state_of simulation.history (record simulation.present { cells = cells })) (batch_as end cells)) →
-        plan_in turn ≡ simulation.request.plan → bound_in turn ≡ simulation.request.bound →
-        ((before : List CellState) → AreKept simulation.present.time simulation.request.plan.duration before simulation.present.tasks → TouchesAll end before cells → AreKeptIn turn) →
-        StandsAt simulation.request.plan simulation.request.bound (next_state model simulation.request.plan simulation.request.bound at) turn
-    stands_after turn place plan bound kept = record {
-      place =
-          place model ∙ same_outcome model simulation.request.plan simulation.request.bound simulation.history simulation.present cells end
+    pub stands_after : (stage : Stage) →
+        ((of : Parts) → point_in stage ≡ after_outcome of simulation.request.plan simulation.request.bound (state_of simulation.history (record simulation.present { cells = cells })) (batch_as end cells)) →
+        plan_in stage ≡ simulation.request.plan → bound_in stage ≡ simulation.request.bound →
+        ((before : List CellState) → AreKept simulation.present.time simulation.request.plan.duration before simulation.present.tasks → TouchesAll end before cells → AreKeptIn stage) →
+        StandsAt simulation.request.plan simulation.request.bound (next_state model simulation.request.plan simulation.request.bound at) stage
+    stands_after stage point plan bound kept = record {
+      point =
+          point model ∙ same_outcome model simulation.request.plan simulation.request.bound simulation.history simulation.present cells end
           ∙ ap (after_outcome model simulation.request.plan simulation.request.bound at) whole
           ∙ sym (next_is_batch model simulation.request.plan simulation.request.bound at some_ready);
       plan = plan;
@@ -82,10 +82,10 @@ module _ (of_model : ReachedIsOfModel) (model : Parts) (simulation : Simulation)
           (touches_all model simulation.request.bound simulation.present.spent simulation.present.cells cells jobs end ends);
     }
 
-    pub pays_after : (records : List Record) (before after : ℕ) → IsFrugalEnd end records before after → PaysForBatch (standing_of model (On simulation)) records before after
+    pub pays_after : (records : List Record) (before after : ℕ) → IsFrugalEnd end records before after → PaysForBatch (engine_state_of model (On simulation)) records before after
     pays_after records before after frugal =
         pays_batch model simulation.request.plan simulation.request.bound simulation.history simulation.present cells end records before after whole frugal
 
-    pub looks_after : (before after : ℕ) → HasFewLooks end before after → LooksForBatch (standing_of model (On simulation)) before after
+    pub looks_after : (before after : ℕ) → HasFewLooks end before after → LooksForBatch (engine_state_of model (On simulation)) before after
     looks_after before after few =
         looks_batch model simulation.request.plan simulation.request.bound simulation.history simulation.present cells end before after whole few

@@ -22,7 +22,7 @@ use Rattle.run_data.specs.laws.Weights.{WeightFalls}
 use Rattle.engine_core.specs.Passing.{GoesOnFrom}
 use Rattle.engine_core.specs.Phases.{condition_in}
 use Rattle.engine_core.specs.TasksByNumber.{AreFound}
-use Rattle.engine_core.specs.Turns.{state_of, IsOnCourse, StandsAt}
+use Rattle.engine_core.specs.Stages.{state_of, IsOnCourse, StandsAt}
 use Rattle.engine_core.specs.Waking.{AreSolvable}
 use Rattle.engine_core.specs.declared.present.Present.{Present}
 use Rattle.engine_core.specs.declared.simulation.Simulation.{Simulation}
@@ -91,7 +91,7 @@ module _ (of_model : ReachedIsOfModel) (model : Parts) (simulation : Simulation)
         StandsAt simulation.request.plan simulation.request.bound (next_state model simulation.request.plan simulation.request.bound at)
         (On (record { request = simulation.request; history = simulation.history; present = later }))
     stands_woken some found = record {
-      place =
+      point =
           ap more woken_state
           ∙ sym (some_woken model simulation.request.plan simulation.request.bound at none
           (λ still. some ((λ i. ready_jobs (same_cells i) (table_is i)) ∙ still)));
@@ -123,6 +123,6 @@ module _ (of_model : ReachedIsOfModel) (model : Parts) (simulation : Simulation)
       pub range_later : AreInRange later.cells
       range_later = subst AreInRange (sym same_cells) state.in_range
 
-      pub stands_moved : (turn : Stage) → StandsAt simulation.request.plan simulation.request.bound (moved_from (state_of simulation.history later)) turn →
-          StandsAt simulation.request.plan simulation.request.bound (next_state model simulation.request.plan simulation.request.bound at) turn
-      stands_moved turn stands = record { place = stands.place ∙ is_next; plan = stands.plan; bound = stands.bound; kept = stands.kept }
+      pub stands_moved : (stage : Stage) → StandsAt simulation.request.plan simulation.request.bound (moved_from (state_of simulation.history later)) stage →
+          StandsAt simulation.request.plan simulation.request.bound (next_state model simulation.request.plan simulation.request.bound at) stage
+      stands_moved stage stands = record { point = stands.point ∙ is_next; plan = stands.plan; bound = stands.bound; kept = stands.kept }

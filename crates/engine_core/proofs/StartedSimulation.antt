@@ -11,7 +11,7 @@ use Rattle.run_data.specs.Fresh.{start}
 use Rattle.run_data.specs.Tasks.{on_each, rested, with_directives, with_daemons}
 use Rattle.run_data.specs.laws.NumberedTasks.{sorted_tasks}
 use Rattle.engine_core.specs.TasksByNumber.{AreKept}
-use Rattle.engine_core.specs.Turns.{state_of, AreKeptBefore}
+use Rattle.engine_core.specs.Stages.{state_of, AreKeptBefore}
 use Rattle.engine_core.specs.declared.history.History.{History}
 use Rattle.engine_core.specs.declared.present.Present.{Present}
 

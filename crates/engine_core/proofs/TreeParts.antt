@@ -13,7 +13,7 @@ use Rattle.run_data.specs.Frames.{room_of}
 use Rattle.run_data.specs.laws.Orders.{EachOf}
 use Rattle.run_data.specs.laws.Trees.{frame_at, parts_by, parts_of, rebuilt, rebuilt_all}
 use Rattle.engine_core.specs.BatchTrees.{parts_below, part_by, children_by}
-use Rattle.engine_core.proofs.BatchTurns.{drop_here}
+use Rattle.engine_core.proofs.FrameByFrame.{drop_here}
 use Rattle.engine_core.proofs.ChildViews.{here}
 
 -- a task's parts are those of its frame
@@ -29,9 +29,9 @@ first_part of_child path number (item.Child kind arguments) rest = refl
 
 module _ (of_child : List ℕ → List Part) (path : List ℕ) (items : List Item) (number at : ℕ) (one : Item) (within : at < length items) (is : one ≡ get_or items at one) where
   -- one part more, and what is left makes the rest
-  pub part_turn : (parts whole more : List Part) (part : Part) → part ≡ part_by of_child path number one → more ≡ parts ++ part ∷ [] →
+  pub part_iteration : (parts whole more : List Part) (part : Part) → part ≡ part_by of_child path number one → more ≡ parts ++ part ∷ [] →
       parts ++ parts_by of_child path number (drop at items) ≡ whole → more ++ parts_by of_child path (number + children_by one) (drop (at + 1) items) ≡ whole
-  part_turn parts whole more part of put made =
+  part_iteration parts whole more part of put made =
       ap (λ (l : List Part). l ++ parts_by of_child path (number + children_by one) (drop (at + 1) items)) put
       ∙ append_assoc parts (part ∷ []) (parts_by of_child path (number + children_by one) (drop (at + 1) items))
       ∙ ap (λ (p : Part). parts ++ p ∷ parts_by of_child path (number + children_by one) (drop (at + 1) items)) of

@@ -27,7 +27,7 @@ use Rattle.run_data.specs.laws.Generations.{child_jobs}
 use Rattle.run_data.specs.laws.Orders.{EachOf, FitsCells, MadeFitsCells}
 use Rattle.run_data.specs.laws.SmallSteps.{IsSmallItem, IsJobWithin, StepsAreSmall, ChildrenAreJobs, WithinIsJob}
 use Rattle.engine_core.specs.BatchTrees.{HaveFewItems}
-use Rattle.engine_core.proofs.BatchTurns.{cost_append}
+use Rattle.engine_core.proofs.FrameByFrame.{cost_append}
 
 -- ---- magnitudes
 

@@ -60,15 +60,15 @@ not_before_now now horizon cells (delayed until state) time e = absurd (cc)
 not_before_now now horizon cells (calling child into state) time e = absurd (cc)
 not_before_now now horizon cells (over result) time e = absurd (cc)
 
-standing : (time : ℕ) (o : Option (Option ℕ)) → stands_at time o ≡ true → o ≡ Some (Some time)
-standing time None h = absurd (cc)
-standing time (Some other) h = ap Some (this_is time other h)
+engine : (time : ℕ) (o : Option (Option ℕ)) → stands_at time o ≡ true → o ≡ Some (Some time)
+engine time None h = absurd (cc)
+engine time (Some other) h = ap Some (this_is time other h)
 
 pub none_before_now : (now horizon : ℕ) (cells : List CellState) (tracked : Tracked) → AreFound now horizon cells tracked → length tracked.wakes ≡ length tracked.tasks →
     IsUpToTime now (least_time tracked.wakes)
 none_before_now now horizon cells tracked found long =
     all_from tracked.wakes now (λ i time stands.
-    let there = wakes_at now horizon cells tracked i time found long (standing time (slice_get tracked.wakes i) stands) in
+    let there = wakes_at now horizon cells tracked i time found long (engine time (slice_get tracked.wakes i) stands) in
     not_before_now now horizon cells there.task.phase time there.wake)
 
 -- ---- who wakes now

@@ -10,8 +10,8 @@ use Rattle.run_data.specs.declared.jobs.Job.{Job}
 use Rattle.run_data.specs.laws.Generations.{child_jobs, beside_generation, pending_of}
 use Rattle.run_data.specs.laws.WaveGenerations.{generation_of}
 use Rattle.engine_core.specs.BatchDues.{fresh}
-use Rattle.engine_core.specs.BatchGenerations.{so_far, jobs_of, AddsGeneration, HasRoomForChild, HaveRoomForChildren}
-use Rattle.engine_core.proofs.BatchTurns.{adds_due, frame_turn, frames_end}
+use Rattle.engine_core.specs.BatchGenerations.{gathered_so_far, jobs_of, AddsGeneration, HasRoomForChild, HaveRoomForChildren}
+use Rattle.engine_core.proofs.FrameByFrame.{adds_due, frame_iteration, frames_end}
 
 -- the jobs up to a place have room
 abbrev pub HaveRoomUpTo : List Job → ℕ → Type 0
@@ -39,24 +39,24 @@ taken_more made frames at frame found =
 -- what there is, with what is left, is all with what there was
 abbrev pub AddsSoFar : Parts → List (ℕ × Job) → List Frame → List Frame → ℕ → List (ℕ × Job) → Type 0
 AddsSoFar model jobs frames made at dues =
-    beside_generation (so_far (made ++ take at frames) dues) (generation_of model (map pending_of (drop at jobs)) (drop at frames))
-    ≡ beside_generation (so_far made []) (generation_of model (map pending_of jobs) frames)
+    beside_generation (gathered_so_far (made ++ take at frames) dues) (generation_of model (map pending_of (drop at jobs)) (drop at frames))
+    ≡ beside_generation (gathered_so_far made []) (generation_of model (map pending_of jobs) frames)
 
 pub adds_none : (model : Parts) (jobs : List (ℕ × Job)) (frames made : List Frame) (dues : List (ℕ × Job)) → dues ≡ [] → AddsSoFar model jobs frames made 0 dues
 adds_none model jobs frames made dues none =
-    λ i. beside_generation (so_far (append-nil made i) (none i)) (generation_of model (map pending_of jobs) frames)
+    λ i. beside_generation (gathered_so_far (append-nil made i) (none i)) (generation_of model (map pending_of jobs) frames)
 
 pub adds_more : (model : Parts) (jobs : List (ℕ × Job)) (frames made : List Frame) (at : ℕ) (job : ℕ × Job) (frame : Frame) (dues all : List (ℕ × Job)) → slice_get jobs at ≡ Some job → slice_get frames at ≡ Some frame →
     HasRoomForChild job.1.path → all ≡ dues ++ fresh (child_jobs model job.1.path job.0 job.1.view frame.items) → AddsSoFar model jobs frames made at dues → AddsSoFar model jobs frames made (at + 1) all
 adds_more model jobs frames made at job frame dues all j f room is before =
-    frame_turn model jobs frames (made ++ take at frames) (made ++ take (at + 1) frames) dues all _ at job frame j f
+    frame_iteration model jobs frames (made ++ take at frames) (made ++ take (at + 1) frames) dues all _ at job frame j f
     (adds_due model job frame (made ++ take at frames) (made ++ take (at + 1) frames) dues all room.good room.room (taken_more made frames at frame f) is) before
 
 pub adds_all : (model : Parts) (jobs : List (ℕ × Job)) (frames made after : List Frame) (at : ℕ) (dues : List (ℕ × Job)) → length jobs ≤ at → length frames ≡ length jobs → after ≡ made ++ frames →
     AddsSoFar model jobs frames made at dues → AddsGeneration model jobs frames made after dues
 adds_all model jobs frames made after at dues past long is before =
     frames_end model jobs frames (made ++ take at frames) dues _ at past before
-    ∙ ap (λ (l : List Frame). so_far l dues) (ap (λ (l : List Frame). made ++ l) (take_all at frames (omega (arith, past, long))) ∙ sym is)
+    ∙ ap (λ (l : List Frame). gathered_so_far l dues) (ap (λ (l : List Frame). made ++ l) (take_all at frames (omega (arith, past, long))) ∙ sym is)
 
 -- the job at a place has room
 pub room_at : (jobs : List (ℕ × Job)) (at : ℕ) (job : ℕ × Job) → HaveRoomForChildren (jobs_of jobs) → slice_get jobs at ≡ Some job → HasRoomForChild job.1.path

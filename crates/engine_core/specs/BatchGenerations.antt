@@ -1,4 +1,4 @@
--- A batch a generation at a time: what one turn does, and where the batch stands between turns.
+-- A batch a generation at a time: what one iteration does, and where the batch stands between iterations.
 use Rattle.std.specs.Prelude.{◌≡◌, ℕ, ◌+◌, ◌*◌, ◌-◌, ◌≤◌, ◌<◌, List, [], map, length, Option, Some, None, IsTrue, slice_get}
 use Rattle.std.specs.List.{All}
 use Rattle.aerie_base.specs.Paths.{child_limit, children_of, is_path}
@@ -26,8 +26,8 @@ jobs_of jobs = map (λ job. job.1) jobs
 -- ---- one generation
 
 -- frames so far, and the jobs that are due then
-abbrev pub so_far : List Frame → List (ℕ × Job) → Generation
-so_far made dues = Some (made, map pending_of dues)
+abbrev pub gathered_so_far : List Frame → List (ℕ × Job) → Generation
+gathered_so_far made dues = Some (made, map pending_of dues)
 
 -- what the frame of a job adds to these
 abbrev pub added_by : Parts → ℕ × Job → Frame → Generation
@@ -36,7 +36,7 @@ added_by model job frame = with_children (room_of job.1.path) job.1.path frame (
 -- the frames of jobs added to those so far, and the jobs that are due next
 abbrev pub AddsGeneration : Parts → List (ℕ × Job) → List Frame → List Frame → List Frame → List (ℕ × Job) → Type 0
 AddsGeneration model jobs frames made after dues =
-    beside_generation (so_far made []) (generation_of model (map pending_of jobs) frames) ≡ so_far after dues
+    beside_generation (gathered_so_far made []) (generation_of model (map pending_of jobs) frames) ≡ gathered_so_far after dues
 
 -- jobs may be stepped, and what the steps do can be seen by the children that they make
 pub record MayRun (model : Parts) (bound : ℕ) (jobs : List (ℕ × Job)) : Type 0 where
@@ -44,20 +44,20 @@ pub record MayRun (model : Parts) (bound : ℕ) (jobs : List (ℕ × Job)) : Typ
   pub seen : (frames : List Frame) → frames_of model bound (jobs_of jobs) ≡ Some frames → AreSeenSteps jobs frames
 
 -- the wave of jobs is spent, or its frames are added; with them comes what is left of the fuel
-abbrev pub IsTurn : Parts → List (ℕ × Job) → ℕ → List Frame → List Frame → Option (List (ℕ × Job) × ℕ) → Type 0
-IsTurn model jobs fuel made after None = wave_of model fuel (jobs_of jobs) ≡ Spent
-IsTurn model jobs fuel made after (Some (dues, left)) =
+abbrev pub IsGenerationRun : Parts → List (ℕ × Job) → ℕ → List Frame → List Frame → Option (List (ℕ × Job) × ℕ) → Type 0
+IsGenerationRun model jobs fuel made after None = wave_of model fuel (jobs_of jobs) ≡ Spent
+IsGenerationRun model jobs fuel made after (Some (dues, left)) =
     (frames : List Frame) × (wave_of model fuel (jobs_of jobs) ≡ Frames frames) × AddsGeneration model jobs frames made after dues × (fuel ≡ left + cost_of frames)
 
 -- where frames were added, a count rose by at most what no record fits of them
-abbrev pub PaysForTurn : {A : Type 0} → Option A → List Record → List Frame → List Frame → ℕ → ℕ → Type 0
-PaysForTurn None records made after before now = Unit {0}
-PaysForTurn (Some next) records made after before now = now + unmatched made records ≤ before + unmatched after records
+abbrev pub PaysForGeneration : {A : Type 0} → Option A → List Record → List Frame → List Frame → ℕ → ℕ → Type 0
+PaysForGeneration None records made after before now = Unit {0}
+PaysForGeneration (Some next) records made after before now = now + unmatched made records ≤ before + unmatched after records
 
 -- and another by at most two for each
-abbrev pub LooksForTurn : {A : Type 0} → Option A → List Frame → List Frame → ℕ → ℕ → Type 0
-LooksForTurn None made after before now = Unit {0}
-LooksForTurn (Some next) made after before now = now + 2 * length made ≤ before + 2 * length after
+abbrev pub LooksForGeneration : {A : Type 0} → Option A → List Frame → List Frame → ℕ → ℕ → Type 0
+LooksForGeneration None made after before now = Unit {0}
+LooksForGeneration (Some next) made after before now = now + 2 * length made ≤ before + 2 * length after
 
 -- ---- between generations
 
@@ -105,10 +105,10 @@ LooksForAll (Some frames) before now = now ≤ before + 2 * length frames
 
 -- What runs of a stepper leave as it was, and how its counts rise: it is of the same models, has the same records and the same
 -- anchor, what it opened rises as the statements do, and the searches do not fall.
-pub record Ran (was is : Parts → Type 0) (had has : List Record) (anchor stays : ℕ) (opened steps looks opened_after steps_after looks_after : ℕ) : Type 0 where
+pub record Ran (was is : Parts → Type 0) (had has : List Record) (address stays : ℕ) (opened steps looks opened_after steps_after looks_after : ℕ) : Type 0 where
   pub models : (of : Parts) → (was of → is of) × (is of → was of)
   pub records : has ≡ had
-  pub same_anchor : stays ≡ anchor
+  pub same_address : stays ≡ address
   pub rose : RoseAlike opened steps opened_after steps_after
   pub looked : looks ≤ looks_after
 
@@ -124,4 +124,4 @@ HaveRoomForChildren jobs = (at : ℕ) (job : Job) → slice_get jobs at ≡ Some
 
 -- the frame of a job with those so far, and the jobs that are due then
 abbrev pub AddsFrame : Parts → ℕ × Job → Frame → List Frame → List Frame → List (ℕ × Job) → List (ℕ × Job) → Type 0
-AddsFrame model job frame made after dues later = beside_generation (so_far made dues) (added_by model job frame) ≡ so_far after later
+AddsFrame model job frame made after dues later = beside_generation (gathered_so_far made dues) (added_by model job frame) ≡ gathered_so_far after later

@@ -1,5 +1,5 @@
 -- Cells by number that are flagged, and their states.
-use Rattle.std.specs.Prelude.{◌≡◌, ℕ, ◌+◌, Bool, true, List, [], ◌∷◌, ◌++◌, Some, slice_get, slice_set, if◌then◌else◌}
+use Rattle.std.specs.Prelude.{◌≡◌, ℕ, Bool, true, List, [], ◌∷◌, ◌++◌, Some, slice_get, slice_set, if◌then◌else◌}
 use Rattle.effect_cells.specs.declared.effects.CellState.{CellState}
 
 -- flags, those of some numbers set besides
@@ -10,13 +10,6 @@ flagged_by_numbers flags (number ∷ rest) = flagged_by_numbers (slice_set flags
 -- the state of a cell with its number where its flag is set
 abbrev pub flagged_state : Bool → ℕ → CellState → List (ℕ × CellState)
 flagged_state flag number state = if flag then (number, state) ∷ [] else []
-
--- the states of the cells whose flags are set, each with its number; the first cell has number `from`
-abbrev pub flagged_states : ℕ → List Bool → List CellState → List (ℕ × CellState)
-flagged_states from [] states = []
-flagged_states from (flag ∷ flags) [] = []
-flagged_states from (flag ∷ flags) (state ∷ states) =
-    if flag then (from, state) ∷ flagged_states (from + 1) flags states else flagged_states (from + 1) flags states
 
 -- states with that of a cell behind them, where its flag is set
 abbrev pub KeepsState : Bool → ℕ → List CellState → List (ℕ × CellState) → List (ℕ × CellState) → Type 0

@@ -16,7 +16,7 @@ use Rattle.engine_core.specs.TasksByNumber.{has_path}
 use Rattle.engine_core.specs.Times.{put_at}
 use Rattle.engine_core.specs.declared.followers.Followers.{Followers}
 use Rattle.engine_core.specs.declared.indexes.Indexes.{Indexes}
-use Rattle.engine_core.specs.declared.indexes.Standing.{Standing}
+use Rattle.engine_core.specs.declared.indexes.IndexEntry.{IndexEntry}
 
 -- a path stands in a set, or does not, and the others as before
 abbrev pub MarksPath : List ℕ → Bool → BTreeSet (List ℕ) → BTreeSet (List ℕ) → Type 0
@@ -28,12 +28,12 @@ NumbersPath path number before after =
     (p : List ℕ) → number_of_path after p ≡ cond (is_at (path_cmp path) p) number (number_of_path before p)
 
 -- the number of a task that is ready, or none
-abbrev pub ready_number : Standing → ℕ → Option ℕ
-ready_number standing number = if standing.is_ready then Some number else None
+abbrev pub ready_number : IndexEntry → ℕ → Option ℕ
+ready_number index_entry number = if index_entry.is_ready then Some number else None
 
 -- what they say of a task that is doing this
-abbrev pub standing_in : TaskPhase → Standing
-standing_in phase = record { delay = delay_in phase; is_open = is_open phase; is_ready = is_ready_phase phase; anchor = anchor_in phase }
+abbrev pub index_entry_in : TaskPhase → IndexEntry
+index_entry_in phase = record { delay = delay_in phase; is_open = is_open phase; is_ready = is_ready_phase phase; anchor = anchor_in phase }
 
 -- the id of the directive to whose start an anchor is, and to whose end
 abbrev pub id_at_start : Option Anchor → Option ℕ
@@ -50,18 +50,18 @@ pub record HadAnchor (number : ℕ) (anchor : Option Anchor) (followers : Follow
   pub end : number < length followers.ends → slice_get followers.ends number ≡ Some (id_at_end anchor)
 
 -- what they say of the task of a path, which has this number, or is none and is to have it as the next one
-pub record SayOf (path : List ℕ) (number : ℕ) (standing : Standing) (indexes : Indexes) : Type 0 where
+pub record SayOf (path : List ℕ) (number : ℕ) (index_entry : IndexEntry) (indexes : Indexes) : Type 0 where
   pub room : number ≤ length indexes.delays
-  pub opened : has_path indexes.opens path ≡ standing.is_open
-  pub ready : number_of_path indexes.readies path ≡ ready_number standing number
-  pub anchored : HadAnchor number standing.anchor indexes.followers
+  pub opened : has_path indexes.opens path ≡ index_entry.is_open
+  pub ready : number_of_path indexes.readies path ≡ ready_number index_entry number
+  pub anchored : HadAnchor number index_entry.anchor indexes.followers
 
 -- they say this of it from then on, and of the others what they said
-pub record SayAnew (path : List ℕ) (number : ℕ) (standing : Standing) (before after : Indexes) : Type 0 where
-  pub delays : after.delays ≡ put_at before.delays number standing.delay
-  pub opens : MarksPath path standing.is_open before.opens after.opens
+pub record SayChanged (path : List ℕ) (number : ℕ) (index_entry : IndexEntry) (before after : Indexes) : Type 0 where
+  pub delays : after.delays ≡ put_at before.delays number index_entry.delay
+  pub opens : MarksPath path index_entry.is_open before.opens after.opens
   pub opens_sorted : set.IsOrdered path_cmp after.opens
-  pub readies : NumbersPath path (ready_number standing number) before.readies after.readies
+  pub readies : NumbersPath path (ready_number index_entry number) before.readies after.readies
   pub readies_sorted : map_.IsOrdered path_cmp after.readies
-  pub starts : after.followers.starts ≡ put_at before.followers.starts number (id_at_start standing.anchor)
-  pub ends : after.followers.ends ≡ put_at before.followers.ends number (id_at_end standing.anchor)
+  pub starts : after.followers.starts ≡ put_at before.followers.starts number (id_at_start index_entry.anchor)
+  pub ends : after.followers.ends ≡ put_at before.followers.ends number (id_at_end index_entry.anchor)

@@ -13,10 +13,10 @@ pub mod Passing
 pub mod Phases
 pub mod PlannedTasks
 pub mod RunFrames
-pub mod Standing
+pub mod EngineStates
 pub mod TaskTables
 pub mod TasksByNumber
 pub mod Times
-pub mod Turns
+pub mod Stages
 pub mod Waking
 pub mod Watching

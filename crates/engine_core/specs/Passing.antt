@@ -9,7 +9,7 @@ use Rattle.run_data.specs.Fresh.{SimulationState, moved, to_time, to_end, below,
 use Rattle.run_data.specs.Transitions.{Next, more, finished}
 use Rattle.engine_core.specs.declared.history.History.{History}
 use Rattle.engine_core.specs.declared.simulation.Request.{Request}
-use Rattle.engine_core.specs.Turns.{state_of, StandsAt}
+use Rattle.engine_core.specs.Stages.{state_of, StandsAt}
 use Rattle.engine_core.specs.declared.present.Present.{Present}
 use Rattle.engine_core.specs.declared.simulation.Stage.{Stage}
 
@@ -28,17 +28,17 @@ abbrev pub next_due : Plan → SimulationState → Option ℕ
 next_due plan at = below plan.duration (least_due at.time plan.duration at.cells at.table)
 
 -- where time passes to that time, or to the plan's end
-abbrev pub place_moved : Parts → Plan → ℕ → SimulationState → Next SimulationState Run
-place_moved model plan bound at = moved model plan bound at (next_due plan at)
+abbrev pub point_moved : Parts → Plan → ℕ → SimulationState → Next SimulationState Run
+point_moved model plan bound at = moved model plan bound at (next_due plan at)
 
 -- where time passes to a time below the plan's end
-abbrev pub place_at_time : Parts → Plan → ℕ → SimulationState → ℕ → Next SimulationState Run
-place_at_time model plan bound at time =
+abbrev pub point_at_time : Parts → Plan → ℕ → SimulationState → ℕ → Next SimulationState Run
+point_at_time model plan bound at time =
     let cells = passed at.cells (time - at.time) in to_time model plan bound at time cells (first_out cells)
 
 -- where it passes to the plan's end
-abbrev pub place_at_end : Parts → Plan → ℕ → SimulationState → Next SimulationState Run
-place_at_end model plan bound at = to_end model plan bound at (first_out (passed at.cells (plan.duration - at.time)))
+abbrev pub point_at_end : Parts → Plan → ℕ → SimulationState → Next SimulationState Run
+point_at_end model plan bound at = to_end model plan bound at (first_out (passed at.cells (plan.duration - at.time)))
 
 -- a simulation that goes on does so no earlier than at this time
 abbrev pub GoesOnFrom : ℕ → Next SimulationState Run → Type 0
@@ -48,15 +48,15 @@ GoesOnFrom time (finished run) = Unit {0}
 -- ---- of what is simulated
 
 -- where time passes to the next time of a simulation, to a time, and to the end
-abbrev pub place_of_next : Parts → Request → History → Present → Next SimulationState Run
-place_of_next model request history present = place_moved model request.plan request.bound (state_of history present)
+abbrev pub point_of_next : Parts → Request → History → Present → Next SimulationState Run
+point_of_next model request history present = point_moved model request.plan request.bound (state_of history present)
 
-abbrev pub place_then : Parts → Request → History → Present → ℕ → Next SimulationState Run
-place_then model request history present time = place_at_time model request.plan request.bound (state_of history present) time
+abbrev pub point_then : Parts → Request → History → Present → ℕ → Next SimulationState Run
+point_then model request history present time = point_at_time model request.plan request.bound (state_of history present) time
 
-abbrev pub place_last : Parts → Request → History → Present → Next SimulationState Run
-place_last model request history present = place_at_end model request.plan request.bound (state_of history present)
+abbrev pub point_last : Parts → Request → History → Present → Next SimulationState Run
+point_last model request history present = point_at_end model request.plan request.bound (state_of history present)
 
--- a turn of what is simulated stands there
+-- a transition of what is simulated stands there
 abbrev pub IsStageAt : Request → Next SimulationState Run → Stage → Type 0
-IsStageAt request place stage = StandsAt request.plan request.bound place stage
+IsStageAt request point stage = StandsAt request.plan request.bound point stage

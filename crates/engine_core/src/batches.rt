@@ -13,7 +13,7 @@ ghost use Rattle.engine_core.specs.BatchEnding.{committed_by, IsCommittedWith, H
 ghost use Rattle.engine_core.specs.BatchEnds.{batch_as, batch_frames, AreReadyJobs, SpendsWith, IsFrugalEnd, HasFewLooks};
 ghost use Rattle.engine_core.specs.BatchOrders.{AreByPath, AreMade};
 ghost use Rattle.engine_core.specs.BatchTrees.{HaveFewItems};
-ghost use Rattle.engine_core.specs.Standing.{OfSameModels};
+ghost use Rattle.engine_core.specs.EngineStates.{OfSameModels};
 
 mod children;
 mod faults;
@@ -131,7 +131,7 @@ pub(crate) fn run_batch<S: Stepper, L: Ledger, K: Ledger>(
     ensures opened { RoseAlike (S.opened stepper.old) steps.old (S.opened stepper.new) steps.new }
     ensures same_models { OfSameModels (S.is_of stepper.old) (S.is_of stepper.new) }
     ensures same_records { S.records stepper.new ≡ S.records stepper.old }
-    ensures anchor { S.anchor stepper.new ≡ S.anchor stepper.old }
+    ensures address { S.address stepper.new ≡ S.address stepper.old }
 {
     same_by_generations();
     let made = generations::all_frames(alloc, model, bound, spent, ready, stepper, steps, looks)?;

@@ -5,8 +5,8 @@ ghost use Rattle.run_data.specs.Fresh.{start, IsFresh};
 ghost use Rattle.run_data.specs.Transitions.{more, finished};
 ghost use Rattle.run_data.specs.Waves.{RoseAlike};
 ghost use Rattle.engine_core.specs.BatchEnds.{batch_frames};
-ghost use Rattle.engine_core.specs.Standing.{jobs_in, time_in, batches_in, Stands, LeadsTo, IsNextOf, PaysForBatch, LooksForBatch, OfSameModels};
-ghost use Rattle.engine_core.specs.Turns.{place_in, plan_in, bound_in, IsOnCourse};
+ghost use Rattle.engine_core.specs.EngineStates.{jobs_in, time_in, batches_in, IsEngineState, LeadsTo, IsNextOf, PaysForBatch, LooksForBatch, OfSameModels};
+ghost use Rattle.engine_core.specs.Stages.{point_in, plan_in, bound_in, IsOnCourse};
 
 use crate::ready_jobs::ReadyJobs;
 use crate::simulation::{Simulation, Stage};
@@ -17,11 +17,11 @@ use std::alloc::Global;
 use std::sync::ledger::Ledger;
 
 /// The simulation of a plan, batch by batch, for one model, plan and bound: before a batch that has a job, or at its
-/// outcome. Contracts see the model, the plan, the bound and the place of the simulation, which comes there.
+/// outcome. Contracts see the model, the plan, the bound and the point of the simulation, which comes there.
 #[derive(Drop)]
 pub struct Engine<'a> {
     model: &'a Model,
-    turn: Stage,
+    stage: Stage,
     ready: ReadyJobs,
 }
 
@@ -31,35 +31,39 @@ impl<'a> std::marker::Model for Engine<'a> {
     ghost use Rattle.aerie_base.specs.contracts.expressions.Expr as expr;
     ghost use Rattle.aerie_base.specs.contracts.conditions.Cond as cond;
     ghost use Rattle.aerie_base.specs.contracts.statements.Stmt as stmt;
-    ghost use Rattle.engine_core.specs.Standing.{Standing, HasJob, jobs_in};
-    ghost use Rattle.engine_core.specs.Turns.{place_in, standing_of, IsOnCourse};
+    ghost use Rattle.engine_core.specs.EngineStates.{EngineState, HasJob, jobs_in};
+    ghost use Rattle.engine_core.specs.Stages.{point_in, engine_state_of, IsOnCourse};
 
-    ghost Value = { Standing };
+    ghost Value = { EngineState };
 
     ghost coded = { Prim.hlevel (codes, expr.the_row.coded, cond.the_row.coded, stmt.the_row.coded) };
 
-    ghost view = { λ engine. standing_of engine.model.now engine.turn };
+    ghost view = { λ engine. engine_state_of engine.model.now engine.stage };
 
     ghost invariant = { λ engine.
-        IsOnCourse engine.model.now engine.turn × HasJob (place_in engine.turn) × (engine.ready ≡ jobs_in (place_in engine.turn)) };
+        IsOnCourse engine.model.now engine.stage × HasJob (point_in engine.stage) × (engine.ready ≡ jobs_in (point_in engine.stage)) };
 }
 
-/// From a turn on to the next place that has a job, or to the outcome.
-fn standing<'a>(alloc: Global, model: &'a Model, turn: Stage) -> Result<Engine<'a>, OutOfMemory>
-    requires { IsOnCourse model.now turn }
+/// From a transition on to the next point that has a job, or to the outcome.
+fn engine_from<'a>(alloc: Global, model: &'a Model, stage: Stage) -> Result<Engine<'a>, OutOfMemory>
+    requires { IsOnCourse model.now stage }
     ensures model { IfOk result (λ engine. engine.model ≡ model.now) }
-    ensures plan { IfOk result (λ engine. engine.plan ≡ plan_in turn) }
-    ensures bound { IfOk result (λ engine. engine.bound ≡ bound_in turn) }
-    ensures stands { IfOk result (λ engine. Stands engine) }
-    ensures leads { IfOk result (λ engine. LeadsTo model.now (plan_in turn) (bound_in turn) (place_in turn) engine.place) }
+    ensures plan { IfOk result (λ engine. engine.plan ≡ plan_in stage) }
+    ensures bound { IfOk result (λ engine. engine.bound ≡ bound_in stage) }
+    ensures stands { IfOk result (λ engine. IsEngineState engine) }
+    ensures leads { IfOk result (λ engine. LeadsTo model.now (plan_in stage) (bound_in stage) (point_in stage) engine.point) }
 {
     weight_falls();
-    let mut turn = turn;
-    while turn.is_idle() {
-        turn = turn.on(alloc, model)?;
+    let mut stage = stage;
+    while stage.is_idle() {
+        stage = stage.on(alloc, model)?;
     }
-    let ready = turn.ready(alloc)?;
-    Ok(Engine { model, turn, ready })
+    let ready = stage.ready(alloc)?;
+    Ok(Engine {
+        model,
+        stage,
+        ready,
+    })
 }
 
 impl<'a> Engine<'a> {
@@ -75,18 +79,18 @@ impl<'a> Engine<'a> {
         ensures model { IfOk result (λ engine. engine.model ≡ model.now) }
         ensures plan { IfOk result (λ engine. engine.plan ≡ plan.now) }
         ensures bound { IfOk result (λ engine. engine.bound ≡ bound) }
-        ensures stands { IfOk result (λ engine. Stands engine) }
-        ensures first { IfOk result (λ engine. LeadsTo model.now plan.now bound (more (start model.now plan.now)) engine.place) }
+        ensures stands { IfOk result (λ engine. IsEngineState engine) }
+        ensures first { IfOk result (λ engine. LeadsTo model.now plan.now bound (more (start model.now plan.now)) engine.point) }
     {
         let simulation = Simulation::begin(alloc, model, plan, bound)?;
-        let engine = standing(alloc, model, Stage::On(simulation))?;
+        let engine = engine_from(alloc, model, Stage::On(simulation))?;
         Ok(engine)
     }
 
     /// The ready jobs of the next batch in order of path; none exactly where the outcome is reached. It takes no memory.
     pub fn ready(&self) -> &[Job]
-        ensures jobs { result.now ≡ map (λ job. job.1) (jobs_in self.now.place) }
-        ensures stands { Stands self.now }
+        ensures jobs { result.now ≡ map (λ job. job.1) (jobs_in self.now.point) }
+        ensures stands { IsEngineState self.now }
     {
         self.ready.jobs()
     }
@@ -94,26 +98,26 @@ impl<'a> Engine<'a> {
     /// How many children the task of a ready job, by its index from 0, has made before this batch; 0 for one that begins.
     /// It takes no memory.
     pub fn made(&self, job: usize) -> u32
-        requires { job < length (jobs_in self.now.place) }
-        ensures { slice_get (map (λ job. job.0) (jobs_in self.now.place)) job ≡ Some result }
+        requires { job < length (jobs_in self.now.point) }
+        ensures { slice_get (map (λ job. job.0) (jobs_in self.now.point)) job ≡ Some result }
     {
         self.ready.made(job)
     }
 
     /// The time of the next batch. It takes no memory.
     pub fn time(&self) -> Time
-        requires { jobs_in self.now.place ≡ [] → ⊥ }
-        ensures { result ≡ time_in self.now.place }
+        requires { jobs_in self.now.point ≡ [] → ⊥ }
+        ensures { result ≡ time_in self.now.point }
     {
-        self.turn.time()
+        self.stage.time()
     }
 
     /// The batches already committed at this time. It takes no memory.
     pub fn batches(&self) -> &[List<Frame>]
-        requires { jobs_in self.now.place ≡ [] → ⊥ }
-        ensures { result.now ≡ batches_in self.now.place }
+        requires { jobs_in self.now.point ≡ [] → ⊥ }
+        ensures { result.now ≡ batches_in self.now.point }
     {
-        self.turn.batches()
+        self.stage.batches()
     }
 
     /// The next batch, whose frames the stepper gives by waves, and on to the next batch that has a job, or to the outcome.
@@ -125,13 +129,13 @@ impl<'a> Engine<'a> {
         steps: &mut Steps<L>,
         looks: &mut Steps<K>,
     ) -> Result<Engine<'a>, OutOfMemory>
-        requires job { jobs_in self.place ≡ [] → ⊥ }
+        requires job { jobs_in self.point ≡ [] → ⊥ }
         requires shares { S.shares }
         requires stepper { S.is_of stepper.old self.model }
         ensures model { IfOk result (λ engine. engine.model ≡ self.entry.model) }
         ensures plan { IfOk result (λ engine. engine.plan ≡ self.entry.plan) }
         ensures bound { IfOk result (λ engine. engine.bound ≡ self.entry.bound) }
-        ensures stands { IfOk result (λ engine. Stands engine) }
+        ensures stands { IfOk result (λ engine. IsEngineState engine) }
         ensures next { IfOk result (IsNextOf self.entry) }
         ensures frugal { IfOk result (λ engine. PaysForBatch self.entry (S.records stepper.old) steps.old steps.new) }
         ensures looks { looks.old ≤ looks.new }
@@ -139,37 +143,45 @@ impl<'a> Engine<'a> {
         ensures opened { RoseAlike (S.opened stepper.old) steps.old (S.opened stepper.new) steps.new }
         ensures same_models { OfSameModels (S.is_of stepper.old) (S.is_of stepper.new) }
         ensures same_records { S.records stepper.new ≡ S.records stepper.old }
-        ensures anchor { S.anchor stepper.new ≡ S.anchor stepper.old }
+        ensures address { S.address stepper.new ≡ S.address stepper.old }
     {
-        let Engine { model, turn, ready } = self;
-        let turn = turn.batch(alloc, model, &ready, stepper, steps, looks)?;
-        let engine = standing(alloc, model, turn)?;
+        let Engine {
+            model,
+            stage,
+            ready,
+        } = self;
+        let stage = stage.batch(alloc, model, &ready, stepper, steps, looks)?;
+        let engine = engine_from(alloc, model, stage)?;
         Ok(engine)
     }
 
     /// The next batch, whose frames the caller has in order of path, and on to the next batch that has a job, or to the
     /// outcome. After want of memory the engine is dropped.
     pub fn take_over(self, alloc: Global, frames: &[Frame]) -> Result<Engine<'a>, OutOfMemory>
-        requires job { jobs_in self.place ≡ [] → ⊥ }
-        requires frames { batch_frames self.model self.bound (jobs_in self.place) ≡ Some frames.now }
+        requires job { jobs_in self.point ≡ [] → ⊥ }
+        requires frames { batch_frames self.model self.bound (jobs_in self.point) ≡ Some frames.now }
         ensures model { IfOk result (λ engine. engine.model ≡ self.entry.model) }
         ensures plan { IfOk result (λ engine. engine.plan ≡ self.entry.plan) }
         ensures bound { IfOk result (λ engine. engine.bound ≡ self.entry.bound) }
-        ensures stands { IfOk result (λ engine. Stands engine) }
+        ensures stands { IfOk result (λ engine. IsEngineState engine) }
         ensures next { IfOk result (IsNextOf self.entry) }
     {
-        let Engine { model, turn, ready } = self;
-        let turn = turn.batch_of(alloc, model, &ready, frames)?;
-        let engine = standing(alloc, model, turn)?;
+        let Engine {
+            model,
+            stage,
+            ready,
+        } = self;
+        let stage = stage.batch_of(alloc, model, &ready, frames)?;
+        let engine = engine_from(alloc, model, stage)?;
         Ok(engine)
     }
 
     /// The fresh run of the plan. It takes no memory.
     pub fn finish(self) -> Run
-        requires { jobs_in self.place ≡ [] }
+        requires { jobs_in self.point ≡ [] }
         ensures fresh { IsFresh self.entry.model self.entry.plan self.entry.bound result }
-        ensures place { self.entry.place ≡ finished result }
+        ensures point { self.entry.point ≡ finished result }
     {
-        self.turn.into_run()
+        self.stage.into_run()
     }
 }

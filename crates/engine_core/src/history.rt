@@ -2,7 +2,8 @@
 
 ghost use Rattle.std.specs.Prelude.{◌≡◌, ◌≤◌, ◌<◌, ◌++◌, ◌∷◌, [], true, false, length, replicate, slice_get, slice_set, Some, IfOk, OnOk};
 ghost use Rattle.run_data.specs.Fresh.{states_from};
-ghost use Rattle.engine_core.specs.Flags.{flagged_by_numbers, flagged_states, KeepsState};
+ghost use Rattle.run_data.specs.Frames.{read_from};
+ghost use Rattle.engine_core.specs.Flags.{flagged_by_numbers, KeepsState};
 
 use crate::flags::{is_set, no_flags};
 use aerie_base::{List, OutOfMemory, Time};
@@ -72,7 +73,7 @@ fn flagged_states(
 ) -> Result<List<(u16, CellState)>, OutOfMemory>
     requires count { length flags.now ≡ length cells.now }
     requires few { length flags.now ≤ 256 }
-    ensures { IfOk result (λ states. states ≡ flagged_states 0 flags.now cells.now) }
+    ensures { IfOk result (λ states. states ≡ read_from 0 flags.now cells.now) }
 {
     let mut states = List::new(alloc);
     for at in 0..flags.len() {

@@ -5,7 +5,7 @@ ghost use Rattle.aerie_base.specs.Paths.{path_cmp};
 ghost use Rattle.run_data.specs.Endings.{is_open};
 ghost use Rattle.run_data.specs.laws.ReadyTasks.{number_of_path};
 ghost use Rattle.engine_core.specs.TasksByNumber.{has_path};
-ghost use Rattle.engine_core.specs.Indexes.{standing_in, MarksPath, NumbersPath, SayOf, SayAnew};
+ghost use Rattle.engine_core.specs.Indexes.{index_entry_in, MarksPath, NumbersPath, SayOf, SayChanged};
 
 use crate::followers::Followers;
 use crate::phases::TrackedTask;
@@ -16,7 +16,7 @@ use std::collections::{BTreeMap, BTreeSet};
 
 /// What the indexes say of a task.
 #[derive(Clone, Copy, Drop)]
-pub(crate) struct Standing {
+pub(crate) struct IndexEntry {
     delay: Option<u64>,
     is_open: bool,
     is_ready: bool,
@@ -51,7 +51,7 @@ fn mark(
 }
 
 /// The same of a path of which it is known whether it stands in the set: where that stays, nothing is done.
-fn mark_anew(
+fn mark_if_changed(
     alloc: Global,
     paths: &mut BTreeSet<Path>,
     path: &Path,
@@ -89,7 +89,7 @@ fn number_path(
 }
 
 /// The same of a path of which it is known whether it has this number or none: where that stays, nothing is done.
-fn number_path_anew(
+fn number_path_if_changed(
     alloc: Global,
     numbers: &mut BTreeMap<Path, usize>,
     path: &Path,
@@ -108,12 +108,12 @@ fn number_path_anew(
     number_path(alloc, numbers, path, number, stands)
 }
 
-impl Standing {
+impl IndexEntry {
     /// What they say of none.
-    pub(crate) fn none() -> Standing
+    pub(crate) fn none() -> IndexEntry
         ensures { result ≡ record { delay = None; is_open = false; is_ready = false; anchor = None } }
     {
-        Standing {
+        IndexEntry {
             delay: None,
             is_open: false,
             is_ready: false,
@@ -122,10 +122,10 @@ impl Standing {
     }
 
     /// What they say of this one.
-    pub(crate) fn of(task: &TrackedTask) -> Standing
-        ensures { result ≡ standing_in task.now.phase }
+    pub(crate) fn of(task: &TrackedTask) -> IndexEntry
+        ensures { result ≡ index_entry_in task.now.phase }
     {
-        Standing {
+        IndexEntry {
             delay: task.delay(),
             is_open: task.is_open(),
             is_ready: task.is_ready(),
@@ -159,23 +159,29 @@ impl Indexes {
         alloc: Global,
         path: &Path,
         number: usize,
-        was: Standing,
-        standing: Standing,
+        was: IndexEntry,
+        index_entry: IndexEntry,
     ) -> Result<(), OutOfMemory>
         requires { SayOf path.now number was self.old }
-        ensures { OnOk result (SayAnew path.now number standing self.old self.new) }
+        ensures { OnOk result (SayChanged path.now number index_entry self.old self.new) }
     {
-        self.delays.put(number, standing.delay)?;
-        mark_anew(alloc, &mut self.opens, path, was.is_open, standing.is_open)?;
-        number_path_anew(
+        self.delays.put(number, index_entry.delay)?;
+        mark_if_changed(
+            alloc,
+            &mut self.opens,
+            path,
+            was.is_open,
+            index_entry.is_open,
+        )?;
+        number_path_if_changed(
             alloc,
             &mut self.readies,
             path,
             number,
             was.is_ready,
-            standing.is_ready,
+            index_entry.is_ready,
         )?;
-        self.followers.put(number, was.anchor, standing.anchor)?;
+        self.followers.put(number, was.anchor, index_entry.anchor)?;
         Ok(())
     }
 }

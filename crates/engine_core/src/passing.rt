@@ -5,10 +5,10 @@ ghost use Rattle.aerie_base.specs.declared.faults.Fault.TheVariants as fault;
 ghost use Rattle.effect_cells.specs.Cells.{AreInRange};
 ghost use Rattle.run_data.specs.declared.runs.Outcome.TheVariants as outcome;
 ghost use Rattle.run_data.specs.declared.runs.Who.TheVariants as who;
-ghost use Rattle.engine_core.specs.Passing.{run_with, next_due, GoesOnFrom, place_of_next, place_then, place_last, IsStageAt};
+ghost use Rattle.engine_core.specs.Passing.{run_with, next_due, GoesOnFrom, point_of_next, point_then, point_last, IsStageAt};
 ghost use Rattle.engine_core.specs.TasksByNumber.{AreFound};
-ghost use Rattle.engine_core.specs.Turns.{state_of};
-ghost use Rattle.engine_core.specs.declared.simulation.Stage.TheVariants as turn_;
+ghost use Rattle.engine_core.specs.Stages.{state_of};
+ghost use Rattle.engine_core.specs.declared.simulation.Stage.TheVariants as stage_;
 
 use crate::history::History;
 use crate::present::Present;
@@ -18,13 +18,6 @@ use aerie_base::{Fault, Model, OutOfMemory, Time};
 use run_data::laws::{due_splits, tasks_stand_by_number};
 use run_data::{Outcome, Run, Who};
 use std::alloc::Global;
-
-/// So much time from one to a later one; none, if it is not later.
-fn between(from: Time, to: Time) -> Time
-    ensures { result ≡ to - from }
-{
-    Time::new((to.get() - from.get()).max(0)).unwrap()
-}
 
 /// The run, which reached a time and ended so.
 pub(crate) fn run_with(request: Request, history: History, reach: Time, outcome: Outcome) -> Run
@@ -41,7 +34,7 @@ pub(crate) fn run_with(request: Request, history: History, reach: Time, outcome:
 
 /// The run in which a cell would leave its range as time passes to a time.
 fn cell_out(request: Request, history: History, reach: Time, time: Time, cell: u16) -> Stage
-    ensures { result ≡ turn_.Over (run_with request history reach (outcome.Failed time (who.Cell cell) fault.Range)) }
+    ensures { result ≡ stage_.Over (run_with request history reach (outcome.Failed time (who.Cell cell) fault.Range)) }
 {
     let outcome = Outcome::Failed {
         time,
@@ -64,8 +57,8 @@ fn moved_to(
     requires range { AreInRange present.cells }
     requires found { AreFound present.time request.plan.duration present.cells present.tasks }
     requires next { Some time ≡ next_due request.plan (state_of history present) }
-    requires onward { GoesOnFrom present.time (place_then model.now request history present time) }
-    ensures { IfOk result (IsStageAt request (place_then model.now request history present time)) }
+    requires onward { GoesOnFrom present.time (point_then model.now request history present time) }
+    ensures { IfOk result (IsStageAt request (point_then model.now request history present time)) }
 {
     due_splits();
     tasks_stand_by_number();
@@ -75,7 +68,7 @@ fn moved_to(
     let history = history.settled(alloc, present.time, &present.cells, count)?;
     let reach = present.time;
     let mut present = present;
-    match present.cells.passed(between(reach, time)) {
+    match present.cells.passed(reach.until(time)) {
         Ok(()) => {
             let present = present.rested(alloc, time)?;
             Ok(Stage::On(Simulation {
@@ -98,14 +91,14 @@ fn ended(
 ) -> Result<Stage, OutOfMemory>
     requires count { length model.now.cells ≡ length present.cells }
     requires range { AreInRange present.cells }
-    ensures { IfOk result (IsStageAt request (place_last model.now request history present)) }
+    ensures { IfOk result (IsStageAt request (point_last model.now request history present)) }
 {
     let count = model.cells().len();
     let history = history.settled(alloc, present.time, &present.cells, count)?;
     let reach = present.time;
     let end = request.end();
     let mut present = present;
-    match present.cells.passed(between(reach, end)) {
+    match present.cells.passed(reach.until(end)) {
         Ok(()) => Ok(Stage::Over(run_with(request, history, end, Outcome::Completed))),
         Err(out) => Ok(cell_out(request, history, reach, end, out.cell)),
     }
@@ -122,8 +115,8 @@ pub(crate) fn moved(
     requires count { length model.now.cells ≡ length present.cells }
     requires range { AreInRange present.cells }
     requires found { AreFound present.time request.plan.duration present.cells present.tasks }
-    requires onward { GoesOnFrom present.time (place_of_next model.now request history present) }
-    ensures { IfOk result (IsStageAt request (place_of_next model.now request history present)) }
+    requires onward { GoesOnFrom present.time (point_of_next model.now request history present) }
+    ensures { IfOk result (IsStageAt request (point_of_next model.now request history present)) }
 {
     let end = request.end();
     match present.next_time(end) {

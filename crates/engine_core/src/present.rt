@@ -13,7 +13,7 @@ ghost use Rattle.run_data.specs.laws.NextTimes.{least_delay};
 ghost use Rattle.engine_core.specs.TasksByNumber.{AgreeBut, AreKept, AreFound, MadeIsSmall, KeepsWakes};
 ghost use Rattle.engine_core.specs.Times.{IsUpToTime};
 ghost use Rattle.engine_core.specs.Waking.{AreSolvable};
-ghost use Rattle.engine_core.specs.Turns.{table_in};
+ghost use Rattle.engine_core.specs.Stages.{table_in};
 
 use crate::phases::micros;
 use crate::tasks::IndexedTasks;

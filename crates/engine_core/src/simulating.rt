@@ -4,7 +4,7 @@ ghost use Rattle.aerie_base.specs.plans.OfModel.{IsPlanOf};
 ghost use Rattle.run_data.specs.Fresh.{IsFresh};
 ghost use Rattle.run_data.specs.Waves.{RoseAlike};
 ghost use Rattle.engine_core.specs.RunFrames.{PaysForRun, LooksForRun};
-ghost use Rattle.engine_core.specs.Standing.{OfSameModels};
+ghost use Rattle.engine_core.specs.EngineStates.{OfSameModels};
 
 use crate::engine::Engine;
 use aerie_base::{Model, OutOfMemory, Plan, Steps};
@@ -36,7 +36,7 @@ pub fn simulate<S: Stepper, L: Ledger, K: Ledger>(
     ensures opened { RoseAlike (S.opened stepper.old) steps.old (S.opened stepper.new) steps.new }
     ensures same_models { OfSameModels (S.is_of stepper.old) (S.is_of stepper.new) }
     ensures same_records { S.records stepper.new ≡ S.records stepper.old }
-    ensures anchor { S.anchor stepper.new ≡ S.anchor stepper.old }
+    ensures address { S.address stepper.new ≡ S.address stepper.old }
 {
     weight_falls();
     let mut engine = Engine::begin(alloc, model, plan, bound)?;

@@ -1,4 +1,4 @@
-//! A simulation, a turn at a time.
+//! A simulation, a transition at a time.
 
 ghost use Rattle.std.specs.Prelude.{◌≡◌, ◌≤◌, [], List, Some, IfOk};
 ghost use Rattle.aerie_base.specs.declared.models.model.Parts.{Parts};
@@ -8,10 +8,10 @@ ghost use Rattle.run_data.specs.Waves.{RoseAlike};
 ghost use Rattle.run_data.specs.laws.GoingOn.{AllQuiet};
 ghost use Rattle.run_data.specs.laws.NumberedTasks.{sorted_tasks};
 ghost use Rattle.engine_core.specs.BatchEnds.{batch_as, batch_frames, SpendsWith};
-ghost use Rattle.engine_core.specs.Standing.{OfSameModels};
+ghost use Rattle.engine_core.specs.EngineStates.{OfSameModels};
 ghost use Rattle.engine_core.specs.TasksByNumber.{AreKept};
-ghost use Rattle.engine_core.specs.Turns.{state_of, place_in, plan_in, bound_in, are_none, AreKeptBefore, AreKeptIn, IsOnCourse, IsTurnFrom, TouchesAll, MakesFew, jobs_at, PaysFrom, LooksFrom};
-ghost use Rattle.engine_core.specs.declared.simulation.Stage.TheVariants as turn_;
+ghost use Rattle.engine_core.specs.Stages.{state_of, point_in, plan_in, bound_in, are_none, AreKeptBefore, AreKeptIn, IsOnCourse, IsTransitionFrom, TouchesAll, MakesFew, jobs_at, PaysFrom, LooksFrom};
+ghost use Rattle.engine_core.specs.declared.simulation.Stage.TheVariants as stage_;
 
 use crate::batch_ends::BatchEnd;
 use crate::batches::{run_batch, take_batch};
@@ -54,20 +54,13 @@ pub(crate) struct Simulation {
     pub(crate) present: Present,
 }
 
-/// What a turn gives: where the simulation stands then, or the run.
+/// What a transition gives: where the simulation stands then, or the run.
 #[derive(Drop)]
 pub(crate) enum Stage {
     /// It stands there.
     On(Simulation),
     /// It has ended.
     Over(Run),
-}
-
-/// The time at which a plan starts.
-fn first_time() -> Time
-    ensures { result ≡ 0 }
-{
-    Time::new(0).unwrap()
 }
 
 /// The simulation after a batch that ended so. Its effects are on the cells.
@@ -81,12 +74,12 @@ fn after_end(
     requires made { MakesFew end present }
     requires quiet { AllQuiet (sorted_tasks present.tasks.tasks) (sorted_tasks present.tasks.tasks) }
     requires spends { SpendsWith present.spent end }
-    ensures place { IfOk result (λ turn. (model : Parts) →
-        place_in turn ≡ after_outcome model request.plan request.bound (state_of history present) (batch_as end present.cells)) }
-    ensures plan { IfOk result (λ turn. plan_in turn ≡ request.plan) }
-    ensures bound { IfOk result (λ turn. bound_in turn ≡ request.bound) }
-    ensures kept { IfOk result (λ turn. (before : List CellState) →
-        AreKept present.time request.plan.duration before present.tasks → TouchesAll end before present.cells → AreKeptIn turn) }
+    ensures point { IfOk result (λ stage. (model : Parts) →
+        point_in stage ≡ after_outcome model request.plan request.bound (state_of history present) (batch_as end present.cells)) }
+    ensures plan { IfOk result (λ stage. plan_in stage ≡ request.plan) }
+    ensures bound { IfOk result (λ stage. bound_in stage ≡ request.bound) }
+    ensures kept { IfOk result (λ stage. (before : List CellState) →
+        AreKept present.time request.plan.duration before present.tasks → TouchesAll end before present.cells → AreKeptIn stage) }
 {
     let time = present.time;
     match end {
@@ -127,7 +120,7 @@ impl Simulation {
         ensures bound { IfOk result (λ simulation. simulation.request.bound ≡ bound) }
         ensures kept { IfOk result (λ simulation. AreKeptBefore plan.now.duration simulation.present) }
     {
-        let time = first_time();
+        let time = Time::zero();
         let cells = Cells::initial(alloc, model)?;
         let tasks = planned_tasks(alloc, model, plan, time)?;
         let plan = plan.copy(alloc)?;
@@ -168,19 +161,19 @@ impl Simulation {
         steps: &mut Steps<L>,
         looks: &mut Steps<K>,
     ) -> Result<Stage, OutOfMemory>
-        requires course { IsOnCourse model.now (turn_.On self) }
+        requires course { IsOnCourse model.now (stage_.On self) }
         requires ready { ready.now ≡ jobs_at self.present }
         requires job { ready.now ≡ [] → ⊥ }
         requires shares { S.shares }
         requires stepper { S.is_of stepper.old model.now }
-        ensures turn { IfOk result (IsTurnFrom model.now (turn_.On self)) }
-        ensures frugal { IfOk result (λ turn. PaysFrom model.now (turn_.On self) (S.records stepper.old) steps.old steps.new) }
+        ensures stage { IfOk result (IsTransitionFrom model.now (stage_.On self)) }
+        ensures frugal { IfOk result (λ stage. PaysFrom model.now (stage_.On self) (S.records stepper.old) steps.old steps.new) }
         ensures looks { looks.old ≤ looks.new }
-        ensures few_looks { IfOk result (λ turn. LooksFrom model.now (turn_.On self) looks.old looks.new) }
+        ensures few_looks { IfOk result (λ stage. LooksFrom model.now (stage_.On self) looks.old looks.new) }
         ensures opened { RoseAlike (S.opened stepper.old) steps.old (S.opened stepper.new) steps.new }
         ensures same_models { OfSameModels (S.is_of stepper.old) (S.is_of stepper.new) }
         ensures same_records { S.records stepper.new ≡ S.records stepper.old }
-        ensures anchor { S.anchor stepper.new ≡ S.anchor stepper.old }
+        ensures address { S.address stepper.new ≡ S.address stepper.old }
     {
         reached_states_are_of_the_model();
         reached_states_are_quiet();
@@ -202,8 +195,8 @@ impl Simulation {
             steps,
             looks,
         )?;
-        let turn = after_end(alloc, request, history, present, end)?;
-        Ok(turn)
+        let stage = after_end(alloc, request, history, present, end)?;
+        Ok(stage)
     }
 
     /// The batch of the ready jobs, whose frames the caller has, in order of path.
@@ -214,11 +207,11 @@ impl Simulation {
         ready: &ReadyJobs,
         frames: &[Frame],
     ) -> Result<Stage, OutOfMemory>
-        requires course { IsOnCourse model.now (turn_.On self) }
+        requires course { IsOnCourse model.now (stage_.On self) }
         requires ready { ready.now ≡ jobs_at self.present }
         requires job { ready.now ≡ [] → ⊥ }
         requires frames { batch_frames model.now self.request.bound ready.now ≡ Some frames.now }
-        ensures { IfOk result (IsTurnFrom model.now (turn_.On self)) }
+        ensures { IfOk result (IsTransitionFrom model.now (stage_.On self)) }
     {
         reached_states_are_of_the_model();
         reached_states_are_quiet();
@@ -238,15 +231,15 @@ impl Simulation {
             ready,
             frames,
         )?;
-        let turn = after_end(alloc, request, history, present, end)?;
-        Ok(turn)
+        let stage = after_end(alloc, request, history, present, end)?;
+        Ok(stage)
     }
 
     /// Where no task is ready: the waiting ones are judged, and where none goes on the instant is settled and time passes.
     pub(crate) fn on(self, alloc: Global, model: &Model) -> Result<Stage, OutOfMemory>
-        requires course { IsOnCourse model.now (turn_.On self) }
+        requires course { IsOnCourse model.now (stage_.On self) }
         requires idle { jobs_at self.present ≡ [] }
-        ensures { IfOk result (IsTurnFrom model.now (turn_.On self)) }
+        ensures { IfOk result (IsTransitionFrom model.now (stage_.On self)) }
     {
         reached_states_are_of_the_model();
         waits_go_by_the_cells();
@@ -268,7 +261,7 @@ impl Simulation {
                 present,
             }));
         }
-        let turn = moved(alloc, model, request, history, present)?;
-        Ok(turn)
+        let stage = moved(alloc, model, request, history, present)?;
+        Ok(stage)
     }
 }

@@ -8,7 +8,7 @@ ghost use Rattle.run_data.specs.Endings.{has_ended};
 ghost use Rattle.run_data.specs.Tasks.{Task, task_at, ready_jobs, children_made, children_in, after_frame, after_frames, on_each, rested};
 ghost use Rattle.run_data.specs.laws.NextTimes.{least_delay};
 ghost use Rattle.run_data.specs.laws.ReadyTasks.{job_of};
-ghost use Rattle.engine_core.specs.Indexes.{standing_in};
+ghost use Rattle.engine_core.specs.Indexes.{index_entry_in};
 ghost use Rattle.engine_core.specs.Phases.{may_resume, is_waiting};
 ghost use Rattle.engine_core.specs.Times.{IsUpToTime, least_time, put_at, HasNone};
 ghost use Rattle.run_data.specs.laws.NumberedTasks.{sorted_tasks, Distinct};
@@ -16,7 +16,7 @@ ghost use Rattle.engine_core.specs.TasksByNumber.{put_task, number_for, delays_o
 ghost use Rattle.engine_core.specs.TaskTables.{tracked_in, AreInStep};
 ghost use Rattle.engine_core.specs.Watching.{Drains, Watches, HasOthers, LosesOne};
 
-use crate::indexes::{Indexes, Standing};
+use crate::indexes::{IndexEntry, Indexes};
 use crate::phases::{TrackedTask, count_children, micros};
 use crate::ready_jobs::ReadyJobs;
 use crate::waits::Waits;
@@ -68,15 +68,15 @@ pub(crate) struct Changed {
 }
 
 /// Puts a task in the place of that of a number, and tells what the indexes say of the one that stood there.
-fn exchange(tasks: &mut IndexMap<Path, TrackedTask>, number: usize, task: TrackedTask) -> Standing
+fn exchange(tasks: &mut IndexMap<Path, TrackedTask>, number: usize, task: TrackedTask) -> IndexEntry
     requires { number < length tasks.old.entries }
-    ensures stood { option_map (λ entry. standing_in entry.1.phase) (slice_get tasks.old.entries number) ≡ Some result }
+    ensures stood { option_map (λ entry. index_entry_in entry.1.phase) (slice_get tasks.old.entries number) ≡ Some result }
     ensures is { tasks.new.entries ≡ set_value_at tasks.old.entries number task }
 {
     match tasks.get_index_mut(number) {
-        Some(place) => {
-            let stood = Standing::of(place);
-            *place = task;
+        Some(there) => {
+            let stood = IndexEntry::of(there);
+            *there = task;
             stood
         }
         None => unreachable!(),
@@ -109,12 +109,12 @@ fn replace_task(
     ensures after { OnOk result (AreInStep tables.new) }
     ensures kept { OnOk result (KeepsWakes (tracked_in tables.old) (tracked_in tables.new)) }
 {
-    let standing = Standing::of(&task);
+    let index_entry = IndexEntry::of(&task);
     let waiting = task.is_waiting();
     let stood = exchange(&mut tables.tasks, number, task);
     tables.waits.put(number, waiting)?;
     let path = path_of(&tables.tasks, number);
-    tables.indexes.put(alloc, path, number, stood, standing)?;
+    tables.indexes.put(alloc, path, number, stood, index_entry)?;
     Ok(())
 }
 
@@ -134,12 +134,12 @@ fn add_task(
     ensures after { OnOk result (AreInStep tables.new) }
     ensures kept { OnOk result (KeepsWakes (tracked_in tables.old) (tracked_in tables.new)) }
 {
-    let standing = Standing::of(&task);
+    let index_entry = IndexEntry::of(&task);
     let waiting = task.is_waiting();
     let number = tables.tasks.len();
     tables.waits.put(number, waiting)?;
-    let none = Standing::none();
-    tables.indexes.put(alloc, &path, number, none, standing)?;
+    let none = IndexEntry::none();
+    tables.indexes.put(alloc, &path, number, none, index_entry)?;
     tables.tasks.insert(path, task)?;
     Ok(())
 }

@@ -23,14 +23,6 @@ pub(crate) fn wakes_pass()
     kept_wake_times_stay();
 }
 
-/// So much time from one to a later one.
-fn between(from: Time, to: Time) -> Time
-    requires { from ≤ to }
-    ensures { result ≡ to - from }
-{
-    Time::new(to.get() - from.get()).unwrap()
-}
-
 impl IndexedTasks {
     /// The wake times of those that wait for the touched cells are to be found anew.
     pub(crate) fn touch(self, alloc: Global, touched: &[u16]) -> Result<IndexedTasks, OutOfMemory>
@@ -51,7 +43,7 @@ impl IndexedTasks {
     {
         let (_path, task) = self.entry(number)?;
         let condition = task.condition()?;
-        let limit = between(now, horizon);
+        let limit = now.until(horizon);
         let dt = earliest(condition, cells, limit)?;
         Some(micros(now) + micros(dt))
     }

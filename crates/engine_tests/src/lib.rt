@@ -3,8 +3,6 @@
 #![tactic(auto)]
 
 #[cfg(test)]
-mod models;
-#[cfg(test)]
 mod plans;
 #[cfg(test)]
 mod runs;

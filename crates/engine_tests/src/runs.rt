@@ -3,8 +3,7 @@
 ghost use Rattle.std.specs.Prelude.{◌≡◌, ◌<◌};
 ghost use Rattle.aerie_base.specs.plans.OfModel.{IsPlanOf};
 
-use crate::models::model;
-use crate::plans::{Planned, Type, bare, bump_after, plan, with};
+use crate::plans::{bare, bump, bump_after, put};
 use crate::telling;
 use aerie_base::{Edge, Model, OutOfMemory, Plan, Steps};
 use body_code::compile_all;
@@ -15,6 +14,21 @@ use std::marker::Brand;
 use std::process::Abort;
 use std::sync::ledger::{Blank, Ledger};
 use task_step::Direct;
+use test_worlds::{Outline, Planned, model_in, plan_of};
+
+/// Each activity type shows a rule of simulation.
+const TRIED: &str = "\
+model tried {
+  counter n = 0;
+  register r: int = 0;
+  counter seen = 0;
+  activity Bump(by: int) { n += by; delay 10us; n += by; }
+  activity Put(value: int) { r := value; }
+  activity Seen() { let x = r; seen += x; r := 2; }
+  activity Parent() { r := 1; spawn Seen(); }
+  activity Pass() { wait until n >= 0; n += 1; }
+}
+";
 
 /// The run of a plan over the plain stepper, of which a copy is answered.
 fn simulated<L: Ledger, K: Ledger>(
@@ -54,8 +68,13 @@ fn told<L: Ledger, K: Ledger>(
     requires steps { (steps.name ≡ L.name) × (steps.parts ≡ L.parts) × (0 < L.parts) }
     requires looks { (looks.name ≡ K.name) × (looks.parts ≡ K.parts) × (0 < K.parts) }
 {
-    let model = model(alloc)?.copy(alloc).ok()?;
-    let plan = plan(alloc, &model, 100, planned)?;
+    let outline = Outline {
+        duration: 100,
+        first_id: 1,
+        planned,
+    };
+    let model = model_in(alloc, TRIED)?.copy(alloc).ok()?;
+    let plan = plan_of(alloc, &model, &outline)?;
     let run = simulated::<L, K>(steps, looks, alloc, &model, &plan).ok()?;
     telling::instants(alloc, &run).ok()
 }
@@ -71,29 +90,19 @@ fn gives<R: Abort>(rt: &R, alloc: Global, planned: &[Planned], expected: &str) {
 fn instants_have_batches_and_what_changed(rt: HostRuntime) {
     let alloc = rt.alloc();
     // an activity adds as it begins and behind its delay
-    gives(
-        &rt,
-        alloc,
-        &[with(5, Type::Bump, 3)],
-        "0/0 5/1,0=3 15/1,0=6",
-    );
+    gives(&rt, alloc, &[bump(5, 3)], "0/0 5/1,0=3 15/1,0=6");
     // equal values that are set at once are in conflict
-    gives(
-        &rt,
-        alloc,
-        &[with(5, Type::Put, 7), with(5, Type::Put, 7)],
-        "0/0 5/1,1=0!",
-    );
+    gives(&rt, alloc, &[put(5, 7), put(5, 7)], "0/0 5/1,1=0!");
     // a child sets what was set before it
-    gives(&rt, alloc, &[bare(5, Type::MildParent)], "0/0 5/1,1=2,2=1");
+    gives(&rt, alloc, &[bare(5, "Parent")], "0/0 5/1,1=2,2=1");
     // a condition that holds lets its task go on in the next batch
-    gives(&rt, alloc, &[bare(0, Type::Pass)], "0/2,0=1");
+    gives(&rt, alloc, &[bare(0, "Pass")], "0/2,0=1");
     // in the next batch after the start of one, and never where one does not end
     gives(
         &rt,
         alloc,
         &[
-            with(95, Type::Bump, 3),
+            bump(95, 3),
             bump_after(1, Edge::End, 0, 1),
             bump_after(1, Edge::Start, 0, 2),
         ],

@@ -1,36 +1,17 @@
 -- Digits of a text of fixed form, and the number that they write.
-use Rattle.std.proofs.Common.{◌≡◌, ℕ, zero, suc, ◌+◌, ◌-◌, ◌*◌, ◌^◌, ◌<◌, ◌≤◌, List, [], ◌∷◌, ◌++◌, length, take, drop, get_or, Bool, true, false, nat_eq, Option, None, Some, codes, refl, ◌∙◌, ap, arith, length-drop, length-take}
+use Rattle.std.proofs.Common.{◌≡◌, ℕ, zero, suc, ◌+◌, ◌-◌, ◌^◌, ◌<◌, ◌≤◌, List, [], ◌∷◌, ◌++◌, length, take, drop, Bool, true, false, nat_eq, Option, None, Some, codes, refl, ◌∙◌, ap, arith, length-drop, length-take}
 use Rattle.std.specs.Char.{is_ascii_digit, digit_value}
 use Rattle.std.specs.List.{list_all}
 use Rattle.std.specs.Str.Parse.{digits_value, AllDigits}
 use Rattle.std.proofs.lemmas.Bool.Decides.{nat_tests}
-use Rattle.std.proofs.lemmas.List.Folds.{list_all_at, list_all-append}
-use Rattle.std.proofs.lemmas.Int.Digits.{digits_value_more, digits_value-lt}
+use Rattle.std.proofs.lemmas.List.Folds.{list_all-append}
+use Rattle.std.proofs.lemmas.Int.Digits.{digits_value-lt}
 use Rattle.std.proofs.lemmas.Str.Parse.{digits_value-take-le}
 use Rattle.epoch_text.specs.Clocks.{are_fraction_digits, fraction_of, micros_of, seconds_of, without_zone}
 use Rattle.epoch_text.specs.Forms.{has_signs, has_form, sign_of}
 
--- the value of one digit
-digit_value_is : (byte : ℕ) → is_ascii_digit byte ≡ true → digit_value byte ≡ byte - 48
-digit_value_is byte e = grind (arith, nat_tests)
-
 digit_value_small : (byte : ℕ) → is_ascii_digit byte ≡ true → digit_value byte < 10
 digit_value_small byte e = grind (arith, nat_tests)
-
--- each of the digits is one
-digit_at : (digits : List ℕ) (i : ℕ) → list_all is_ascii_digit digits ≡ true → i < length digits → is_ascii_digit (get_or digits i 0) ≡ true
-digit_at digits i all within = go (is_ascii_digit (get_or digits i 0)) refl
-  where
-    go : (v : Bool) → is_ascii_digit (get_or digits i 0) ≡ v → is_ascii_digit (get_or digits i 0) ≡ true
-    go true e = e
-    go false e = let none : list_all is_ascii_digit digits ≡ false = list_all_at is_ascii_digit digits i 0 within e in cc
-
--- one more digit is ten times the number and that digit
-pub value_more : (digits : List ℕ) (i : ℕ) → list_all is_ascii_digit digits ≡ true → i < length digits →
-    digits_value 10 (take (i + 1) digits) ≡ digits_value 10 (take i digits) * 10 + (get_or digits i 0 - 48)
-value_more digits i all within =
-    digits_value_more 10 digits i within
-    ∙ ap (λ n. digits_value 10 (take i digits) * 10 + n) (digit_value_is (get_or digits i 0) (digit_at digits i all within))
 
 all_digits : (digits : List ℕ) → list_all is_ascii_digit digits ≡ true → AllDigits 10 digits
 all_digits [] e = tt

@@ -15,7 +15,7 @@ use Rattle.jiff_core.proofs.CalendarLemmas.{days_from_civil-day_count, day_count
 use Rattle.epoch_text.proofs.Years.{far_day, first_day, last_day, next_year}
 use Rattle.epoch_text.proofs.Texts.{not_negative}
 use Rattle.epoch_text.specs.Clocks.{fraction_of, micros_of, seconds_at, seconds_of, without_zone}
-use Rattle.epoch_text.specs.Dates.{day_by_place, day_of, is_between, is_start_year}
+use Rattle.epoch_text.specs.Dates.{day_by_year_day, day_of, is_between, is_start_year}
 use Rattle.epoch_text.specs.DayTexts.{day_in_year, day_text_of, since_1900, stamp}
 use Rattle.epoch_text.specs.Forms.{digits_in}
 use Rattle.epoch_text.specs.Ranges.{IsStart}
@@ -101,9 +101,9 @@ six (a ∷ b ∷ c ∷ d ∷ e ∷ []) h = absurd (omega arith)
 six (a ∷ b ∷ c ∷ d ∷ e ∷ f ∷ []) h = (a, b, c, d, e, f, refl)
 six (a ∷ b ∷ c ∷ d ∷ e ∷ f ∷ more ∷ rest) h = absurd (omega arith)
 
--- a date by its place, whatever its digits are
+-- a date by its day, whatever its digits are
 date_reads : (y1 y2 y3 y4 p1 p2 p3 : ℕ) → is_ascii_digit y1 ≡ true → is_ascii_digit y2 ≡ true → is_ascii_digit y3 ≡ true → is_ascii_digit y4 ≡ true → is_ascii_digit p1 ≡ true → is_ascii_digit p2 ≡ true → is_ascii_digit p3 ≡ true →
-    day_of (y1 ∷ y2 ∷ y3 ∷ y4 ∷ 45 ∷ p1 ∷ p2 ∷ p3 ∷ []) ≡ day_by_place (digits_value 10 (y1 ∷ y2 ∷ y3 ∷ y4 ∷ [])) (digits_value 10 (p1 ∷ p2 ∷ p3 ∷ []))
+    day_of (y1 ∷ y2 ∷ y3 ∷ y4 ∷ 45 ∷ p1 ∷ p2 ∷ p3 ∷ []) ≡ day_by_year_day (digits_value 10 (y1 ∷ y2 ∷ y3 ∷ y4 ∷ [])) (digits_value 10 (p1 ∷ p2 ∷ p3 ∷ []))
 date_reads y1 y2 y3 y4 p1 p2 p3 dy1 dy2 dy3 dy4 dp1 dp2 dp3 = rw (dy1, dy2, dy3, dy4, dp1, dp2, dp3) refl
 
 -- a time of day with six digits of its fraction
@@ -175,10 +175,10 @@ year_high year h =
     omega (arith, signed_arith, days_from_civil-day_count (pos 9000) 12 31, days_from_civil-day_count (pos year) 1 1, last_day, day_count-lt_year (pos 9000) 12 31 (pos year) 1 1 last (omega arith) lt)))
     (λ le. omega (arith, signed_arith, le))
 
-place_read : (year place : ℕ) → 1900 ≤ year → year ≤ 9000 → place < days_in_year (pos year) →
-    day_by_place year (place + 1) ≡ Some (days_from_civil (pos year) 1 1 +ℤ pos (place + 1 - 1))
-place_read year place low high within =
-    let has : (is_start_year year && is_between 1 (days_in_year (pos year)) (place + 1)) ≡ true = grind (arith, nat_tests) in
+year_day_read : (year year_day : ℕ) → 1900 ≤ year → year ≤ 9000 → year_day < days_in_year (pos year) →
+    day_by_year_day year (year_day + 1) ≡ Some (days_from_civil (pos year) 1 1 +ℤ pos (year_day + 1 - 1))
+year_day_read year year_day low high within =
+    let has : (is_start_year year && is_between 1 (days_in_year (pos year)) (year_day + 1)) ≡ true = grind (arith, nat_tests) in
     rw has refl
 
 seconds_there : (hour minute second : ℕ) → hour ≤ 23 → minute ≤ 59 → second ≤ 59 → seconds_at hour minute second ≡ Some (hour * 3600 + minute * 60 + second)
@@ -186,16 +186,16 @@ seconds_there hour minute second a b c =
     let has : (is_between 0 23 hour && is_between 0 59 minute && is_between 0 59 second) ≡ true = grind (arith, nat_tests) in
     rw has refl
 
--- the start of a day by its place and a time of day with its fraction
-abbrev start_by_place : ℕ → ℕ → ℕ → ℕ → ℕ → ℕ → Option ℤ
-start_by_place year place hour minute second micros =
+-- the start of a day by its day and a time of day with its fraction
+abbrev start_by_year_day : ℕ → ℕ → ℕ → ℕ → ℕ → ℕ → Option ℤ
+start_by_year_day year year_day hour minute second micros =
     option_and_then
     (λ day. option_map (λ clock. micros_at day clock) (option_map (λ seconds. seconds * 1_000_000 + micros) (seconds_at hour minute second)))
-    (day_by_place year place)
+    (day_by_year_day year year_day)
 
 bytes_read : (y1 y2 y3 y4 p1 p2 p3 h1 h2 m1 m2 s1 s2 f1 f2 f3 f4 f5 f6 : ℕ) → is_ascii_digit y1 ≡ true → is_ascii_digit y2 ≡ true → is_ascii_digit y3 ≡ true → is_ascii_digit y4 ≡ true → is_ascii_digit p1 ≡ true → is_ascii_digit p2 ≡ true → is_ascii_digit p3 ≡ true → is_ascii_digit h1 ≡ true → is_ascii_digit h2 ≡ true → is_ascii_digit m1 ≡ true → is_ascii_digit m2 ≡ true → is_ascii_digit s1 ≡ true → is_ascii_digit s2 ≡ true → is_ascii_digit f1 ≡ true → is_ascii_digit f2 ≡ true → is_ascii_digit f3 ≡ true → is_ascii_digit f4 ≡ true → is_ascii_digit f5 ≡ true → is_ascii_digit f6 ≡ true →
     start_of (y1 ∷ y2 ∷ y3 ∷ y4 ∷ 45 ∷ p1 ∷ p2 ∷ p3 ∷ 84 ∷ h1 ∷ h2 ∷ 58 ∷ m1 ∷ m2 ∷ 58 ∷ s1 ∷ s2 ∷ 46 ∷ f1 ∷ f2 ∷ f3 ∷ f4 ∷ f5 ∷ f6 ∷ [])
-    ≡ start_by_place (digits_value 10 (y1 ∷ y2 ∷ y3 ∷ y4 ∷ [])) (digits_value 10 (p1 ∷ p2 ∷ p3 ∷ [])) (digits_value 10 (h1 ∷ h2 ∷ [])) (digits_value 10 (m1 ∷ m2 ∷ [])) (digits_value 10 (s1 ∷ s2 ∷ [])) (digits_value 10 (f1 ∷ f2 ∷ f3 ∷ f4 ∷ f5 ∷ f6 ∷ []))
+    ≡ start_by_year_day (digits_value 10 (y1 ∷ y2 ∷ y3 ∷ y4 ∷ [])) (digits_value 10 (p1 ∷ p2 ∷ p3 ∷ [])) (digits_value 10 (h1 ∷ h2 ∷ [])) (digits_value 10 (m1 ∷ m2 ∷ [])) (digits_value 10 (s1 ∷ s2 ∷ [])) (digits_value 10 (f1 ∷ f2 ∷ f3 ∷ f4 ∷ f5 ∷ f6 ∷ []))
 bytes_read y1 y2 y3 y4 p1 p2 p3 h1 h2 m1 m2 s1 s2 f1 f2 f3 f4 f5 f6 dy1 dy2 dy3 dy4 dp1 dp2 dp3 dh1 dh2 dm1 dm2 ds1 ds2 df1 df2 df3 df4 df5 df6 =
     parts_read y1 y2 y3 y4 p1 p2 p3 (h1 ∷ h2 ∷ 58 ∷ m1 ∷ m2 ∷ 58 ∷ s1 ∷ s2 ∷ 46 ∷ f1 ∷ f2 ∷ f3 ∷ f4 ∷ f5 ∷ f6 ∷ []) dy1 dy2 dy3 dy4 dp1 dp2 dp3
     ∙ rw (date_reads y1 y2 y3 y4 p1 p2 p3 dy1 dy2 dy3 dy4 dp1 dp2 dp3, clock_reads h1 h2 m1 m2 s1 s2 f1 f2 f3 f4 f5 f6 dh1 dh2 dm1 dm2 ds1 ds2 df1 df2 df3 df4 df5 df6) refl
@@ -208,7 +208,7 @@ more_digits byte rest e = grind (arith, nat_tests)
 
 fields_read : (ys ps hs ms ss fs : List ℕ) → length ys ≡ 4 → length ps ≡ 3 → length hs ≡ 2 → length ms ≡ 2 → length ss ≡ 2 → length fs ≡ 6 → list_all is_ascii_digit ys ≡ true → list_all is_ascii_digit ps ≡ true → list_all is_ascii_digit hs ≡ true → list_all is_ascii_digit ms ≡ true → list_all is_ascii_digit ss ≡ true → list_all is_ascii_digit fs ≡ true →
     start_of (ys ++ codes "-" ++ ps ++ codes "T" ++ hs ++ codes ":" ++ ms ++ codes ":" ++ ss ++ codes "." ++ fs)
-    ≡ start_by_place (digits_value 10 ys) (digits_value 10 ps) (digits_value 10 hs) (digits_value 10 ms) (digits_value 10 ss) (digits_value 10 fs)
+    ≡ start_by_year_day (digits_value 10 ys) (digits_value 10 ps) (digits_value 10 hs) (digits_value 10 ms) (digits_value 10 ss) (digits_value 10 fs)
 fields_read ys ps hs ms ss fs lys lps lhs lms lss lfs dys dps dhs dms dss dfs =
     let y = four ys lys in
     let ey0 = rw y.4 at dys in
@@ -258,30 +258,30 @@ fields_read ys ps hs ms ss fs lys lps lhs lms lss lfs dys dps dhs dms dss dfs =
     (first_digit f.5 ([]) ef5))
 
 -- a text of such fields is that of the start that they say
-reads_stamp : (year place hour minute second micros : ℕ) → year < 10_000 → place < 1_000 → hour < 100 → minute < 100 → second < 100 → micros < 1_000_000 →
-    start_of (stamp year place hour minute second micros) ≡ start_by_place year place hour minute second micros
-reads_stamp year place hour minute second micros ky bp bh bm bs bf =
+reads_stamp : (year year_day hour minute second micros : ℕ) → year < 10_000 → year_day < 1_000 → hour < 100 → minute < 100 → second < 100 → micros < 1_000_000 →
+    start_of (stamp year year_day hour minute second micros) ≡ start_by_year_day year year_day hour minute second micros
+reads_stamp year year_day hour minute second micros ky bp bh bm bs bf =
     let small : (n : ℕ) → n < 1_000_000 → n < 2 ^ 64 = λ n h. omega arith in
     let sy = small year (omega arith) in
-    let sp = small place (omega arith) in
+    let sp = small year_day (omega arith) in
     let sh = small hour (omega arith) in
     let sm = small minute (omega arith) in
     let ss = small second (omega arith) in
     let sf = small micros bf in
-    fields_read (digits_in 4 year) (digits_in 3 place) (digits_in 2 hour) (digits_in 2 minute) (digits_in 2 second) (digits_in 6 micros)
-    (written_length 4 year (omega arith) ky sy) (written_length 3 place (omega arith) bp sp) (written_length 2 hour (omega arith) bh sh)
+    fields_read (digits_in 4 year) (digits_in 3 year_day) (digits_in 2 hour) (digits_in 2 minute) (digits_in 2 second) (digits_in 6 micros)
+    (written_length 4 year (omega arith) ky sy) (written_length 3 year_day (omega arith) bp sp) (written_length 2 hour (omega arith) bh sh)
     (written_length 2 minute (omega arith) bm sm) (written_length 2 second (omega arith) bs ss) (written_length 6 micros (omega arith) bf sf)
-    (written_digits 4 year sy) (written_digits 3 place sp) (written_digits 2 hour sh) (written_digits 2 minute sm) (written_digits 2 second ss) (written_digits 6 micros sf)
-    ∙ rw (written_value 4 year sy, written_value 3 place sp, written_value 2 hour sh, written_value 2 minute sm, written_value 2 second ss, written_value 6 micros sf) refl
+    (written_digits 4 year sy) (written_digits 3 year_day sp) (written_digits 2 hour sh) (written_digits 2 minute sm) (written_digits 2 second ss) (written_digits 6 micros sf)
+    ∙ rw (written_value 4 year sy, written_value 3 year_day sp, written_value 2 hour sh, written_value 2 minute sm, written_value 2 second ss, written_value 6 micros sf) refl
 
 -- the fields of an instant say it
-same_instant : (year place micros : ℕ) (instant : ℤ) → pos micros ≡ instant +ℤ pos 2_208_988_800_000_000 →
-    days_from_civil (pos year) 1 1 +ℤ pos place ≡ days_from_civil (pos 1900) 1 1 +ℤ pos (micros / 86_400_000_000) →
-    micros_at (days_from_civil (pos year) 1 1 +ℤ pos (place + 1 - 1))
+same_instant : (year year_day micros : ℕ) (instant : ℤ) → pos micros ≡ instant +ℤ pos 2_208_988_800_000_000 →
+    days_from_civil (pos year) 1 1 +ℤ pos year_day ≡ days_from_civil (pos 1900) 1 1 +ℤ pos (micros / 86_400_000_000) →
+    micros_at (days_from_civil (pos year) 1 1 +ℤ pos (year_day + 1 - 1))
     ((micros % 86_400_000_000 / 1_000_000 / 3600 * 3600 + micros % 86_400_000_000 / 1_000_000 / 60 % 60 * 60 + micros % 86_400_000_000 / 1_000_000 % 60) * 1_000_000
     + micros % 86_400_000_000 % 1_000_000)
     ≡ instant
-same_instant year place micros instant e d = omega (arith, signed_arith, first_day)
+same_instant year year_day micros instant e d = omega (arith, signed_arith, first_day)
 
 -- so no two instants of a start's years have one text, and each text is the right one
 pub read_back : (start : ℤ) (time : ℕ) → IsStart (start +ℤ pos time) → start_of (day_text_of start time) ≡ Some (start +ℤ pos time)
@@ -298,9 +298,9 @@ read_back start time range =
     let before : (days_from_civil (pos 1900) 1 1 +ℤ pos days) <ℤ days_from_civil (pos 9100) 1 1 = omega (arith, signed_arith, first_day, far_day) in
     let inside = in_its_year 7200 1900 days 9100 refl before in
     let year = year_high day.0 (omega (arith, signed_arith, kept, first_day)) in
-    let place = place_read day.0 day.1 inside.1 year inside.0 in
+    let year_day = year_day_read day.0 day.1 inside.1 year inside.0 in
     let long = days_in_year_bounds (pos day.0) in
     reads_stamp day.0 (day.1 + 1) (seconds / 3600) (seconds / 60 % 60) (seconds % 60) (clock % 1_000_000)
     (omega arith) (omega (arith, long, inside.0)) (omega arith) (omega arith) (omega arith) (omega arith)
-    ∙ rw (place, seconds_there (seconds / 3600) (seconds / 60 % 60) (seconds % 60) (omega arith) (omega arith) (omega arith))
+    ∙ rw (year_day, seconds_there (seconds / 3600) (seconds / 60 % 60) (seconds % 60) (omega arith) (omega arith) (omega arith))
     (ap Some (same_instant day.0 day.1 micros instant count kept))

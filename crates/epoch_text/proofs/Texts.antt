@@ -27,8 +27,8 @@ second_is micros time e = omega arith
 fraction_is : (micros : ℕ) (time : Time) → micros * 1_000 ≡ time_nanos time → micros % 1_000_000 ≡ time.subsec_nanosecond / 1_000
 fraction_is micros time e = omega arith
 
-place_is : (date : Date) → ordinal date - 1 + 1 ≡ ordinal date
-place_is date = omega (arith, date.day_in.0)
+year_day_is : (date : Date) → ordinal date - 1 + 1 ≡ ordinal date
+year_day_is date = omega (arith, date.day_in.0)
 
 -- the days and the rest of the microseconds since 1900
 days_are : (micros : ℕ) (day : ℤ) (nanos : ℕ) → nanos < 86_400_000_000_000 →
@@ -66,4 +66,4 @@ text_is_shown at instant shown e =
     let rest = rest_is micros (epoch_day at.date) (time_nanos at.time) bound sum in
     let date = since_1900_is (micros / 86_400_000_000) at.date days (day_high at instant shown e) in
     let clock = micros % 86_400_000_000 in
-    rw (date, place_is at.date, hour_is clock at.time rest, minute_is clock at.time rest, second_is clock at.time rest, fraction_is clock at.time rest) refl
+    rw (date, year_day_is at.date, hour_is clock at.time rest, minute_is clock at.time rest, second_is clock at.time rest, fraction_is clock at.time rest) refl

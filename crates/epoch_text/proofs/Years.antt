@@ -1,4 +1,4 @@
--- The year of a day, and its place in that.
+-- The year of a day, and its day in that.
 use Rattle.std.proofs.Common.{◌≡◌, ℕ, zero, suc, ◌+◌, ◌-◌, ◌<◌, ◌≤◌, Bool, true, false, nat_lt, ℤ, pos, neg_ℤ, unsigned_abs, ◌+ℤ◌, ◌≤ℤ◌, ◌<ℤ◌, refl, ap, arith, rules, IfSome, ◌&&◌}
 use Rattle.std.proofs.lemmas.Int.{by_lt_z}
 use Rattle.std.proofs.lemmas.Bool.Decides.{nat_tests}
@@ -8,7 +8,7 @@ use Rattle.jiff_core.specs.declared.civil.date.Date.{Date}
 use Rattle.jiff_core.specs.Calendar.{days_from_civil, day_count, days_of_years, days_of_months, IsCivilDate}
 use Rattle.jiff_core.proofs.CalendarLemmas.{days_from_civil-day_count, day_count-lt_year, day_count-next_year, day_count-later_year, day_count-year_is, days_in_year_bounds}
 use Rattle.jiff_core.proofs.DateLemmas.{civil, epoch_day-ordinal}
-use Rattle.epoch_text.specs.Dates.{day_by_month, day_by_place, is_between, is_start_year}
+use Rattle.epoch_text.specs.Dates.{day_by_month, day_by_year_day, is_between, is_start_year}
 use Rattle.epoch_text.specs.Ranges.{IsStartDay}
 use Rattle.epoch_text.specs.DayTexts.{day_in_year}
 
@@ -46,9 +46,9 @@ civil_in_range y m d date low high =
       omega (arith, signed_arith, days_from_civil-day_count y m d, days_from_civil-day_count (pos 9001) 1 1, day_after, after),
     )
 
-pub place_in_range : (year place : ℕ) → 1900 ≤ year → year ≤ 9000 → place ≤ days_in_year (pos year) →
-    IsStartDay (days_from_civil (pos year) 1 1 +ℤ pos (place - 1))
-place_in_range year place low high last =
+pub year_day_in_range : (year year_day : ℕ) → 1900 ≤ year → year ≤ 9000 → year_day ≤ days_in_year (pos year) →
+    IsStartDay (days_from_civil (pos year) 1 1 +ℤ pos (year_day - 1))
+year_day_in_range year year_day low high last =
     let year_low : pos 1900 ≤ℤ pos year = omega (arith, signed_arith) in
     let year_high : pos year ≤ℤ pos 9000 = omega (arith, signed_arith) in
     let some : 365 ≤ days_in_year (pos year) = omega (arith, days_in_year_bounds (pos year)) in
@@ -78,17 +78,17 @@ by_month_in_range year month day = go (has_month_day year month day) refl
         rw e (civil_in_range (pos year) month day date (omega (arith, signed_arith)) (omega (arith, signed_arith)))
     go false e = rw e tt
 
-abbrev has_place : ℕ → ℕ → Bool
-has_place year place = is_start_year year && is_between 1 (days_in_year (pos year)) place
+abbrev has_year_day : ℕ → ℕ → Bool
+has_year_day year year_day = is_start_year year && is_between 1 (days_in_year (pos year)) year_day
 
-place_day : (year place : ℕ) → has_place year place ≡ true → (1900 ≤ year) × (year ≤ 9000) × (place ≤ days_in_year (pos year))
-place_day year place e = (grind (arith, nat_tests), grind (arith, nat_tests), grind (arith, nat_tests))
+year_day_goes : (year year_day : ℕ) → has_year_day year year_day ≡ true → (1900 ≤ year) × (year ≤ 9000) × (year_day ≤ days_in_year (pos year))
+year_day_goes year year_day e = (grind (arith, nat_tests), grind (arith, nat_tests), grind (arith, nat_tests))
 
-pub by_place_in_range : (year place : ℕ) → IfSome (day_by_place year place) IsStartDay
-by_place_in_range year place = go (has_place year place) refl
+pub by_year_day_in_range : (year year_day : ℕ) → IfSome (day_by_year_day year year_day) IsStartDay
+by_year_day_in_range year year_day = go (has_year_day year year_day) refl
   where
-    go : (v : Bool) → has_place year place ≡ v → IfSome (day_by_place year place) IsStartDay
-    go true e = let h = place_day year place e in rw e (place_in_range year place h.0 h.1 h.2)
+    go : (v : Bool) → has_year_day year year_day ≡ v → IfSome (day_by_year_day year year_day) IsStartDay
+    go true e = let h = year_day_goes year year_day e in rw e (year_day_in_range year year_day h.0 h.1 h.2)
     go false e = rw e tt
 
 -- the years of the days that may be shown
@@ -139,8 +139,8 @@ same_year date year days last e within =
     day_count-year_is (pos year) date.year date.month date.day in_year (civil date)
     (omega (arith, signed_arith, here, first)) (omega (arith, signed_arith, here, first))
 
-its_place : (date : Date) (year days : ℕ) → days_from_civil (pos year) 1 1 +ℤ pos days ≡ epoch_day date → date.year ≡ pos year → ordinal date ≡ days + 1
-its_place date year days e same =
+its_year_day : (date : Date) (year days : ℕ) → days_from_civil (pos year) 1 1 +ℤ pos days ≡ epoch_day date → date.year ≡ pos year → ordinal date ≡ days + 1
+its_year_day date year days e same =
     let first : days_from_civil date.year 1 1 ≡ days_from_civil (pos year) 1 1 = ap (λ z. days_from_civil z 1 1) same in
     omega (arith, signed_arith, epoch_day-ordinal date, first)
 
@@ -156,7 +156,7 @@ not_before date year days e =
     )))
     (λ le. le)
 
--- taking off whole years ends at the date's own year and its place there
+-- taking off whole years ends at the date's own year and its day there
 pub day_in_year_is : (more year days : ℕ) (date : Date) → year + more ≤ 9999 → days_from_civil (pos year) 1 1 +ℤ pos days ≡ epoch_day date →
     date.year <ℤ pos (year + more) → day_in_year more year days ≡ (unsigned_abs date.year, ordinal date - 1)
 unfolding day_in_year
@@ -172,9 +172,9 @@ day_in_year_is (suc more) year days date last e before =
     go true t next =
         let within : days < days_in_year (pos year) = grind (arith, nat_tests) in
         let same = same_year date year days (omega arith) e within in
-        let place : ordinal date - 1 ≡ days = omega (arith, its_place date year days e same) in
+        let year_day : ordinal date - 1 ≡ days = omega (arith, its_year_day date year days e same) in
         let number : unsigned_abs date.year ≡ year = ap unsigned_abs same in
-        rw (t, number, place) refl
+        rw (t, number, year_day) refl
     go false t next =
         let whole : days_in_year (pos year) ≤ days = grind (arith, nat_tests) in
         rw t (next whole)

@@ -1,4 +1,4 @@
--- The text of a date, by month as "2028-12-31" or by its place in the year as "2028-366", and the day that it says.
+-- The text of a date, by month as "2028-12-31" or by its day of the year as "2028-366", and the day that it says.
 use Rattle.std.specs.Prelude.{ℕ, ◌-◌, nat_le, ◌&&◌, List, Bool, Option, Some, None, if◌then◌else◌, codes, ℤ, pos, ◌+ℤ◌}
 use Rattle.jiff.specs.Words.{days_in_month, days_in_year}
 use Rattle.jiff_core.specs.Calendar.{days_from_civil}
@@ -20,16 +20,16 @@ day_by_month year month day =
     then Some (days_from_civil (pos year) month day)
     else None
 
--- the same of the day with this place in its year, where 1 January has place 1
-abbrev pub day_by_place : ℕ → ℕ → Option ℤ
-day_by_place year place =
-    if is_start_year year && is_between 1 (days_in_year (pos year)) place
-    then Some (days_from_civil (pos year) 1 1 +ℤ pos (place - 1))
+-- the same of the day with this number in its year, where 1 January has number 1
+abbrev pub day_by_year_day : ℕ → ℕ → Option ℤ
+day_by_year_day year year_day =
+    if is_start_year year && is_between 1 (days_in_year (pos year)) year_day
+    then Some (days_from_civil (pos year) 1 1 +ℤ pos (year_day - 1))
     else None
 
 -- the day that the text of a date says, where it says one
 abbrev pub day_of : List ℕ → Option ℤ
 day_of date =
     if has_form date (codes "0000-00-00") then day_by_month (written_number 0 4 date) (written_number 5 2 date) (written_number 8 2 date)
-    else if has_form date (codes "0000-000") then day_by_place (written_number 0 4 date) (written_number 5 3 date)
+    else if has_form date (codes "0000-000") then day_by_year_day (written_number 0 4 date) (written_number 5 3 date)
     else None

@@ -1,4 +1,4 @@
--- The text of an instant by the place of its day in the year, as "2028-366T23:59:59.999999".
+-- The text of an instant by the number of its day in the year, as "2028-366T23:59:59.999999".
 use Rattle.std.specs.Prelude.{◌≡◌, ℕ, zero, suc, ◌+◌, ◌-◌, ◌/◌, ◌%◌, nat_lt, List, ◌++◌, if◌then◌else◌, codes, ℤ, pos, neg_ℤ, unsigned_abs, ◌+ℤ◌, refl}
 use Rattle.std.specs.Fmt.{digits}
 use Rattle.jiff.specs.Words.{days_in_year, ordinal}
@@ -13,10 +13,10 @@ day_in_year (suc more) year days =
     if nat_lt days (days_in_year (pos year)) then (year, days)
     else day_in_year more (year + 1) (days - days_in_year (pos year))
 
--- the text of a date by year and place, of which the first is 1, and of a time of day
+-- the text of a date by year and day of the year, of which the first is 1, and of a time of day
 abbrev pub stamp : ℕ → ℕ → ℕ → ℕ → ℕ → ℕ → List ℕ
-stamp year place hour minute second micros =
-    digits_in 4 year ++ codes "-" ++ digits_in 3 place ++ codes "T" ++ digits_in 2 hour ++ codes ":" ++ digits_in 2 minute
+stamp year year_day hour minute second micros =
+    digits_in 4 year ++ codes "-" ++ digits_in 3 year_day ++ codes "T" ++ digits_in 2 hour ++ codes ":" ++ digits_in 2 minute
     ++ codes ":" ++ digits_in 2 second ++ codes "." ++ digits_in 6 micros
 
 -- the text of what a clock shows, with the fraction cut to microseconds

@@ -19,7 +19,7 @@ has_form text form = nat_eq (length text) (length form) && has_signs text form
 
 -- the number that so many digits write from a place on
 abbrev pub written_number : ℕ → ℕ → List ℕ → ℕ
-written_number place width text = digits_value 10 (take width (drop place text))
+written_number position width text = digits_value 10 (take width (drop position text))
 
 -- the number in decimal, with zeros in front up to that many digits
 abbrev pub digits_in : ℕ → ℕ → List ℕ

@@ -30,7 +30,7 @@ fn sign_of(byte: u8) -> u8
 }
 
 /// The number that up to six digits write.
-#[tactic(auto, using(crate::proofs::Digits::value_more, crate::proofs::Digits::value_small, crate::proofs::Digits::value_bound))]
+#[tactic(auto, using(aerie_base::specs::DigitValues::value_more, crate::proofs::Digits::value_small, crate::proofs::Digits::value_bound))]
 pub(crate) fn number(digits: &[u8]) -> u32
     requires digits { IsTrue (list_all is_ascii_digit digits.now) }
     requires few { length digits.now ≤ 6 }

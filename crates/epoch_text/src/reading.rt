@@ -30,14 +30,14 @@ pub fn read_start(text: &str) -> Result<Start, BadStart>
 fn start_of(text: &[u8]) -> Option<Start>
     ensures { result ≡ start_of text.now }
 {
-    let place = place_of_t(text)?;
-    start_of_parts(&text[..place], &text[place + 1..])
+    let t_at = position_of_t(text)?;
+    start_of_parts(&text[..t_at], &text[t_at + 1..])
 }
 
 /// Where the first `T` stands, which is between the date and the time of day.
-fn place_of_t(text: &[u8]) -> Option<usize>
+fn position_of_t(text: &[u8]) -> Option<usize>
     ensures value { result ≡ position (λ byte. nat_eq byte 84) text.now }
-    ensures bound { IfSome result (λ place. place < length text.now) }
+    ensures bound { IfSome result (λ t_at. t_at < length text.now) }
 {
     text.iter().position(|byte| *byte == b'T')
 }

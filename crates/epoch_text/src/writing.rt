@@ -58,21 +58,21 @@ fn push_shown(text: &mut String, at: DateTime) -> Result<(), OutOfMemory>
     )
 }
 
-/// Appends the text of a date by year and place and a time of day.
+/// Appends the text of a date by year and day of the year and a time of day.
 fn push_stamp(
     text: &mut String,
     year: u16,
-    place: u16,
+    year_day: u16,
     hour: u8,
     minute: u8,
     second: u8,
     micros: u32,
 ) -> Result<(), OutOfMemory>
-    ensures { OnOk result (string_bytes text.new ≡ string_bytes text.old ++ stamp year place hour minute second micros) }
+    ensures { OnOk result (string_bytes text.new ≡ string_bytes text.old ++ stamp year year_day hour minute second micros) }
 {
     push_digits(text, 4, u32::from(year))?;
     text.push_str("-")?;
-    push_digits(text, 3, u32::from(place))?;
+    push_digits(text, 3, u32::from(year_day))?;
     text.push_str("T")?;
     push_digits(text, 2, u32::from(hour))?;
     text.push_str(":")?;

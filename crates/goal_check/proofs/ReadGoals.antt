@@ -17,12 +17,14 @@ use Rattle.rule_grammar.specs.declared.raw.goals.RawGoalKind.TheVariants as raw_
 use Rattle.rule_grammar.specs.declared.raw.goals.RawTemplate.{RawTemplate}
 use Rattle.constraints.specs.GivenSeries.{is_series}
 use Rattle.constraints.specs.OfModel.{is_shift}
-use Rattle.rule_check.specs.declared.refusals.WrongRule.TheVariants.{Duplicate}
+use Rattle.rule_check.specs.declared.causes.WrongRule.TheVariants.{Duplicate}
 use Rattle.constraints.specs.declared.types.Constraint.{Constraint}
 use Rattle.rule_check.specs.WindowMeaning.{signed_time, time_within}
 use Rattle.rule_check.specs.ReadParts.{NamedTypesStand, ReadTypesAreOf, ReadWindowsAreOf, ReadLiteralsAreOf}
-use Rattle.rule_check.specs.RefusalLaws.{both_empty, or_empty, none_found}
-use Rattle.rule_check.specs.Refusals.{first_of_refusals, wrong_unless}
+use Rattle.diagnostics.specs.NotedInTurn.{none_found}
+use Rattle.rule_check.specs.RefusalLaws.{both_empty, or_empty}
+use Rattle.diagnostics.specs.Diagnostics.{refused_unless}
+use Rattle.rule_check.specs.Refusals.{number_of_wrong, first_diagnostic}
 use Rattle.rule_check.specs.RuleLiterals.{activity_named}
 use Rattle.rule_check.specs.RuleNames.{Datasets}
 use Rattle.goals.specs.OfModel.{is_template, is_anchor, is_count, is_goal_kind, is_goal}
@@ -82,7 +84,7 @@ module _ (model : Parts) (duration : ℕ) (constraints : List Constraint) (datas
 
   goal_is : (others : List RawGoal) (goal : RawGoal) → refusals_of_goal model duration constraints datasets others goal ≡ [] → is_goal model (meant_goal model datasets goal) ≡ true
   goal_is others goal e =
-      let fresh = wrong_unless (not (is_goal_named others goal.name.name)) Duplicate goal.name.at in
+      let fresh = refused_unless (not (is_goal_named others goal.name.name)) Duplicate goal.name.at in
       let template = refusals_of_template model goal.template in
       let kind = refusals_of_kind model duration datasets goal.kind in
       let first = both_empty (fresh ++ template ++ kind) (refusals_of_keeping constraints goal.keeping) e in
@@ -97,5 +99,5 @@ module _ (model : Parts) (duration : ℕ) (constraints : List Constraint) (datas
       let two = both_empty (refusals_of_goal model duration constraints datasets others goal) (refusals_of_goals_behind model duration constraints datasets room (others ++ goal ∷ []) rest) e in
       and_too (is_goal model (meant_goal model datasets goal)) (list_all (is_goal model) (meant_goals model datasets rest)) (goal_is others goal two.0) (goals_are room (others ++ goal ∷ []) rest two.1)
 
-  pub all_of_model : (goals : List RawGoal) → first_of_refusals (refusals_of_goals model duration constraints datasets goals) ≡ None → list_all (is_goal model) (meant_goals model datasets goals) ≡ true
-  all_of_model goals e = goals_are _ [] goals (none_found (refusals_of_goals model duration constraints datasets goals) e)
+  pub all_of_model : (goals : List RawGoal) → first_diagnostic (refusals_of_goals model duration constraints datasets goals) ≡ None → list_all (is_goal model) (meant_goals model datasets goals) ≡ true
+  all_of_model goals e = goals_are _ [] goals (none_found number_of_wrong (refusals_of_goals model duration constraints datasets goals) e)

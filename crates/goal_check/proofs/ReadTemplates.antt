@@ -22,14 +22,15 @@ use Rattle.aerie_base.specs.plans.OfModel.{are_values_of, takes}
 use Rattle.model_reader.specs.declared.raw.literals.RawLiteralKind.{RawLiteralKind}
 use Rattle.model_reader.specs.declared.raw.literals.RawLiteralKind.TheVariants as literal
 use Rattle.rule_grammar.specs.declared.raw.goals.RawTemplate.{RawTemplate}
-use Rattle.rule_check.specs.declared.refusals.WrongRule.{WrongRule}
-use Rattle.rule_check.specs.declared.refusals.WrongRule.TheVariants.{Duplicate, WrongType}
+use Rattle.rule_check.specs.declared.causes.WrongRule.{WrongRule}
+use Rattle.rule_check.specs.declared.causes.WrongRule.TheVariants.{Duplicate, WrongType}
 use Rattle.aerie_base.specs.declared.places.Place.{Place}
 use Rattle.rule_check.specs.ReadParts.{NamedTypesStand, ReadLiteralsAreOf}
 use Rattle.rule_check.specs.RefusalLaws.{both_empty, or_empty}
-use Rattle.rule_check.specs.Refusals.{wrong_unless}
+use Rattle.diagnostics.specs.Diagnostics.{refused_unless}
 use Rattle.rule_check.specs.RuleLiterals.{activity_named, parameters_if_known, known_parameter, refusals_of_named_variant, refusals_of_literal, literal_kind, literal_value}
-use Rattle.rule_check.specs.RuleNames.{short_number, place_of_enum}
+use Rattle.diagnostics.specs.ShortNumbers.{short}
+use Rattle.rule_check.specs.RuleNames.{position_of_enum}
 use Rattle.goal_check.specs.TemplateMeaning.{Argument, default_or_false, written_or_default, template_value, meant_template}
 use Rattle.goal_check.specs.TemplateRefusals.{has_argument, is_kind_if_known, refusals_of_value, refusals_of_argument, refusals_of_arguments, is_given_or_default, refusals_of_given}
 
@@ -48,7 +49,7 @@ not_true true e = cc
 not_true false e = refl
 
 -- what is not refused holds
-pub holds_if_empty : (holds : Bool) (wrong : WrongRule) (place : Place) → wrong_unless holds wrong place ≡ [] → holds ≡ true
+pub holds_if_empty : (holds : Bool) (wrong : WrongRule) (place : Place) → refused_unless holds wrong place ≡ [] → holds ≡ true
 holds_if_empty true wrong place e = refl
 holds_if_empty false wrong place e = cc
 
@@ -167,9 +168,9 @@ values_each enums for (parameter ∷ rest) one =
 no_kind : (model : Parts) (what : RawLiteralKind) → refusals_of_literal model what ≡ [] → literal_kind model what ≡ None → ⊥
 no_kind model (literal.Number number) e none = cc
 no_kind model (literal.Truth truth) e none = cc
-no_kind model (literal.Variant kind variant) e none = go (place_of_enum model.enums kind.name) e none
+no_kind model (literal.Variant kind variant) e none = go (position_of_enum model.enums kind.name) e none
   where
-    go : (place : Option ℕ) → refusals_of_named_variant model place kind variant ≡ [] → option_map (λ (at : ℕ). Enum (short_number at)) place ≡ None → ⊥
+    go : (place : Option ℕ) → refusals_of_named_variant model place kind variant ≡ [] → option_map (λ (at : ℕ). Enum (short at)) place ≡ None → ⊥
     go None e none = cc
     go (Some at) e none = cc
 
@@ -187,7 +188,7 @@ module _ (model : Parts) (valid : valid_model model ≡ true) (literals : ReadLi
 
   argument_good : (others : List Argument) (argument : Argument) → refusals_of_argument model activity.parameters others argument ≡ [] → IsGood argument
   argument_good others argument e =
-      let fresh = wrong_unless (not (has_argument others argument.0.name)) Duplicate argument.0.at in
+      let fresh = refused_unless (not (has_argument others argument.0.name)) Duplicate argument.0.at in
       let value = refusals_of_value model argument.0 argument.1 (known_parameter activity.parameters argument.0.name) in
       let first = both_empty (fresh ++ value) (refusals_of_literal model argument.1.what) e in
       let second = both_empty fresh value first.0 in
@@ -248,7 +249,7 @@ pub given_takes : (model : Parts) (activity : Activity) (template : RawTemplate)
 given_takes model activity template valid named literals here e =
     let stands = named model template.kind activity valid here in
     let good = type_good model valid _ activity stands in
-    let two = both_empty (wrong_unless (list_all (is_given_or_default template.arguments) activity.parameters) WrongType template.kind.at) (refusals_of_arguments model activity.parameters [] template.arguments) e in
+    let two = both_empty (refused_unless (list_all (is_given_or_default template.arguments) activity.parameters) WrongType template.kind.at) (refusals_of_arguments model activity.parameters [] template.arguments) e in
     let gets = holds_if_empty (list_all (is_given_or_default template.arguments) activity.parameters) _ template.kind.at two.0 in
     let values = values_each model.enums (template_value model template.arguments) activity.parameters
     (λ place parameter at. one_value model valid literals activity good template.arguments two.1 place parameter at (each (is_given_or_default template.arguments) activity.parameters place parameter gets at)) in

@@ -10,7 +10,7 @@ use Rattle.rule_grammar.specs.reading.ToTheEnd.{to_the_end}
 use Rattle.rule_check.specs.declared.rule_error.RuleError.{RuleError}
 use Rattle.constraints.specs.declared.types.Constraint.{Constraint}
 use Rattle.rule_check.specs.RuleErrors.{judged_rules, rules_or_refusal, RuledUnlessOutOfMemory}
-use Rattle.rule_check.specs.Refusals.{first_of_refusals}
+use Rattle.rule_check.specs.Refusals.{first_diagnostic}
 use Rattle.rule_check.specs.RuleNames.{Datasets}
 use Rattle.goals.specs.declared.types.Goal.{Goal}
 use Rattle.goal_check.specs.GoalMeaning.{meant_goals}
@@ -29,4 +29,4 @@ IsGoalsAnswer text tokens model duration constraints datasets result =
 -- the same of goals that are read as they are written
 abbrev pub IsJudgedGoals : Parts → ℕ → List Constraint → Datasets → List RawGoal → Result (List Goal) RuleError → Type 0
 IsJudgedGoals model duration constraints datasets raw result =
-    RuledUnlessOutOfMemory (rules_or_refusal (first_of_refusals (refusals_of_goals model duration constraints datasets raw)) (meant_goals model datasets raw)) result
+    RuledUnlessOutOfMemory (rules_or_refusal (first_diagnostic (refusals_of_goals model duration constraints datasets raw)) (meant_goals model datasets raw)) result

@@ -13,8 +13,8 @@ use Rattle.rule_grammar.specs.declared.raw.goals.RawGoal.{RawGoal}
 use Rattle.rule_grammar.specs.declared.raw.goals.RawGoalKind.{RawGoalKind}
 use Rattle.rule_grammar.specs.declared.raw.goals.RawGoalKind.TheVariants as raw_kind
 use Rattle.rule_grammar.specs.declared.raw.goals.RawNumber.{RawNumber}
-use Rattle.rule_check.specs.declared.refusals.WrongRule.TheVariants.{Unknown, Duplicate, WrongType, OutOfRange}
-use Rattle.rule_check.specs.Refusals.{wrong_at}
+use Rattle.rule_check.specs.declared.causes.WrongRule.TheVariants.{Unknown, Duplicate, WrongType, OutOfRange}
+use Rattle.diagnostics.specs.Diagnostics.{at_place}
 use Rattle.goals.specs.declared.types.GoalKind.TheVariants as goal_kind
 use Rattle.goal_check.specs.GoalMeaning.{meant_goals}
 use Rattle.goal_check.specs.GoalRefusals.{refusals_of_goals}
@@ -78,20 +78,20 @@ a_goal_that_is_read = refl
 pub nothing_is_refused : refusals_of_goals model 10 [] [] (goal (three ∷ []) (counted 2) [] ∷ []) ≡ []
 nothing_is_refused = refl
 
-pub a_range_behind_the_plan : refusals_of_goals model 9 [] [] (goal (three ∷ []) (counted 2) [] ∷ []) ≡ wrong_at OutOfRange (at 50)
+pub a_range_behind_the_plan : refusals_of_goals model 9 [] [] (goal (three ∷ []) (counted 2) [] ∷ []) ≡ at_place OutOfRange (at 50)
 a_range_behind_the_plan = refl
 
-pub no_starts_at_all : refusals_of_goals model 10 [] [] (goal (three ∷ []) (counted 0) [] ∷ []) ≡ wrong_at OutOfRange (at 40)
+pub no_starts_at_all : refusals_of_goals model 10 [] [] (goal (three ∷ []) (counted 0) [] ∷ []) ≡ at_place OutOfRange (at 40)
 no_starts_at_all = refl
 
-pub a_missing_argument : refusals_of_goals model 10 [] [] (goal [] (counted 1) [] ∷ []) ≡ wrong_at WrongType (at 16)
+pub a_missing_argument : refusals_of_goals model 10 [] [] (goal [] (counted 1) [] ∷ []) ≡ at_place WrongType (at 16)
 a_missing_argument = refl
 
-pub an_argument_twice : refusals_of_goals model 10 [] [] (goal (three ∷ by 31 (literal.Number (pos 4)) ∷ []) (counted 1) [] ∷ []) ≡ wrong_at Duplicate (at 31)
+pub an_argument_twice : refusals_of_goals model 10 [] [] (goal (three ∷ by 31 (literal.Number (pos 4)) ∷ []) (counted 1) [] ∷ []) ≡ at_place Duplicate (at 31)
 an_argument_twice = refl
 
-pub an_end_before_its_begin : refusals_of_goals model 10 [] [] (goal (three ∷ []) (beside (pos 1) (pos 0)) [] ∷ []) ≡ wrong_at OutOfRange (at 60)
+pub an_end_before_its_begin : refusals_of_goals model 10 [] [] (goal (three ∷ []) (beside (pos 1) (pos 0)) [] ∷ []) ≡ at_place OutOfRange (at 60)
 an_end_before_its_begin = refl
 
-pub no_such_constraint : refusals_of_goals model 10 [] [] (goal (three ∷ []) (beside (negsuc 0) (pos 0)) (named 70 (codes "c") ∷ []) ∷ []) ≡ wrong_at Unknown (at 70)
+pub no_such_constraint : refusals_of_goals model 10 [] [] (goal (three ∷ []) (beside (negsuc 0) (pos 0)) (named 70 (codes "c") ∷ []) ∷ []) ≡ at_place Unknown (at 70)
 no_such_constraint = refl

@@ -12,9 +12,11 @@ use Rattle.model_reader.specs.declared.raw.literals.RawLiteral.{RawLiteral}
 use Rattle.model_reader.specs.declared.raw.names.RawName.{RawName}
 use Rattle.plan_edit.specs.Requires.{unmet_of_type}
 use Rattle.rule_grammar.specs.declared.raw.goals.RawTemplate.{RawTemplate}
-use Rattle.rule_check.specs.declared.refusals.RuleRefusal.{RuleRefusal}
-use Rattle.rule_check.specs.declared.refusals.WrongRule.TheVariants.{Unknown, Duplicate, WrongType, Invalid}
-use Rattle.rule_check.specs.Refusals.{wrong_at, wrong_unless, refusals_or}
+use Rattle.diagnostics.specs.declared.diagnostic.Diagnostic.{Diagnostic}
+use Rattle.rule_check.specs.declared.causes.WrongRule.{WrongRule}
+use Rattle.rule_check.specs.declared.causes.WrongRule.TheVariants.{Unknown, Duplicate, WrongType, Invalid}
+use Rattle.diagnostics.specs.Diagnostics.{at_place, refused_unless}
+use Rattle.rule_check.specs.Refusals.{refusals_or}
 use Rattle.rule_check.specs.RuleLiterals.{activity_named, known_parameter, refusals_of_literal, literal_kind}
 use Rattle.goals.specs.declared.types.Template.{Template}
 use Rattle.goal_check.specs.TemplateMeaning.{Argument, meant_template}
@@ -31,25 +33,25 @@ is_kind_if_known None kind = true
 is_kind_if_known (Some found) kind = same_kind found kind
 
 -- the name of a parameter, where it is known, and a value beside it
-abbrev pub refusals_of_value : Parts → RawName → RawLiteral → Option Parameter → List RuleRefusal
-refusals_of_value model name value None = wrong_at Unknown name.at
-refusals_of_value model name value (Some parameter) = wrong_unless (is_kind_if_known (literal_kind model value.what) parameter.kind) WrongType name.at
+abbrev pub refusals_of_value : Parts → RawName → RawLiteral → Option Parameter → List (Diagnostic WrongRule)
+refusals_of_value model name value None = at_place Unknown name.at
+refusals_of_value model name value (Some parameter) = refused_unless (is_kind_if_known (literal_kind model value.what) parameter.kind) WrongType name.at
 
 -- an argument behind others
-abbrev pub refusals_of_argument : Parts → List Parameter → List Argument → Argument → List RuleRefusal
+abbrev pub refusals_of_argument : Parts → List Parameter → List Argument → Argument → List (Diagnostic WrongRule)
 refusals_of_argument model parameters others argument =
-    wrong_unless (not (has_argument others argument.0.name)) Duplicate argument.0.at
+    refused_unless (not (has_argument others argument.0.name)) Duplicate argument.0.at
     ++ refusals_of_value model argument.0 argument.1 (known_parameter parameters argument.0.name)
     ++ refusals_of_literal model argument.1.what
 
 -- arguments behind others, up to the first that is refused
-abbrev pub refusals_of_arguments : Parts → List Parameter → List Argument → List Argument → List RuleRefusal
+abbrev pub refusals_of_arguments : Parts → List Parameter → List Argument → List Argument → List (Diagnostic WrongRule)
 refusals_of_arguments model parameters others [] = []
 refusals_of_arguments model parameters others (argument ∷ rest) =
     refusals_or (refusals_of_argument model parameters others argument) (refusals_of_arguments model parameters (others ++ argument ∷ []) rest)
 
 -- the arguments from this number on
-abbrev pub refusals_of_arguments_from : Parts → List Parameter → ℕ → List Argument → List RuleRefusal
+abbrev pub refusals_of_arguments_from : Parts → List Parameter → ℕ → List Argument → List (Diagnostic WrongRule)
 refusals_of_arguments_from model parameters at arguments = refusals_of_arguments model parameters (take at arguments) (drop at arguments)
 
 -- ---- templates
@@ -59,25 +61,25 @@ abbrev pub is_given_or_default : List Argument → Parameter → Bool
 is_given_or_default arguments parameter = is_some parameter.default || has_argument arguments parameter.name
 
 -- what is given for a type
-abbrev pub refusals_of_given : Parts → Activity → RawTemplate → List RuleRefusal
+abbrev pub refusals_of_given : Parts → Activity → RawTemplate → List (Diagnostic WrongRule)
 refusals_of_given model activity template =
-    wrong_unless (list_all (is_given_or_default template.arguments) activity.parameters) WrongType template.kind.at
+    refused_unless (list_all (is_given_or_default template.arguments) activity.parameters) WrongType template.kind.at
     ++ refusals_of_arguments model activity.parameters [] template.arguments
 
 -- arguments that do not meet a `require` of their type
-abbrev pub refusals_of_requires : Parts → RawName → Template → List RuleRefusal
+abbrev pub refusals_of_requires : Parts → RawName → Template → List (Diagnostic WrongRule)
 refusals_of_requires model kind template =
-    wrong_unless (not (is_some (unmet_of_type (slice_get model.activities template.kind) template.arguments))) Invalid kind.at
+    refused_unless (not (is_some (unmet_of_type (slice_get model.activities template.kind) template.arguments))) Invalid kind.at
 
 -- the same of what the template means
-abbrev pub refusals_of_meant : Parts → RawTemplate → List RuleRefusal
+abbrev pub refusals_of_meant : Parts → RawTemplate → List (Diagnostic WrongRule)
 refusals_of_meant model template = refusals_of_requires model template.kind (meant_template model template)
 
 -- for a type, where it is known; only what is given well is judged by the `require`s
-abbrev pub refusals_by_type : Parts → RawTemplate → Option Activity → List RuleRefusal
-refusals_by_type model template None = wrong_at Unknown template.kind.at
+abbrev pub refusals_by_type : Parts → RawTemplate → Option Activity → List (Diagnostic WrongRule)
+refusals_by_type model template None = at_place Unknown template.kind.at
 refusals_by_type model template (Some activity) =
     refusals_or (refusals_of_given model activity template) (refusals_of_meant model template)
 
-abbrev pub refusals_of_template : Parts → RawTemplate → List RuleRefusal
+abbrev pub refusals_of_template : Parts → RawTemplate → List (Diagnostic WrongRule)
 refusals_of_template model template = refusals_by_type model template (activity_named model template.kind.name)

@@ -13,7 +13,7 @@ use Rattle.aerie_base.specs.statements.Places.{left, lefts, size}
 use Rattle.effect_cells.specs.declared.trees.Part.TheBlock.{hidden-the_row-Part-0, shape-the_row-Part-0}
 use denote.Hole.Carrier.{hidden, shown, out}
 use Rattle.run_data.specs.declared.runs.Run.{Run}
-use Rattle.run_data.specs.cases.Missions.{add, bump, directive, ints, mission, number, plain, plan_of, ran, run_within}
+use Rattle.run_data.specs.cases.SmallModels.{add, bump, directive, ints, small_model, number, plain, plan_of, ran, run_within}
 use Rattle.constraints.specs.declared.types.Reading.TheVariants.{Resource}
 use Rattle.constraints.specs.declared.types.Window.{Window, Compare}
 use Rattle.constraints.specs.Holding.{window_holds}
@@ -36,7 +36,7 @@ goal_of arguments goal_kind = record {
 -- ---- `recurrence Tick() every 1h in [0us, 4h)`, where `Tick` adds 1, at half past the hours
 
 abbrev ticks : Parts
-ticks = mission [] (plain (add (number 1) ∷ []) ∷ []) []
+ticks = small_model [] (plain (add (number 1) ∷ []) ∷ []) []
 
 abbrev half_hours : ℕ → ℕ
 half_hours count = 1_800_000_000 * count
@@ -88,7 +88,7 @@ no_gap = refl
 -- ---- `coexistence Bump(by = 0) for window(n >= 3) from 2us to 4us`, in a plan of 20 microseconds
 
 abbrev bumps : Parts
-bumps = record (mission [] (bump ∷ []) []) { resources = (codes "n", resource.Discrete (read.Counter 0)) ∷ [] }
+bumps = record (small_model [] (bump ∷ []) []) { resources = (codes "n", resource.Discrete (read.Counter 0)) ∷ [] }
 
 abbrev at_least_three : Window
 at_least_three = Compare (record { terms = record { coefficient = pos 1; resource = Resource 0 } ∷ []; constant = pos 0 }) AtLeast (record { terms = []; constant = pos 3 })

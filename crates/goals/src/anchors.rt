@@ -83,29 +83,11 @@ pub(crate) fn anchors_of(
     }
 }
 
-/// The anchors from the first to the last.
-fn in_order(mut anchors: Vec<Time>) -> Result<Vec<Time>, OutOfMemory>
+/// The anchors, sorted from the first to the last.
+pub(crate) fn in_order(mut anchors: Vec<Time>) -> Result<Vec<Time>, OutOfMemory>
     ensures permutation { IfOk result (λ sorted. IsPermutation anchors.items sorted.items) }
     ensures rises { IfOk result (λ sorted. Rises sorted.items) }
 {
     anchors.sort_by_key(|anchor| anchor.get().unsigned_abs())?;
     Ok(anchors)
-}
-
-/// The anchors on a run that has these spans, from the first to the last.
-pub(crate) fn sorted_anchors(
-    alloc: Global,
-    model: &Model,
-    run: &Run,
-    spans: &[Span],
-    anchor: &GoalAnchor,
-) -> Result<Vec<Time>, OutOfMemory>
-    requires fresh { IsFresh model.now run.now.plan run.now.bound run.now }
-    requires anchor { IsTrue (is_anchor model.now anchor.now) }
-    requires spans { map defined_span spans.now ≡ spans_of model.now run.now }
-    ensures permutation { IfOk result (λ made. IsPermutation (goal_anchors model.now run.now anchor.now) made.items) }
-    ensures rises { IfOk result (λ made. Rises made.items) }
-{
-    let anchors = anchors_of(alloc, model, run, spans, anchor)?;
-    in_order(anchors)
 }

@@ -11,7 +11,7 @@ ghost use Rattle.span_table.specs.SpanLaws.{AreSpansOf};
 ghost use Rattle.goals.specs.Tries.{admits as admitted, spread_limit, spread_times};
 
 use crate::gap::Gap;
-use crate::gaps::Beside;
+use crate::gaps::StartRange;
 use crate::matching::match_spans;
 use crate::types::{Goal, GoalKind};
 use aerie_base::{Model, OutOfMemory, Time};
@@ -108,24 +108,24 @@ fn after_gap(gap: &Gap, shift: &i64) -> i128
 }
 
 /// How much later a start may be beside an anchor than the earliest.
-fn width(beside: &Beside) -> u64
-    ensures { result ≡ unsigned_abs (beside.now.to -ℤ beside.now.from) }
+fn width(range: &StartRange) -> u64
+    ensures { result ≡ unsigned_abs (range.now.to -ℤ range.now.from) }
 {
-    beside.to.abs_diff(beside.from)
+    range.to.abs_diff(range.from)
 }
 
 /// The times that a coexistence tries.
-fn coexistence_spread(gap: &Gap, beside: &Beside) -> Spread
-    ensures first { result.first ≡ gap.now.at +ℤ beside.now.from }
-    ensures step { result.step ≡ pos (try_step (unsigned_abs (beside.now.to -ℤ beside.now.from)) 99) }
-    ensures bound { result.bound ≡ UpTo (gap.now.at +ℤ beside.now.to) }
+fn coexistence_spread(gap: &Gap, range: &StartRange) -> Spread
+    ensures first { result.first ≡ gap.now.at +ℤ range.now.from }
+    ensures step { result.step ≡ pos (try_step (unsigned_abs (range.now.to -ℤ range.now.from)) 99) }
+    ensures bound { result.bound ≡ UpTo (gap.now.at +ℤ range.now.to) }
     ensures small { unsigned_abs result.first ≤ spread_limit }
     ensures slow { unsigned_abs result.step ≤ spread_limit }
 {
     Spread {
-        first: after_gap(gap, &beside.from),
-        step: step_of(width(beside), 99),
-        bound: Bound::UpTo(after_gap(gap, &beside.to)),
+        first: after_gap(gap, &range.from),
+        step: step_of(width(range), 99),
+        bound: Bound::UpTo(after_gap(gap, &range.to)),
     }
 }
 
@@ -156,11 +156,11 @@ fn times_by_kind(alloc: Global, gap: &Gap, kind: &GoalKind) -> Result<Vec<i128>,
             Ok(times)
         }
         GoalKind::Coexistence { from, to, .. } => {
-            let beside = Beside {
+            let range = StartRange {
                 from: *from,
                 to: *to,
             };
-            let spread = coexistence_spread(gap, &beside);
+            let spread = coexistence_spread(gap, &range);
             let times = times_of(alloc, &spread)?;
             Ok(times)
         }

@@ -11,7 +11,7 @@ ghost use Rattle.span_table.specs.SpanLaws.{AreSpansOf};
 use crate::anchors::anchors_of;
 use crate::first_gaps::is_completed;
 use crate::gap::Gap;
-use crate::gaps::{Beside, count_within, has_start, recurrence_gap};
+use crate::gaps::{StartRange, count_within, has_start, recurrence_gap};
 use crate::matching::match_spans;
 use crate::types::{Goal, GoalKind};
 use aerie_base::{Model, OutOfMemory, Time};
@@ -30,12 +30,12 @@ fn is_behind(gap: &Gap, next: Option<Time>) -> bool
 }
 
 /// Whether the gap is one of the anchors, and has no start beside it.
-fn is_left(gap: &Gap, beside: &Beside, starts: &[Time], anchors: &[Time]) -> bool
-    ensures { result ≡ left_over beside.now.from beside.now.to starts.now anchors.now gap.now.at }
+fn is_left(gap: &Gap, range: &StartRange, starts: &[Time], anchors: &[Time]) -> bool
+    ensures { result ≡ left_over range.now.from range.now.to starts.now anchors.now gap.now.at }
 {
     for anchor in anchors {
         if anchor.get() == gap.at {
-            return !has_start(beside, starts, *anchor);
+            return !has_start(range, starts, *anchor);
         }
     }
     false
@@ -62,11 +62,11 @@ fn filled_by_kind(
         }
         GoalKind::Coexistence { anchor, from, to } => {
             let anchors = anchors_of(alloc, model, run, spans, anchor)?;
-            let beside = Beside {
+            let range = StartRange {
                 from: *from,
                 to: *to,
             };
-            Ok(!is_left(gap, &beside, &starts, &anchors))
+            Ok(!is_left(gap, &range, &starts, &anchors))
         }
         GoalKind::Cardinality { from, to, .. } => {
             let found = count_within(*from, *to, &starts);

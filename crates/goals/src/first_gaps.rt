@@ -9,9 +9,9 @@ ghost use Rattle.span_table.specs.SpanLaws.{AreSpansOf};
 ghost use Rattle.goals.specs.Merging.{Rises};
 ghost use Rattle.goals.specs.OfModel.{is_anchor, is_goal};
 
-use crate::anchors::sorted_anchors;
+use crate::anchors::{anchors_of, in_order};
 use crate::gap::Gap;
-use crate::gaps::{Beside, cardinality_gap, coexistence_gap, recurrence_gap};
+use crate::gaps::{StartRange, cardinality_gap, coexistence_gap, recurrence_gap};
 use crate::matching::match_spans;
 use crate::types::{Goal, GoalAnchor, GoalKind};
 use aerie_base::{Model, OutOfMemory, Time};
@@ -50,16 +50,17 @@ fn anchor_gap(
     spans: &[Span],
     starts: &[Time],
     anchor: &GoalAnchor,
-    beside: &Beside,
+    range: &StartRange,
 ) -> Result<Option<Time>, OutOfMemory>
     requires fresh { IsFresh model.now run.now.plan run.now.bound run.now }
     requires anchor { IsTrue (is_anchor model.now anchor.now) }
     requires spans { map defined_span spans.now ≡ spans_of model.now run.now }
     requires rises { Rises starts.now }
-    ensures { IfOk result (λ gap. gap ≡ anchor_gap_of model.now run.now starts.now anchor.now beside.now.from beside.now.to) }
+    ensures { IfOk result (λ gap. gap ≡ anchor_gap_of model.now run.now starts.now anchor.now range.now.from range.now.to) }
 {
-    let anchors = sorted_anchors(alloc, model, run, spans, anchor)?;
-    let gap = coexistence_gap(beside, starts, anchors.as_slice());
+    let found = anchors_of(alloc, model, run, spans, anchor)?;
+    let anchors = in_order(found)?;
+    let gap = coexistence_gap(range, starts, anchors.as_slice());
     Ok(gap)
 }
 
@@ -83,11 +84,11 @@ fn gap_by_kind(
             Ok(at_time(recurrence_gap(*every, *from, *to, starts)))
         }
         GoalKind::Coexistence { anchor, from, to } => {
-            let beside = Beside {
+            let range = StartRange {
                 from: *from,
                 to: *to,
             };
-            let gap = anchor_gap(alloc, model, run, spans, starts, anchor, &beside)?;
+            let gap = anchor_gap(alloc, model, run, spans, starts, anchor, &range)?;
             Ok(at_time(gap))
         }
         GoalKind::Cardinality { count, from, to } => {

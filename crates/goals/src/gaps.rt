@@ -87,14 +87,14 @@ fn begins_by(starts: &[Time], latest: i128) -> bool
 
 /// Which starts are beside an anchor.
 #[derive(Clone, Copy)]
-pub(crate) struct Beside {
+pub(crate) struct StartRange {
     /// How long after the anchor they are at the earliest, in microseconds.
     pub(crate) from: i64,
     /// How long after the anchor they are at the latest, in microseconds.
     pub(crate) to: i64,
 }
 
-impl Beside {
+impl StartRange {
     /// When a start is beside the anchor at the earliest.
     fn earliest(&self, anchor: Time) -> i128
         ensures { result ≡ pos anchor +ℤ self.now.from }
@@ -119,13 +119,13 @@ impl Beside {
 }
 
 /// The first anchor that has no start beside it: one merge of anchors and starts, which both rise.
-fn merged_gap(beside: &Beside, starts: &[Time], anchors: &[Time]) -> Option<Time>
-    ensures { result ≡ gap_by_merge beside.now.from beside.now.to starts.now anchors.now }
+fn merged_gap(range: &StartRange, starts: &[Time], anchors: &[Time]) -> Option<Time>
+    ensures { result ≡ gap_by_merge range.now.from range.now.to starts.now anchors.now }
 {
     let mut left = starts;
     for anchor in anchors {
-        left = from_time(left, beside.earliest(*anchor));
-        if !begins_by(left, beside.latest(*anchor)) {
+        left = from_time(left, range.earliest(*anchor));
+        if !begins_by(left, range.latest(*anchor)) {
             return Some(*anchor);
         }
     }
@@ -135,20 +135,20 @@ fn merged_gap(beside: &Beside, starts: &[Time], anchors: &[Time]) -> Option<Time
 /// The least anchor that has no start beside it, of anchors and starts that rise. It takes steps as there are anchors and
 /// starts.
 #[tactic(auto, using(crate::proofs::MergedGaps::merged))]
-pub(crate) fn coexistence_gap(beside: &Beside, starts: &[Time], anchors: &[Time]) -> Option<Time>
+pub(crate) fn coexistence_gap(range: &StartRange, starts: &[Time], anchors: &[Time]) -> Option<Time>
     requires starts { Rises starts.now }
     requires anchors { Rises anchors.now }
-    ensures { result ≡ least_without beside.now.from beside.now.to starts.now anchors.now }
+    ensures { result ≡ least_without range.now.from range.now.to starts.now anchors.now }
 {
-    merged_gap(beside, starts, anchors)
+    merged_gap(range, starts, anchors)
 }
 
 /// Whether some of the starts is beside the anchor.
-pub(crate) fn has_start(beside: &Beside, starts: &[Time], anchor: Time) -> bool
-    ensures { result ≡ has_start_by beside.now.from beside.now.to starts.now anchor }
+pub(crate) fn has_start(range: &StartRange, starts: &[Time], anchor: Time) -> bool
+    ensures { result ≡ has_start_by range.now.from range.now.to starts.now anchor }
 {
     for start in starts {
-        if beside.admits(anchor, *start) {
+        if range.admits(anchor, *start) {
             return true;
         }
     }

@@ -13,23 +13,25 @@ use Rattle.plan_edit.specs.declared.errors.MigrateError.{MigrateError}
 use Rattle.plan_edit.specs.declared.errors.MigrateError.TheVariants as migration
 use Rattle.plan_edit.specs.declared.mappings.Mapping.{Mapping}
 use Rattle.plan_edit.specs.Migrating.{migrate_of}
-use Rattle.plan_edit.specs.Editing.{add_of, remove_of, move_of, set_of}
-use Rattle.plan_edit.specs.Loading.{load_of}
+use Rattle.commands.specs.SessionModels.{empty_plan}
+use Rattle.commands.specs.declared.edits.Edit.{Edit as PlanEdit}
+use Rattle.commands.specs.declared.edits.Edit.TheVariants as edit
 use Rattle.run_data.specs.KeptRuns.{KeptRun}
 use Rattle.hangar_core.specs.declared.actions.Action.{Action}
-use Rattle.hangar_core.specs.declared.actions.Action.TheVariants.{New, Fork, Drop, Add, Remove, Move, Set, Load, Migrate, Fetch, Attach, Place}
+use Rattle.hangar_core.specs.declared.actions.Action.TheVariants.{New, Fork, Drop, Edit, Migrate, Fetch, Attach, Place}
 use Rattle.hangar_core.specs.declared.branches.Branch.{Branch}
 use Rattle.hangar_core.specs.declared.replies.Reply.{Reply}
 use Rattle.hangar_core.specs.declared.replies.Reply.TheVariants as reply
 use Rattle.hangar_core.specs.declared.workspaces.Workspace.{Workspace}
 use Rattle.hangar_core.specs.Replies.{accepted_with}
 use Rattle.hangar_core.specs.Workspaces.{branch_named, has_name, on_branch, on_found, put_where_named, with_branch}
-use Rattle.hangar_core.specs.Opening.{LastRevisions, dropped_branch, dropped_where, empty_plan, first_revision, forked_from, has_other_name, last_revision, opened, opened_branch, opened_unless, refusal_to_open, remembered, revision_after}
-use Rattle.hangar_core.specs.Changing.{Told, attached, by_model, edited, fetched, if_edited, if_migrated, mapping_to, migrated_by, migrated_to, placed_branch, told_added, told_edited, told_loaded, with_plan}
-use Rattle.hangar_core.specs.Standing.{AreRevisionsWithin, branch_names}
+use Rattle.hangar_core.specs.Opening.{LastRevisions, dropped_branch, dropped_where, first_revision, forked_from, has_other_name, last_revision, opened, opened_branch, opened_unless, refusal_to_open, remembered, revision_after}
+use Rattle.hangar_core.specs.Changing.{Told, attached, by_model, edited, fetched, if_edited, if_migrated, mapping_to, migrated_by, migrated_to, placed_branch, with_plan}
+use Rattle.hangar_core.specs.Edits.{edited_as, told_of}
+use Rattle.hangar_core.specs.ValidWorkspaces.{AreRevisionsWithin, branch_names}
 use Rattle.hangar_core.specs.Steps.{step}
 use Rattle.hangar_core.proofs.Plain.{none_some, some_same}
-use Rattle.hangar_core.proofs.Places.{put_same}
+use Rattle.hangar_core.proofs.Positions.{put_same}
 
 -- what a change answers goes with what it leaves: a revision more is an accepted one, and a refusal leaves the branch
 pub record Tells (branch : Branch) (told : Told) : Type 0 where
@@ -51,6 +53,16 @@ pub edited_tells : (models : List Parts) (edit : Parts → Plan → Result Plan 
     ((old new : Plan) (revision : ℕ) → accepted_with (told old new revision) ≡ 1) → (branch : Branch) → Tells branch (edited models edit told branch)
 edited_tells models edit told one branch =
     if_edited_tells branch (told branch.plan) (one branch.plan) (by_model (slice_get models branch.plan.model) (λ model. edit model branch.plan))
+
+told_counts : (edit : PlanEdit) (old new : Plan) (revision : ℕ) → accepted_with (told_of edit old new revision) ≡ 1
+told_counts (edit.Add at kind arguments) old new revision = refl
+told_counts (edit.Remove id) old new revision = refl
+told_counts (edit.Move id at) old new revision = refl
+told_counts (edit.Set id parameter value) old new revision = refl
+told_counts (edit.Load text) old new revision = refl
+
+edit_tells : (models : List Parts) (edit : PlanEdit) (branch : Branch) → Tells branch (edited_as models edit branch)
+edit_tells models edit = edited_tells models _ (told_of edit) (told_counts edit)
 
 if_migrated_tells : (branch : Branch) (made : Result Plan MigrateError) → Tells branch (if_migrated branch made)
 if_migrated_tells branch (Ok plan) = raised branch plan (reply.Edited (branch.revision + 1)) refl
@@ -112,16 +124,7 @@ unfolding step
 step_stays w (New branch) d z = opened_stays w branch (empty_plan w.duration) None z
 step_stays w (Fork branch source) d z = forked_stays w branch (branch_named w source) z
 step_stays w (Drop branch) d z = dropped_stays w branch (branch_named w branch) z
-step_stays w (Add branch at kind arguments) d z =
-    found_stays w branch _ (edited_tells w.models (λ model plan. add_of model plan at kind arguments) told_added (λ old new revision. refl)) d z
-step_stays w (Remove branch id) d z =
-    found_stays w branch _ (edited_tells w.models (λ model plan. remove_of plan id) told_edited (λ old new revision. refl)) d z
-step_stays w (Move branch id at) d z =
-    found_stays w branch _ (edited_tells w.models (λ model plan. move_of plan id at) told_edited (λ old new revision. refl)) d z
-step_stays w (Set branch id parameter value) d z =
-    found_stays w branch _ (edited_tells w.models (λ model plan. set_of model plan id parameter value) told_edited (λ old new revision. refl)) d z
-step_stays w (Load branch text) d z =
-    found_stays w branch _ (edited_tells w.models (λ model plan. load_of model plan text) told_loaded (λ old new revision. refl)) d z
+step_stays w (Edit branch edit) d z = found_stays w branch _ (edit_tells w.models edit) d z
 step_stays w (Migrate branch model) d z =
     found_stays w branch _ (λ b. migrated_by_tells w.models b (mapping_to w.models w.mappings b.plan.model model)) d z
 step_stays w (Fetch branch) d z = found_stays w branch fetched fetched_tells d z
@@ -245,16 +248,7 @@ unfolding step
 step_counts most w (New branch) h = opened_counts most w branch (empty_plan w.duration) None h
 step_counts most w (Fork branch source) h = forked_counts most w branch (branch_named w source) h
 step_counts most w (Drop branch) h = dropped_counts most w branch h
-step_counts most w (Add branch at kind arguments) h =
-    found_counts most w branch _ (edited_tells w.models (λ model plan. add_of model plan at kind arguments) told_added (λ old new revision. refl)) h
-step_counts most w (Remove branch id) h =
-    found_counts most w branch _ (edited_tells w.models (λ model plan. remove_of plan id) told_edited (λ old new revision. refl)) h
-step_counts most w (Move branch id at) h =
-    found_counts most w branch _ (edited_tells w.models (λ model plan. move_of plan id at) told_edited (λ old new revision. refl)) h
-step_counts most w (Set branch id parameter value) h =
-    found_counts most w branch _ (edited_tells w.models (λ model plan. set_of model plan id parameter value) told_edited (λ old new revision. refl)) h
-step_counts most w (Load branch text) h =
-    found_counts most w branch _ (edited_tells w.models (λ model plan. load_of model plan text) told_loaded (λ old new revision. refl)) h
+step_counts most w (Edit branch edit) h = found_counts most w branch _ (edit_tells w.models edit) h
 step_counts most w (Migrate branch model) h =
     found_counts most w branch _ (λ b. migrated_by_tells w.models b (mapping_to w.models w.mappings b.plan.model model)) h
 step_counts most w (Fetch branch) h = found_counts most w branch fetched fetched_tells h

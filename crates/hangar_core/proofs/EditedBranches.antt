@@ -11,13 +11,15 @@ use Rattle.plan_edit.specs.declared.errors.EditError.{EditError}
 use Rattle.plan_edit.specs.declared.errors.EditError.TheVariants as error
 use Rattle.plan_edit.specs.declared.mappings.Mapping.{Mapping}
 use Rattle.plan_edit.specs.Answers.{IsRefusal}
+use Rattle.commands.specs.Edits.{edit_of}
+use Rattle.commands.specs.SessionModels.{IsPlanAmong}
 use Rattle.hangar_core.specs.declared.branches.Branch.{Branch}
-use Rattle.hangar_core.specs.declared.edits.Edit.{Edit}
+use Rattle.commands.specs.declared.edits.Edit.{Edit}
 use Rattle.hangar_core.specs.declared.replies.Reply.{Reply}
 use Rattle.hangar_core.specs.declared.replies.Reply.TheVariants as reply
 use Rattle.hangar_core.specs.Changing.{Told, by_model, edited, goes_to, if_edited, is_named, mapping_to}
-use Rattle.hangar_core.specs.Edits.{edit_of, IsToldRefusal, told_of}
-use Rattle.hangar_core.specs.Standing.{IsBranchIn, IsPlanAmong}
+use Rattle.hangar_core.specs.Edits.{IsToldRefusal, told_of}
+use Rattle.hangar_core.specs.ValidWorkspaces.{IsBranchIn}
 use Rattle.hangar_core.proofs.Plain.{none_some, some_same}
 use Rattle.hangar_core.proofs.KeptFields.{edit_keeps}
 

@@ -3,16 +3,18 @@ use Rattle.std.proofs.Common.{◌≡◌, ℕ, ◌+◌, ◌<◌, ◌≤◌, Bool,
 use Rattle.std.specs.Prelude.{if◌then◌else◌, nat_lt}
 use Rattle.aerie_base.specs.declared.plans.Plan.{Plan}
 use Rattle.aerie_base.specs.models.Names.{same_name}
+use Rattle.commands.specs.SessionModels.{empty_plan}
 use Rattle.run_data.specs.KeptRuns.{KeptRun}
 use Rattle.hangar_core.specs.declared.actions.Action.{Action}
-use Rattle.hangar_core.specs.declared.actions.Action.TheVariants.{New, Fork, Drop, Add, Remove, Move, Set, Load, Migrate, Fetch, Attach, Place}
+use Rattle.hangar_core.specs.declared.actions.Action.TheVariants.{New, Fork, Drop, Edit, Migrate, Fetch, Attach, Place}
 use Rattle.hangar_core.specs.declared.branches.Branch.{Branch}
 use Rattle.hangar_core.specs.declared.replies.Reply.{Reply}
 use Rattle.hangar_core.specs.declared.replies.Reply.TheVariants.{BranchExists, TooManyBranches}
 use Rattle.hangar_core.specs.declared.workspaces.Workspace.{Workspace}
 use Rattle.hangar_core.specs.Workspaces.{branch_limit, branch_named, has_name, on_branch, on_found, with_branch}
-use Rattle.hangar_core.specs.Opening.{LastRevisions, dropped_branch, dropped_where, empty_plan, first_revision, forked_from, opened, opened_branch, opened_unless, refusal_to_open, remembered, revision_after, without_branch}
-use Rattle.hangar_core.specs.Changing.{Told, attached, fetched, placed_branch, told_added, told_edited, told_loaded}
+use Rattle.hangar_core.specs.Opening.{LastRevisions, dropped_branch, dropped_where, first_revision, forked_from, opened, opened_branch, opened_unless, refusal_to_open, remembered, revision_after, without_branch}
+use Rattle.hangar_core.specs.Changing.{Told, attached, fetched, placed_branch}
+use Rattle.hangar_core.specs.Edits.{told_of}
 use Rattle.hangar_core.specs.Steps.{step, after_actions}
 use Rattle.hangar_core.specs.laws.Histories.{Meets, RevisionsNeverFall, RevisionsNamePlans}
 use Rattle.hangar_core.proofs.Plain.{none_some}
@@ -139,11 +141,7 @@ unfolding step
 step_past before name w (New branch) h = opened_past before name w branch (empty_plan w.duration) None h
 step_past before name w (Fork branch source) h = forked_past before name w branch (branch_named w source) h
 step_past before name w (Drop branch) h = dropped_past before name w branch h
-step_past before name w (Add branch at kind arguments) h = changed_past before name w branch _ (edited_follows w.models _ told_added) h
-step_past before name w (Remove branch id) h = changed_past before name w branch _ (edited_follows w.models _ told_edited) h
-step_past before name w (Move branch id at) h = changed_past before name w branch _ (edited_follows w.models _ told_edited) h
-step_past before name w (Set branch id parameter value) h = changed_past before name w branch _ (edited_follows w.models _ told_edited) h
-step_past before name w (Load branch text) h = changed_past before name w branch _ (edited_follows w.models _ told_loaded) h
+step_past before name w (Edit branch edit) h = changed_past before name w branch _ (edited_follows w.models _ (told_of edit)) h
 step_past before name w (Migrate branch model) h = changed_past before name w branch _ (migrated_follows w.models w.mappings model) h
 step_past before name w (Fetch branch) h = changed_past before name w branch fetched itself h
 step_past before name w (Attach branch kept) h = changed_past before name w branch (attached kept) (attached_follows kept) h

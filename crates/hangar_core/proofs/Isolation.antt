@@ -3,15 +3,14 @@ use Rattle.std.proofs.Common.{◌≡◌, ℕ, List, Option, Some, None, refl, sy
 use Rattle.aerie_base.specs.declared.models.model.Parts.{Parts}
 use Rattle.aerie_base.specs.models.Names.{same_name}
 use Rattle.plan_edit.specs.declared.mappings.Mapping.{Mapping}
-use Rattle.plan_edit.specs.Editing.{add_of, remove_of, move_of, set_of}
-use Rattle.plan_edit.specs.Loading.{load_of}
 use Rattle.hangar_core.specs.declared.actions.Action.{Action}
-use Rattle.hangar_core.specs.declared.actions.Action.TheVariants.{New, Fork, Drop, Add, Remove, Move, Set, Load, Migrate, Fetch, Attach, Place}
+use Rattle.hangar_core.specs.declared.actions.Action.TheVariants.{New, Fork, Drop, Edit, Migrate, Fetch, Attach, Place}
 use Rattle.hangar_core.specs.declared.branches.Branch.{Branch}
 use Rattle.hangar_core.specs.declared.workspaces.Workspace.{Workspace}
 use Rattle.hangar_core.specs.Workspaces.{Answered, branch_named, on_branch, on_found, with_branch}
 use Rattle.hangar_core.specs.Opening.{dropped_branch, dropped_where}
-use Rattle.hangar_core.specs.Changing.{Told, attached, edited, fetched, migrated_branch, placed_branch, told_added, told_edited, told_loaded}
+use Rattle.hangar_core.specs.Changing.{Told, attached, fetched, migrated_branch, placed_branch}
+use Rattle.hangar_core.specs.Edits.{edited_as, told_of}
 use Rattle.hangar_core.specs.Steps.{step}
 use Rattle.hangar_core.specs.laws.Isolation.{AreAlikeOn, BranchesAreIsolated, only_branch, OtherBranchesStay}
 use Rattle.hangar_core.proofs.Plain.{none_some, some_same}
@@ -89,21 +88,9 @@ unfolding step
 steps_alike (New branch) name w v e alike = absurd (none_some _ name refl e)
 steps_alike (Fork branch source) name w v e alike = absurd (none_some _ name refl e)
 steps_alike (Drop branch) name w v e alike = on_own (Drop branch) branch name w v e (dropped_alike branch w v) alike
-steps_alike (Add branch at kind arguments) name w v e alike =
-    on_own (Add branch at kind arguments) branch name w v e
-    (made_alike (λ models mappings. edited models (λ model plan. add_of model plan at kind arguments) told_added) (λ models mappings. edited_follows models _ told_added) branch w v) alike
-steps_alike (Remove branch id) name w v e alike =
-    on_own (Remove branch id) branch name w v e
-    (made_alike (λ models mappings. edited models (λ model plan. remove_of plan id) told_edited) (λ models mappings. edited_follows models _ told_edited) branch w v) alike
-steps_alike (Move branch id at) name w v e alike =
-    on_own (Move branch id at) branch name w v e
-    (made_alike (λ models mappings. edited models (λ model plan. move_of plan id at) told_edited) (λ models mappings. edited_follows models _ told_edited) branch w v) alike
-steps_alike (Set branch id parameter value) name w v e alike =
-    on_own (Set branch id parameter value) branch name w v e
-    (made_alike (λ models mappings. edited models (λ model plan. set_of model plan id parameter value) told_edited) (λ models mappings. edited_follows models _ told_edited) branch w v) alike
-steps_alike (Load branch text) name w v e alike =
-    on_own (Load branch text) branch name w v e
-    (made_alike (λ models mappings. edited models (λ model plan. load_of model plan text) told_loaded) (λ models mappings. edited_follows models _ told_loaded) branch w v) alike
+steps_alike (Edit branch edit) name w v e alike =
+    on_own (Edit branch edit) branch name w v e
+    (made_alike (λ models mappings. edited_as models edit) (λ models mappings. edited_follows models _ (told_of edit)) branch w v) alike
 steps_alike (Migrate branch model) name w v e alike =
     on_own (Migrate branch model) branch name w v e
     (made_alike (λ models mappings. migrated_branch models mappings model) (λ models mappings. migrated_follows models mappings model) branch w v) alike
@@ -146,11 +133,7 @@ unfolding step
 others_stay (New branch) name another w e n = absurd (none_some _ name refl e)
 others_stay (Fork branch source) name another w e n = absurd (none_some _ name refl e)
 others_stay (Drop branch) name another w e n = dropped_others branch another (apart_too branch name another e n) w
-others_stay (Add branch at kind arguments) name another w e n = made_others _ (edited_follows w.models _ told_added) branch another (apart_too branch name another e n) w
-others_stay (Remove branch id) name another w e n = made_others _ (edited_follows w.models _ told_edited) branch another (apart_too branch name another e n) w
-others_stay (Move branch id at) name another w e n = made_others _ (edited_follows w.models _ told_edited) branch another (apart_too branch name another e n) w
-others_stay (Set branch id parameter value) name another w e n = made_others _ (edited_follows w.models _ told_edited) branch another (apart_too branch name another e n) w
-others_stay (Load branch text) name another w e n = made_others _ (edited_follows w.models _ told_loaded) branch another (apart_too branch name another e n) w
+others_stay (Edit branch edit) name another w e n = made_others _ (edited_follows w.models _ (told_of edit)) branch another (apart_too branch name another e n) w
 others_stay (Migrate branch model) name another w e n = made_others _ (migrated_follows w.models w.mappings model) branch another (apart_too branch name another e n) w
 others_stay (Fetch branch) name another w e n = made_others fetched itself branch another (apart_too branch name another e n) w
 others_stay (Attach branch kept) name another w e n = made_others (attached kept) (attached_follows kept) branch another (apart_too branch name another e n) w

@@ -3,18 +3,18 @@ use Rattle.std.proofs.Common.{◌≡◌, ℕ, Bool, true, false, List, [], ◌�
 use Rattle.aerie_base.specs.declared.models.model.Parts.{Parts}
 use Rattle.aerie_base.specs.declared.plans.Directive.{Directive}
 use Rattle.aerie_base.specs.declared.plans.Plan.{Plan}
-use Rattle.aerie_base.specs.plans.OfModel.{with_id}
+use Rattle.aerie_base.specs.plans.OfModel.{with_id, is_dangling, is_id_of}
 use Rattle.plan_edit.specs.declared.errors.EditError.{EditError}
 use Rattle.plan_edit.specs.declared.errors.EditError.TheVariants as error
 use Rattle.plan_edit.specs.declared.errors.MigrateError.{MigrateError}
 use Rattle.plan_edit.specs.declared.mappings.Mapping.{Mapping}
 use Rattle.plan_edit.specs.Answers.{PossibleRefusal, then_made_of, unless_refused}
-use Rattle.plan_edit.specs.Editing.{arguments_set, directive_added, is_anchored_to, is_loose, is_outside, leads_to, moved_directive, of_directive, unless_anchored, with_added, with_arguments, with_changed, without}
+use Rattle.plan_edit.specs.Editing.{arguments_set, directive_added, is_anchored_to, is_outside, leads_to, moved_directive, of_directive, unless_anchored, with_added, with_arguments, with_changed, without}
 use Rattle.plan_edit.specs.Loading.{directives_of_text, with_loaded}
 use Rattle.plan_edit.specs.Migrating.{all_migrated, migrate_of, with_migrated}
-use Rattle.hangar_core.specs.declared.edits.Edit.{Edit}
-use Rattle.hangar_core.specs.declared.edits.Edit.TheVariants.{Add, Remove, Move, Set, Load}
-use Rattle.hangar_core.specs.Edits.{edit_of}
+use Rattle.commands.specs.declared.edits.Edit.{Edit}
+use Rattle.commands.specs.declared.edits.Edit.TheVariants.{Add, Remove, Move, Set, Load}
+use Rattle.commands.specs.Edits.{edit_of}
 
 abbrev ok_of : {A E : Type 0} → A → Result A E → A
 ok_of d (Ok x) = x
@@ -71,7 +71,7 @@ edit_keeps (Remove id) model plan new e =
 edit_keeps (Move id at) model plan new e =
     of_one plan.model plan.duration _ (with_id plan.directives id) new
     (λ directive k. not_refused plan.model plan.duration
-    ((is_outside plan at.start, error.OutsidePlan) ∷ (is_loose plan at.anchor, error.NoAnchor) ∷ (leads_to plan id at.anchor, error.Cycle) ∷ [])
+    ((is_outside plan at.start, error.OutsidePlan) ∷ (is_dangling (is_id_of plan.directives) at.anchor, error.NoAnchor) ∷ (leads_to plan id at.anchor, error.Cycle) ∷ [])
     (with_changed plan id (moved_directive at)) new (refl, refl) k) e
 edit_keeps (Set id parameter value) model plan new e =
     of_one plan.model plan.duration _ (with_id plan.directives id) new

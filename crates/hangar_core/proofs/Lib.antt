@@ -1,5 +1,5 @@
 pub mod Plain
-pub mod Turns
+pub mod InRounds
 pub mod Serial
 pub mod Same
 pub mod Named
@@ -7,7 +7,7 @@ pub mod Lasts
 pub mod Following
 pub mod Histories
 pub mod Isolation
-pub mod Places
+pub mod Positions
 pub mod Standings
 pub mod Counts
 pub mod KeptFields

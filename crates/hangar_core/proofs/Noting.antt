@@ -6,7 +6,7 @@ use Rattle.hangar_core.specs.declared.replies.Reply.{Reply}
 use Rattle.hangar_core.specs.declared.replies.Reply.TheVariants as reply
 use Rattle.hangar_core.specs.Replies.{accepted_with}
 use Rattle.hangar_core.specs.Journals.{Entries, accepted_in}
-use Rattle.hangar_core.specs.Standing.{CountedWorkspace, IsStepped}
+use Rattle.hangar_core.specs.ValidWorkspaces.{CountedWorkspace, IsStepped}
 
 at_most_one : (told : Reply) → accepted_with told ≤ 1
 at_most_one (reply.Opened revision) = omega arith

@@ -7,7 +7,7 @@ use Rattle.hangar_core.specs.declared.actions.Action.{Action}
 use Rattle.hangar_core.specs.declared.replies.Reply.{Reply}
 use Rattle.hangar_core.specs.declared.workspaces.Workspace.{Workspace}
 use Rattle.hangar_core.specs.Steps.{step}
-use Rattle.hangar_core.specs.declared.commands.Command.{Command}
+use Rattle.commands.specs.declared.commands.Command.{Command}
 use Rattle.hangar_core.specs.declared.entries.Entry.{Entry}
 use Rattle.hangar_core.specs.Fits.{Meanings, IsCommand, IsWorkOf, commands_of, is_of_client, Fits, triple_of}
 use Rattle.hangar_core.specs.Journals.{Entries, IsReplay}

@@ -1,15 +1,16 @@
 -- A step leaves the models, the mappings and the duration of a session as they are.
 use Rattle.std.proofs.Common.{ℕ, List, Option, Some, None, refl}
 use Rattle.aerie_base.specs.declared.plans.Plan.{Plan}
+use Rattle.commands.specs.SessionModels.{empty_plan}
 use Rattle.run_data.specs.KeptRuns.{KeptRun}
 use Rattle.hangar_core.specs.declared.actions.Action.{Action}
-use Rattle.hangar_core.specs.declared.actions.Action.TheVariants.{New, Fork, Drop, Add, Remove, Move, Set, Load, Migrate, Fetch, Attach, Place}
+use Rattle.hangar_core.specs.declared.actions.Action.TheVariants.{New, Fork, Drop, Edit, Migrate, Fetch, Attach, Place}
 use Rattle.hangar_core.specs.declared.branches.Branch.{Branch}
 use Rattle.hangar_core.specs.declared.replies.Reply.{Reply}
 use Rattle.hangar_core.specs.declared.workspaces.Workspace.{Workspace}
 use Rattle.hangar_core.specs.Changing.{Told}
-use Rattle.hangar_core.specs.Opening.{dropped_where, empty_plan, forked_from, opened_unless, refusal_to_open}
-use Rattle.hangar_core.specs.Standing.{IsOfSameSession}
+use Rattle.hangar_core.specs.Opening.{dropped_where, forked_from, opened_unless, refusal_to_open}
+use Rattle.hangar_core.specs.ValidWorkspaces.{IsOfSameSession}
 use Rattle.hangar_core.specs.Steps.{step}
 use Rattle.hangar_core.specs.Workspaces.{branch_named, on_found}
 
@@ -37,11 +38,7 @@ unfolding step
 step_same w (New branch) = opened_same w branch (empty_plan w.duration) None (refusal_to_open w branch)
 step_same w (Fork branch source) = forked_same w branch (branch_named w source)
 step_same w (Drop branch) = dropped_same w branch (branch_named w branch)
-step_same w (Add branch at kind arguments) = found_same w branch _ (branch_named w branch)
-step_same w (Remove branch id) = found_same w branch _ (branch_named w branch)
-step_same w (Move branch id at) = found_same w branch _ (branch_named w branch)
-step_same w (Set branch id parameter value) = found_same w branch _ (branch_named w branch)
-step_same w (Load branch text) = found_same w branch _ (branch_named w branch)
+step_same w (Edit branch edit) = found_same w branch _ (branch_named w branch)
 step_same w (Migrate branch model) = found_same w branch _ (branch_named w branch)
 step_same w (Fetch branch) = found_same w branch _ (branch_named w branch)
 step_same w (Attach branch kept) = found_same w branch _ (branch_named w branch)

@@ -6,10 +6,10 @@ use Rattle.aerie_base.specs.models.Names.{same_name, is_name_among, are_distinct
 use Rattle.aerie_base.specs.models.NameLaws.{among_appended}
 use Rattle.hangar_core.specs.declared.branches.Branch.{Branch}
 use Rattle.hangar_core.specs.Workspaces.{has_name}
-use Rattle.hangar_core.specs.Standing.{branch_names}
+use Rattle.hangar_core.specs.ValidWorkspaces.{branch_names}
 use Rattle.hangar_core.proofs.Plain.{none_some, some_same}
 use Rattle.hangar_core.proofs.Named.{name_is, same_when}
-use Rattle.hangar_core.proofs.Places.{absent_name, both, is_not}
+use Rattle.hangar_core.proofs.Positions.{absent_name, both, is_not}
 
 -- ---- facts on each branch
 

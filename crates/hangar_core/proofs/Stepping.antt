@@ -8,20 +8,23 @@ use Rattle.plan_edit.specs.declared.errors.MigrateError.{MigrateError}
 use Rattle.plan_edit.specs.declared.errors.MigrateError.TheVariants as migration
 use Rattle.plan_edit.specs.declared.mappings.Mapping.{Mapping}
 use Rattle.plan_edit.specs.Migrating.{migrate_of}
-use Rattle.plan_edit.specs.Editing.{add_of, remove_of, move_of, set_of}
-use Rattle.plan_edit.specs.Loading.{load_of}
+use Rattle.commands.specs.Edits.{edit_of}
+use Rattle.commands.specs.SessionModels.{empty_plan}
+use Rattle.commands.specs.declared.edits.Edit.{Edit as PlanEdit}
+use Rattle.commands.specs.declared.edits.Edit.TheVariants as edit
 use Rattle.run_data.specs.KeptRuns.{KeptRun}
 use Rattle.hangar_core.specs.declared.actions.Action.{Action}
-use Rattle.hangar_core.specs.declared.actions.Action.TheVariants.{New, Fork, Drop, Add, Remove, Move, Set, Load, Migrate, Fetch, Attach, Place}
+use Rattle.hangar_core.specs.declared.actions.Action.TheVariants.{New, Fork, Drop, Edit, Migrate, Fetch, Attach, Place}
 use Rattle.hangar_core.specs.declared.branches.Branch.{Branch}
 use Rattle.hangar_core.specs.declared.replies.Reply.{Reply}
 use Rattle.hangar_core.specs.declared.replies.Reply.TheVariants as reply
 use Rattle.hangar_core.specs.declared.workspaces.Workspace.{Workspace}
 use Rattle.hangar_core.specs.Replies.{accepted_with}
 use Rattle.hangar_core.specs.Workspaces.{Answered, branch_limit, branch_named, has_name, on_branch, on_found}
-use Rattle.hangar_core.specs.Opening.{dropped_where, empty_plan, forked_from, opened, opened_unless}
-use Rattle.hangar_core.specs.Changing.{Told, attached, by_model, edited, fetched, if_edited, if_migrated, mapping_to, migrated_by, migrated_to, placed_branch, told_added, told_edited, told_loaded, with_plan}
-use Rattle.hangar_core.specs.Standing.{AreRevisionsWithin, CountedWorkspace, IsBranchIn, IsHangar, IsOfSameSession, IsReplyOf, IsStepped, IsWorkspace}
+use Rattle.hangar_core.specs.Opening.{dropped_where, forked_from, opened, opened_unless}
+use Rattle.hangar_core.specs.Changing.{Told, attached, by_model, edited, fetched, if_edited, if_migrated, mapping_to, migrated_by, migrated_to, placed_branch, with_plan}
+use Rattle.hangar_core.specs.Edits.{told_of}
+use Rattle.hangar_core.specs.ValidWorkspaces.{AreRevisionsWithin, CountedWorkspace, IsBranchIn, IsHangar, IsOfSameSession, IsReplyOf, IsStepped, IsWorkspace}
 use Rattle.hangar_core.specs.Steps.{step}
 use Rattle.hangar_core.proofs.Plain.{none_some, some_same}
 use Rattle.hangar_core.proofs.Counts.{step_counts, step_stays}
@@ -50,6 +53,13 @@ module _ (models : List Parts) (duration : ℕ) where
       ((old new : Plan) (revision : ℕ) → IsReplyOf models duration (told old new revision)) → (branch : Branch) → IsReplyOf models duration (edited models edit told branch).0
   edited_told edit told one branch =
       if_edited_told branch (told branch.plan) (one branch.plan) (by_model (slice_get models branch.plan.model) (λ model. edit model branch.plan))
+
+  told_stands : (edit : PlanEdit) (old new : Plan) (revision : ℕ) → IsReplyOf models duration (told_of edit old new revision)
+  told_stands (edit.Add at kind arguments) old new revision = tt
+  told_stands (edit.Remove id) old new revision = tt
+  told_stands (edit.Move id at) old new revision = tt
+  told_stands (edit.Set id parameter value) old new revision = tt
+  told_stands (edit.Load text) old new revision = tt
 
   if_migrated_told : (branch : Branch) (made : Result Plan MigrateError) → IsReplyOf models duration (if_migrated branch made).0
   if_migrated_told branch (Ok plan) = tt
@@ -106,16 +116,8 @@ unfolding step
 step_told w (New branch) h = opened_told w branch (empty_plan w.duration) None
 step_told w (Fork branch source) h = forked_told w branch (branch_named w source)
 step_told w (Drop branch) h = dropped_told w branch (branch_named w branch)
-step_told w (Add branch at kind arguments) h = found_told w branch _ h
-    (λ b _. edited_told w.models w.duration (λ model plan. add_of model plan at kind arguments) told_added (λ old new revision. tt) b)
-step_told w (Remove branch id) h = found_told w branch _ h
-    (λ b _. edited_told w.models w.duration (λ model plan. remove_of plan id) told_edited (λ old new revision. tt) b)
-step_told w (Move branch id at) h = found_told w branch _ h
-    (λ b _. edited_told w.models w.duration (λ model plan. move_of plan id at) told_edited (λ old new revision. tt) b)
-step_told w (Set branch id parameter value) h = found_told w branch _ h
-    (λ b _. edited_told w.models w.duration (λ model plan. set_of model plan id parameter value) told_edited (λ old new revision. tt) b)
-step_told w (Load branch text) h = found_told w branch _ h
-    (λ b _. edited_told w.models w.duration (λ model plan. load_of model plan text) told_loaded (λ old new revision. tt) b)
+step_told w (Edit branch edit) h = found_told w branch _ h
+    (λ b _. edited_told w.models w.duration (edit_of edit) (told_of edit) (told_stands w.models w.duration edit) b)
 step_told w (Migrate branch model) h = found_told w branch _ h
     (λ b _. migrated_by_told w.models w.duration b (mapping_to w.models w.mappings b.plan.model model))
 step_told w (Fetch branch) h = found_told w branch fetched h (λ b of. (of.plan, of.kept))

@@ -10,17 +10,18 @@ use Rattle.aerie_base.specs.declared.plans.Plan.{Plan}
 use Rattle.aerie_base.specs.models.Names.{are_distinct}
 use Rattle.aerie_base.specs.plans.OfModel.{IsPlanOf}
 use Rattle.plan_edit.specs.declared.mappings.Mapping.{Mapping}
+use Rattle.commands.specs.SessionModels.{empty_plan}
 use Rattle.hangar_core.specs.declared.branches.Branch.{Branch}
 use Rattle.hangar_core.specs.declared.changes.BranchChange.{BranchChange}
 use Rattle.hangar_core.specs.declared.replies.Reply.{Reply}
 use Rattle.hangar_core.specs.declared.replies.Reply.TheVariants as reply
 use Rattle.hangar_core.specs.declared.workspaces.Workspace.{Workspace}
 use Rattle.hangar_core.specs.Edits.{change_of, IsMadeAt, IsMadeWhere, IsRevisionOf}
-use Rattle.hangar_core.specs.Opening.{dropped_where, empty_plan, has_other_name, IsForkOf, LastRevisions, refusal_to_open, remembered}
-use Rattle.hangar_core.specs.Standing.{AreRevisionsWithin, IsBranchIn, IsChangeOn, IsWorkspace, MayChange, branch_names}
+use Rattle.hangar_core.specs.Opening.{dropped_where, has_other_name, IsForkOf, LastRevisions, refusal_to_open, remembered}
+use Rattle.hangar_core.specs.ValidWorkspaces.{AreRevisionsWithin, IsBranchIn, IsChangeOn, IsWorkspace, MayChange, branch_names}
 use Rattle.hangar_core.specs.Workspaces.{Answered, branch_limit, branch_named, has_name, on_branch, on_found, put_where_named}
 use Rattle.hangar_core.proofs.Plain.{none_some, some_same}
-use Rattle.hangar_core.proofs.Places.{left_is_removed, put_is_set}
+use Rattle.hangar_core.proofs.Positions.{left_is_removed, put_is_set}
 use Rattle.hangar_core.proofs.Standings.{all_added, all_get, all_removed, all_set, distinct_opened, distinct_removed, names_set}
 use Rattle.hangar_core.proofs.Histories.{free_name}
 

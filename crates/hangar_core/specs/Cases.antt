@@ -6,18 +6,21 @@ use Rattle.aerie_base.specs.declared.values.Kind.TheVariants as kind
 use Rattle.aerie_base.specs.declared.arguments.RawValue.TheVariants as raw
 use Rattle.aerie_base.specs.declared.models.model.Parts.{Parts}
 use Rattle.plan_edit.specs.declared.errors.EditError.TheVariants.{NoDirective}
+use Rattle.commands.specs.SessionModels.{empty_plan}
+use Rattle.commands.specs.declared.edits.Edit.{Edit as PlanEdit}
+use Rattle.commands.specs.declared.edits.Edit.TheVariants as edit
 use Rattle.hangar_core.specs.declared.actions.Action.{Action}
-use Rattle.hangar_core.specs.declared.actions.Action.TheVariants.{New, Fork, Drop, Add, Remove, Fetch, Place, Migrate}
+use Rattle.hangar_core.specs.declared.actions.Action.TheVariants as action
+use Rattle.hangar_core.specs.declared.actions.Action.TheVariants.{New, Fork, Drop, Fetch, Place, Migrate}
 use Rattle.hangar_core.specs.declared.replies.Reply.{Reply}
 use Rattle.hangar_core.specs.declared.replies.Reply.TheVariants.{Opened, Dropped, Added, Fetched, Placed, NoBranch, BranchExists, NoMapping, Stale, Edit, TooManyBranches}
 use Rattle.hangar_core.specs.declared.branches.Branch.{Branch}
-use Rattle.hangar_core.specs.declared.commands.Command.{Command}
-use Rattle.hangar_core.specs.declared.commands.Command.TheVariants as command
+use Rattle.commands.specs.declared.commands.Command.{Command}
+use Rattle.commands.specs.declared.commands.Command.TheVariants as command
 use Rattle.hangar_core.specs.declared.workspaces.Workspace.{Workspace}
 use Rattle.hangar_core.specs.Fits.{Meanings, triple_of}
-use Rattle.hangar_core.specs.Opening.{empty_plan}
 use Rattle.hangar_core.specs.Serial.{serial}
-use Rattle.hangar_core.specs.Standing.{first_workspace}
+use Rattle.hangar_core.specs.ValidWorkspaces.{first_workspace}
 use Rattle.hangar_core.specs.Steps.{step}
 
 abbrev model : Parts
@@ -45,8 +48,12 @@ abbrev replies : Workspace → List Action → List Reply
 replies workspace [] = []
 replies workspace (action ∷ rest) = (step workspace action).0 ∷ replies (step workspace action).1 rest
 
+-- a directive more
+abbrev bump : PlanEdit
+bump = edit.Add (record { start = 5; anchor = None }) (codes "Bump") (record { name = codes "by"; value = raw.Int (pos 3) } ∷ [])
+
 abbrev add : List ℕ → Action
-add branch = Add branch (record { start = 5; anchor = None }) (codes "Bump") (record { name = codes "by"; value = raw.Int (pos 3) } ∷ [])
+add branch = action.Edit branch bump
 
 -- ---- replies
 
@@ -69,7 +76,7 @@ unfolding step
 a_name_begins_again = refl
 
 -- what is refused raises no revision
-pub refusals : replies first (Remove (codes "main") 9 ∷ Fetch (codes "lost") ∷ New (codes "main") ∷ Fork (codes "main") (codes "lost") ∷ Migrate (codes "main") (codes "m2") ∷ add (codes "main") ∷ [])
+pub refusals : replies first (action.Edit (codes "main") (edit.Remove 9) ∷ Fetch (codes "lost") ∷ New (codes "main") ∷ Fork (codes "main") (codes "lost") ∷ Migrate (codes "main") (codes "m2") ∷ add (codes "main") ∷ [])
     ≡ Edit NoDirective ∷ NoBranch ∷ BranchExists ∷ NoBranch ∷ NoMapping ∷ Added 1 1 ∷ []
 unfolding step
 refusals = refl
@@ -94,9 +101,9 @@ abbrev plain : (Plan → KeptRun) → Meanings
 plain simulated = record { simulated = simulated; scheduled = λ plan. plan; merged = λ base source target. Some source }
 
 abbrev adds : Command
-adds = command.Add (codes "main") (record { start = 5; anchor = None }) (codes "Bump") (record { name = codes "by"; value = raw.Int (pos 3) } ∷ [])
+adds = command.Edit (codes "main") bump
 
--- two clients take turns: one adds and shows, the other forks and schedules
+-- two clients go in rounds: one adds and shows, the other forks and schedules
 pub in_turn : (simulated : Plan → KeptRun) →
     map triple_of (serial (plain simulated) first
     ((adds ∷ command.Show (codes "main") ∷ []) ∷ (command.Fork (codes "y") (codes "main") ∷ command.Schedule (codes "y") ∷ []) ∷ []))

@@ -57,12 +57,12 @@ told_edited old new revision = Edited revision
 
 -- ---- migration
 
--- whether the model at a place has a name
+-- whether the model at a position has a name
 abbrev pub is_named : Option Parts → List ℕ → Bool
 is_named None name = false
 is_named (Some model) name = same_name model.name name
 
--- the first mapping from the model at a place to one with a name
+-- the first mapping from the model at a position to one with a name
 abbrev pub goes_to : List Parts → ℕ → List ℕ → Mapping → Bool
 goes_to models from name mapping = nat_eq mapping.from from && is_named (slice_get models mapping.to) name
 

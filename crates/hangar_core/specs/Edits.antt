@@ -1,16 +1,17 @@
--- The edits of a plan, and what is answered of them.
-use Rattle.std.specs.Prelude.{◌≡◌, ℕ, List, set, slice_get, Option, Some, None, Result, Ok, Err}
+-- What is answered of edits, and what becomes of a branch by a change.
+use Rattle.std.specs.Prelude.{◌≡◌, ℕ, List, set, slice_get, Option, Some, None, Result, Ok, Err, IfOk, IfErr, OnOk, OnErr}
 use Rattle.aerie_base.specs.declared.memory.OutOfMemory.{OutOfMemory}
 use Rattle.aerie_base.specs.declared.models.model.Parts.{Parts}
 use Rattle.aerie_base.specs.declared.plans.Plan.{Plan}
 use Rattle.plan_edit.specs.declared.errors.EditError.{EditError}
 use Rattle.plan_edit.specs.declared.errors.EditError.TheVariants as error
-use Rattle.plan_edit.specs.Editing.{add_of, remove_of, move_of, set_of}
-use Rattle.plan_edit.specs.Loading.{load_of}
+use Rattle.aerie_base.specs.plans.OfModel.{IsPlanOf}
+use Rattle.plan_edit.specs.Answers.{IsRefusal}
+use Rattle.commands.specs.Edits.{edit_of}
+use Rattle.commands.specs.declared.edits.Edit.{Edit}
+use Rattle.commands.specs.declared.edits.Edit.TheVariants.{Add, Remove, Move, Set, Load}
 use Rattle.hangar_core.specs.declared.changes.BranchChange.{BranchChange}
 use Rattle.hangar_core.specs.declared.changes.BranchChange.TheVariants as change
-use Rattle.hangar_core.specs.declared.edits.Edit.{Edit}
-use Rattle.hangar_core.specs.declared.edits.Edit.TheVariants.{Add, Remove, Move, Set, Load}
 use Rattle.hangar_core.specs.declared.branches.Branch.{Branch}
 use Rattle.hangar_core.specs.declared.replies.Reply.{Reply}
 use Rattle.hangar_core.specs.declared.replies.Reply.TheVariants as told
@@ -19,14 +20,6 @@ use Rattle.hangar_core.specs.declared.workspaces.Workspace.{Workspace}
 use Rattle.hangar_core.specs.Workspaces.{Answered, on_branch}
 use Rattle.hangar_core.specs.Changing.{Told, attached, edited, fetched, migrated_branch, placed_branch, told_added, told_edited, told_loaded}
 
--- the edited plan, by its model
-abbrev pub edit_of : Edit → Parts → Plan → Result Plan EditError
-edit_of (Add at kind arguments) model plan = add_of model plan at kind arguments
-edit_of (Remove id) model plan = remove_of plan id
-edit_of (Move id at) model plan = move_of plan id at
-edit_of (Set id parameter value) model plan = set_of model plan id parameter value
-edit_of (Load text) model plan = load_of model plan text
-
 -- what is answered, from the old plan, the new one and the revision
 abbrev pub told_of : Edit → Plan → Plan → ℕ → Reply
 told_of (Add at kind arguments) = told_added
@@ -34,6 +27,15 @@ told_of (Remove id) = told_edited
 told_of (Move id at) = told_edited
 told_of (Set id parameter value) = told_edited
 told_of (Load text) = told_loaded
+
+-- what an edit leaves of a plan by its model, and answers: the edited plan and what tells of it with a revision, or a refusal and
+-- the plan as it was
+pub record IsEdited (edit : Edit) (model : Parts) (revision : ℕ) (before after : Plan) (answer : Result Reply EditError) : Type 0 where
+  pub edited : OnOk answer (edit_of edit model before ≡ Ok after)
+  pub told : IfOk answer (λ reply. reply ≡ told_of edit before after revision)
+  pub refused : IfErr answer (IsRefusal (edit_of edit model before))
+  pub unchanged : OnErr answer (after ≡ before)
+  pub plan : IsPlanOf model after
 
 -- an edit of the plan of a branch
 abbrev pub edited_as : List Parts → Edit → Branch → Told
@@ -56,7 +58,7 @@ change_of models mappings (change.Place seen plan) = placed_branch seen plan
 abbrev pub changed_by : Workspace → List ℕ → BranchChange → Answered
 changed_by workspace name change = on_branch workspace name (change_of workspace.models workspace.mappings change)
 
--- what becomes of the branch at a place by a change; all others stay
+-- what becomes of the branch at a position by a change; all others stay
 abbrev pub IsMadeOf : Told → ℕ → List Branch → List Branch → Reply → Type 0
 IsMadeOf made at before after reply = (reply ≡ made.0) × (after ≡ set before at made.1)
 

@@ -5,8 +5,8 @@ use Rattle.aerie_base.specs.declared.plans.Plan.{Plan}
 use Rattle.run_data.specs.KeptRuns.{KeptRun}
 use Rattle.hangar_core.specs.declared.actions.Action.{Action}
 use Rattle.hangar_core.specs.declared.actions.Action.TheVariants as action
-use Rattle.hangar_core.specs.declared.commands.Command.{Command}
-use Rattle.hangar_core.specs.declared.commands.Command.TheVariants.{New, Fork, Drop, Add, Remove, Move, Set, Load, Migrate, Show, Simulate, Schedule, Merge, Expand}
+use Rattle.commands.specs.declared.commands.Command.{Command}
+use Rattle.commands.specs.declared.commands.Command.TheVariants.{New, Fork, Drop, Edit, Migrate, Show, Simulate, Schedule, Merge, Expand}
 use Rattle.hangar_core.specs.declared.entries.Entry.{Entry}
 use Rattle.hangar_core.specs.declared.replies.Reply.{Reply}
 use Rattle.hangar_core.specs.declared.replies.Reply.TheVariants.{Fetched}
@@ -59,11 +59,7 @@ abbrev pub later_action : Meanings → Command → Reply → List Reply → Opti
 later_action meanings (New branch) first replies = None
 later_action meanings (Fork branch source) first replies = None
 later_action meanings (Drop branch) first replies = None
-later_action meanings (Add branch at kind arguments) first replies = None
-later_action meanings (Remove branch id) first replies = None
-later_action meanings (Move branch id at) first replies = None
-later_action meanings (Set branch id parameter value) first replies = None
-later_action meanings (Load branch text) first replies = None
+later_action meanings (Edit branch edit) first replies = None
 later_action meanings (Migrate branch model) first replies = None
 later_action meanings (Show branch) first replies = None
 later_action meanings (Simulate branch) first replies = attach_next meanings branch first replies

@@ -6,7 +6,7 @@ pub mod Opening
 pub mod Changing
 pub mod Edits
 pub mod Steps
-pub mod Standing
+pub mod ValidWorkspaces
 pub mod Journals
 pub mod Fits
 pub mod Serial

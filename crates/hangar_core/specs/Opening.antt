@@ -5,6 +5,7 @@ use Rattle.std.specs.Ordering.{nat_cmp}
 use Rattle.std.specs.BTreeMap.{insert_entry, is_at}
 use Rattle.std.specs.Cmp.Lexicographic.{slice_cmp}
 use Rattle.aerie_base.specs.declared.plans.Plan.{Plan}
+use Rattle.commands.specs.SessionModels.{empty_plan}
 use Rattle.run_data.specs.KeptRuns.{KeptRun}
 use Rattle.hangar_core.specs.declared.branches.Branch.{Branch}
 use Rattle.hangar_core.specs.declared.replies.Reply.{Reply}
@@ -61,10 +62,6 @@ opened_unless workspace name plan kept None =
 abbrev pub opened : Workspace → List ℕ → Plan → Option KeptRun → Answered
 opened workspace name plan kept = opened_unless workspace name plan kept (refusal_to_open workspace name)
 
--- a plan of the first model with no directive, which lasts as long as all
-abbrev pub empty_plan : ℕ → Plan
-empty_plan duration = record { model = 0; duration = duration; next_id = 1; directives = [] }
-
 -- New: an empty plan, and no kept run
 abbrev pub new_branch : Workspace → List ℕ → Answered
 new_branch workspace name = opened workspace name (empty_plan workspace.duration) None
@@ -78,7 +75,7 @@ abbrev pub forked_from : Workspace → List ℕ → Option Branch → Answered
 forked_from workspace name None = refused workspace NoBranch
 forked_from workspace name (Some source) = opened workspace name source.plan source.kept
 
--- from the branch at a place
+-- from the branch at a position
 abbrev pub forked_at : Workspace → List ℕ → ℕ → Answered
 forked_at workspace name at = forked_from workspace name (slice_get workspace.branches at)
 
@@ -102,7 +99,7 @@ abbrev pub dropped_where : Workspace → List ℕ → Option Branch → Answered
 dropped_where workspace name None = refused workspace NoBranch
 dropped_where workspace name (Some branch) = (Dropped, without_branch workspace name branch.revision)
 
--- the branch at a place
+-- the branch at a position
 abbrev pub dropped_at : Workspace → List ℕ → ℕ → Answered
 dropped_at workspace name at = dropped_where workspace name (slice_get workspace.branches at)
 

@@ -19,7 +19,7 @@ Answered = Reply × Workspace
 abbrev pub refused : Workspace → Reply → Answered
 refused workspace reply = (reply, workspace)
 
--- what stands at a place, if it is given
+-- what stands at a position, if it is given
 abbrev pub item_there : {A : Type 0} → List A → Option ℕ → Option A
 item_there items place = option_and_then (slice_get items) place
 

@@ -1,10 +1,11 @@
 //! What is done to a workspace.
 
 ghost use Rattle.std.specs.Prelude.{◌≡◌, IfOk};
+ghost use Rattle.hangar_core.specs.Commands.{first_action};
 ghost use Rattle.hangar_core.specs.declared.actions.Action.TheVariants as action;
 
-use crate::arguments::copy_arguments;
-use aerie_base::{List, Name, OutOfMemory, Plan, RawArgument, RawValue, Shared, Text, When};
+use aerie_base::{Name, OutOfMemory, Plan, Shared};
+use commands::{Command, Edit};
 use run_data::Kept;
 use std::alloc::Global;
 
@@ -28,50 +29,12 @@ pub enum Action {
         /// The branch.
         branch: Name,
     },
-    /// Adds a directive.
-    Add {
+    /// Edits the plan.
+    Edit {
         /// The branch.
         branch: Name,
-        /// When the directive starts.
-        at: When,
-        /// The name of its activity type.
-        kind: Name,
-        /// Its arguments as they are written.
-        arguments: List<RawArgument>,
-    },
-    /// Takes a directive away.
-    Remove {
-        /// The branch.
-        branch: Name,
-        /// The directive's id.
-        id: u32,
-    },
-    /// Moves a directive to another start.
-    Move {
-        /// The branch.
-        branch: Name,
-        /// The directive's id.
-        id: u32,
-        /// When it starts then.
-        at: When,
-    },
-    /// Gives a directive another argument.
-    Set {
-        /// The branch.
-        branch: Name,
-        /// The directive's id.
-        id: u32,
-        /// The parameter.
-        parameter: Name,
-        /// Its value as it is written.
-        value: RawValue,
-    },
-    /// Puts the directives of a plan in JSON in the place of all that are there.
-    Load {
-        /// The branch.
-        branch: Name,
-        /// The plan as JSON.
-        text: Text,
+        /// What is done to its plan.
+        edit: Edit,
     },
     /// Takes the plan to another model.
     Migrate {
@@ -104,6 +67,34 @@ pub enum Action {
 }
 
 impl Action {
+    /// The action with which a command begins. All others follow from the replies.
+    pub fn first(alloc: Global, command: &Command) -> Result<Action, OutOfMemory>
+        ensures { IfOk result (λ action. action ≡ first_action command.now) }
+    {
+        let branch = command.branch().copy(alloc)?;
+        match command {
+            Command::New { .. } => Ok(Action::New { branch }),
+            Command::Fork { source, .. } => Ok(Action::Fork {
+                branch,
+                source: source.copy(alloc)?,
+            }),
+            Command::Drop { .. } => Ok(Action::Drop { branch }),
+            Command::Edit { edit, .. } => Ok(Action::Edit {
+                branch,
+                edit: edit.copy(alloc)?,
+            }),
+            Command::Migrate { model, .. } => Ok(Action::Migrate {
+                branch,
+                model: model.copy(alloc)?,
+            }),
+            Command::Show { .. }
+            | Command::Simulate { .. }
+            | Command::Schedule { .. }
+            | Command::Merge { .. }
+            | Command::Expand { .. } => Ok(Action::Fetch { branch }),
+        }
+    }
+
     /// An equal action. A run that it keeps is not copied: the copy is one more owner of it.
     pub fn copy(&self, alloc: Global) -> Result<Action, OutOfMemory>
         ensures { IfOk result (λ copy. copy ≡ self.now) }
@@ -116,28 +107,7 @@ impl Action {
             Action::Drop { branch } => Ok(Action::Drop {
                 branch: branch.copy(alloc)?,
             }),
-            Action::Add {
-                branch,
-                at,
-                kind,
-                arguments,
-            } => add(alloc, branch, *at, kind, arguments),
-            Action::Remove { branch, id } => Ok(Action::Remove {
-                branch: branch.copy(alloc)?,
-                id: *id,
-            }),
-            Action::Move { branch, id, at } => Ok(Action::Move {
-                branch: branch.copy(alloc)?,
-                id: *id,
-                at: *at,
-            }),
-            Action::Set {
-                branch,
-                id,
-                parameter,
-                value,
-            } => set(alloc, branch, *id, parameter, value),
-            Action::Load { branch, text } => load(alloc, branch, text),
+            Action::Edit { branch, edit } => edited(alloc, branch, edit),
             Action::Migrate { branch, model } => migrate(alloc, branch, model),
             Action::Fetch { branch } => fetch(alloc, branch),
             Action::Attach { branch, kept } => attach(alloc, branch, kept),
@@ -147,7 +117,7 @@ impl Action {
 }
 
 /// The fork of a branch from another.
-pub(crate) fn fork(alloc: Global, branch: &Name, source: &Name) -> Result<Action, OutOfMemory>
+fn fork(alloc: Global, branch: &Name, source: &Name) -> Result<Action, OutOfMemory>
     ensures { IfOk result (λ made. made ≡ action.Fork branch.now source.now) }
 {
     let branch = branch.copy(alloc)?;
@@ -155,59 +125,17 @@ pub(crate) fn fork(alloc: Global, branch: &Name, source: &Name) -> Result<Action
     Ok(Action::Fork { branch, source })
 }
 
-/// The addition of a directive.
-pub(crate) fn add(
-    alloc: Global,
-    branch: &Name,
-    at: When,
-    kind: &Name,
-    arguments: &List<RawArgument>,
-) -> Result<Action, OutOfMemory>
-    ensures { IfOk result (λ made. made ≡ action.Add branch.now at kind.now arguments.now) }
+/// The edit of the plan of a branch.
+fn edited(alloc: Global, branch: &Name, edit: &Edit) -> Result<Action, OutOfMemory>
+    ensures { IfOk result (λ made. made ≡ action.Edit branch.now edit.now) }
 {
     let branch = branch.copy(alloc)?;
-    let kind = kind.copy(alloc)?;
-    let arguments = copy_arguments(alloc, arguments)?;
-    Ok(Action::Add {
-        branch,
-        at,
-        kind,
-        arguments,
-    })
-}
-
-/// The change of an argument.
-pub(crate) fn set(
-    alloc: Global,
-    branch: &Name,
-    id: u32,
-    parameter: &Name,
-    value: &RawValue,
-) -> Result<Action, OutOfMemory>
-    ensures { IfOk result (λ made. made ≡ action.Set branch.now id parameter.now value.now) }
-{
-    let branch = branch.copy(alloc)?;
-    let parameter = parameter.copy(alloc)?;
-    let value = value.copy(alloc)?;
-    Ok(Action::Set {
-        branch,
-        id,
-        parameter,
-        value,
-    })
-}
-
-/// The loading of a plan.
-pub(crate) fn load(alloc: Global, branch: &Name, text: &Text) -> Result<Action, OutOfMemory>
-    ensures { IfOk result (λ made. made ≡ action.Load branch.now text.now) }
-{
-    let branch = branch.copy(alloc)?;
-    let text = text.copy(alloc)?;
-    Ok(Action::Load { branch, text })
+    let edit = edit.copy(alloc)?;
+    Ok(Action::Edit { branch, edit })
 }
 
 /// The move of a branch to another model.
-pub(crate) fn migrate(alloc: Global, branch: &Name, model: &Name) -> Result<Action, OutOfMemory>
+fn migrate(alloc: Global, branch: &Name, model: &Name) -> Result<Action, OutOfMemory>
     ensures { IfOk result (λ made. made ≡ action.Migrate branch.now model.now) }
 {
     let branch = branch.copy(alloc)?;
@@ -216,7 +144,7 @@ pub(crate) fn migrate(alloc: Global, branch: &Name, model: &Name) -> Result<Acti
 }
 
 /// The reading of a branch.
-pub(crate) fn fetch(alloc: Global, branch: &Name) -> Result<Action, OutOfMemory>
+fn fetch(alloc: Global, branch: &Name) -> Result<Action, OutOfMemory>
     ensures { IfOk result (λ made. made ≡ action.Fetch branch.now) }
 {
     let branch = branch.copy(alloc)?;

@@ -1,16 +1,17 @@
 //! What becomes of a branch by an action on it.
 
 ghost use Rattle.std.specs.Prelude.{◌≡◌, ◌<◌, ◌^◌, IfOk, IfSome, OnErr, slice_get, length};
+ghost use Rattle.commands.specs.SessionModels.{AreModels, IsMappingIn, IsPlanAmong};
 ghost use Rattle.hangar_core.specs.Changing.{attached as attached_by, fetched as fetched_by, IsMadeBy, is_named as is_named_by, mapping_to as mapping_to_by, migrated_branch as moved_to, migrated_through, placed_branch as placed_by};
 ghost use Rattle.hangar_core.specs.Edits.{change_of, edited_as, IsToldRefusal};
-ghost use Rattle.hangar_core.specs.Standing.{AreModels, IsMappingIn, IsPlanAmong, StaysIn, StaysWith};
+ghost use Rattle.hangar_core.specs.ValidWorkspaces.{StaysIn, StaysWith};
 ghost use Rattle.hangar_core.specs.Workspaces.{item_there};
 
 use crate::branches::Branch;
-use crate::edits::Edit;
 use crate::held_plans::HeldPlan;
 use crate::replies::{Reply, share_run};
 use aerie_base::{Model, Name, OutOfMemory, Plan, Shared};
+use commands::Edit;
 use plan_edit::{EditError, Mapping, MigrateError};
 use run_data::Kept;
 use std::alloc::Global;
@@ -101,7 +102,7 @@ fn refused(refusal: EditError) -> Result<Reply, OutOfMemory>
     }
 }
 
-/// The place of the first mapping from the model at a place to one with a name.
+/// The position of the first mapping from the model at a position to one with a name.
 fn mapping_to(
     models: &[Shared<Model>],
     mappings: &[Mapping],
@@ -120,7 +121,7 @@ fn mapping_to(
     None
 }
 
-/// Whether the model at a place has a name.
+/// Whether the model at a position has a name.
 fn is_named(models: &[Shared<Model>], place: u16, name: &Name) -> bool
     ensures { result ≡ is_named_by (slice_get models.now place) name.now }
 {

@@ -1,54 +1,13 @@
-//! The edits of a plan.
+//! Edits of plans are performed, and told of.
 
-ghost use Rattle.std.specs.Prelude.{◌≡◌, Ok, IfOk, IfErr, OnOk, OnErr};
 ghost use Rattle.aerie_base.specs.plans.OfModel.{IsPlanOf};
-ghost use Rattle.plan_edit.specs.Answers.{IsRefusal};
-ghost use Rattle.hangar_core.specs.Edits.{edit_of, told_of};
+ghost use Rattle.hangar_core.specs.Edits.{IsEdited};
 
 use crate::replies::Reply;
-use aerie_base::{List, Model, Name, Plan, RawArgument, RawValue, Text, When};
+use aerie_base::{Model, Plan};
+use commands::Edit;
 use plan_edit::{EditError, add, move_to, read_plan_json, remove, set_argument};
 use std::alloc::Global;
-
-/// An edit of a plan.
-#[derive(Drop)]
-pub enum Edit {
-    /// Adds a directive.
-    Add {
-        /// When the directive starts.
-        at: When,
-        /// The name of its activity type.
-        kind: Name,
-        /// Its arguments as they are written.
-        arguments: List<RawArgument>,
-    },
-    /// Takes a directive away.
-    Remove {
-        /// The directive's id.
-        id: u32,
-    },
-    /// Moves a directive to another start.
-    Move {
-        /// The directive's id.
-        id: u32,
-        /// When it starts then.
-        at: When,
-    },
-    /// Gives a directive another argument.
-    Set {
-        /// The directive's id.
-        id: u32,
-        /// The parameter.
-        parameter: Name,
-        /// Its value as it is written.
-        value: RawValue,
-    },
-    /// Puts the directives of a plan in JSON in the place of all that are there.
-    Load {
-        /// The plan as JSON.
-        text: Text,
-    },
-}
 
 /// Edits a plan in place, and answers what tells of it with a revision.
 pub fn perform(
@@ -59,11 +18,7 @@ pub fn perform(
     revision: u64,
 ) -> Result<Reply, EditError>
     requires plan { IsPlanOf model.now plan.old }
-    ensures edited { OnOk result (edit_of edit.now model.now plan.old ≡ Ok plan.new) }
-    ensures told { IfOk result (λ reply. reply ≡ told_of edit.now plan.old plan.new revision) }
-    ensures refused { IfErr result (IsRefusal (edit_of edit.now model.now plan.old)) }
-    ensures unchanged { OnErr result (plan.new ≡ plan.old) }
-    ensures plan { IsPlanOf model.now plan.new }
+    ensures { IsEdited edit.now model.now revision plan.old plan.new result }
 {
     match edit {
         Edit::Add {

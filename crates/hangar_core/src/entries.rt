@@ -6,7 +6,7 @@ use crate::actions::Action;
 use aerie_base::OutOfMemory;
 use std::alloc::Global;
 
-/// An action of a client, with its place among those of the client.
+/// An action of a client, with its position among those of the client.
 #[derive(Drop)]
 pub struct Entry {
     /// The client, from 0.

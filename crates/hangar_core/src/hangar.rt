@@ -1,8 +1,9 @@
 //! The workspace with its conditions kept.
 
 ghost use Rattle.std.specs.Prelude.{◌≡◌, ◌<◌, ◌^◌, IfOk, OnErr};
+ghost use Rattle.commands.specs.SessionModels.{AreModels, IsPlanAmong};
 ghost use Rattle.hangar_core.specs.Replies.{accepted_with as accepted_by};
-ghost use Rattle.hangar_core.specs.Standing.{AreModels, first_workspace, IsActionOn, IsPlanAmong, IsStepped};
+ghost use Rattle.hangar_core.specs.ValidWorkspaces.{first_workspace, IsActionOn, IsStepped};
 
 use crate::branches::Branch;
 use crate::entries::Entry;
@@ -27,7 +28,7 @@ impl std::marker::Model for Hangar {
     ghost use Rattle.aerie_base.specs.contracts.expressions.Expr as expr;
     ghost use Rattle.aerie_base.specs.contracts.conditions.Cond as cond;
     ghost use Rattle.aerie_base.specs.contracts.statements.Stmt as stmt;
-    ghost use Rattle.hangar_core.specs.Standing.{AreRevisionsWithin, CountedWorkspace, IsHangar};
+    ghost use Rattle.hangar_core.specs.ValidWorkspaces.{AreRevisionsWithin, CountedWorkspace, IsHangar};
 
     ghost Value = { CountedWorkspace };
 

@@ -2,14 +2,14 @@
 
 ghost use Rattle.std.specs.Prelude.{◌≡◌, Some, Ok, IfOk, IfErr, OnOk, OnErr};
 ghost use Rattle.aerie_base.specs.plans.OfModel.{IsPlanOf};
-ghost use Rattle.plan_edit.specs.Answers.{IsRefusal};
 ghost use Rattle.plan_edit.specs.Mappings.{IsMappingOf};
 ghost use Rattle.plan_edit.specs.Migrating.{migrate_of, IsMigrateRefusal};
-ghost use Rattle.hangar_core.specs.Edits.{edit_of, told_of};
+ghost use Rattle.hangar_core.specs.Edits.{IsEdited};
 
-use crate::edits::{Edit, perform};
+use crate::edits::perform;
 use crate::replies::Reply;
 use aerie_base::{Model, OutOfMemory, Plan, Shared};
+use commands::Edit;
 use plan_edit::{EditError, Mapping, MigrateError, migrate};
 use std::alloc::Global;
 
@@ -99,11 +99,7 @@ impl HeldPlan {
         revision: u64,
     ) -> Result<Reply, EditError>
         requires plan { IsPlanOf model.now self.old }
-        ensures edited { OnOk result (edit_of edit.now model.now self.old ≡ Ok self.new) }
-        ensures told { IfOk result (λ reply. reply ≡ told_of edit.now self.old self.new revision) }
-        ensures refused { IfErr result (IsRefusal (edit_of edit.now model.now self.old)) }
-        ensures unchanged { OnErr result (self.new ≡ self.old) }
-        ensures plan { IsPlanOf model.now self.new }
+        ensures { IsEdited edit.now model.now revision self.old self.new result }
     {
         self.own(alloc)?;
         match &mut self.own {

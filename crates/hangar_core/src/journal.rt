@@ -2,7 +2,7 @@
 
 ghost use Rattle.std.specs.Prelude.{◌≡◌, ◌≤◌, ◌<◌, ◌^◌, [], ◌∷◌, ◌++◌, IfOk, OnErr, OnOk, vec_len, vec_capacity};
 ghost use Rattle.hangar_core.specs.Journals.{accepted_in};
-ghost use Rattle.hangar_core.specs.Standing.{IsActionOn, IsStepped};
+ghost use Rattle.hangar_core.specs.ValidWorkspaces.{IsActionOn, IsStepped};
 
 use crate::entries::Entry;
 use crate::hangar::Hangar;

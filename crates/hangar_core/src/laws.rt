@@ -24,7 +24,7 @@ pub fn triples_tell_all()
     ensures { TriplesTellAll }
 {}
 
-/// The journal of clients who take turns, each command whole, fits their commands.
+/// The journal of clients in rounds, each command whole, fits their commands.
 pub fn serial_journals_fit()
     ensures { SerialFits }
 {}

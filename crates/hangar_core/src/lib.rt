@@ -2,10 +2,8 @@
 #![tactic(auto)]
 
 mod actions;
-mod arguments;
 mod branches;
 mod changes;
-mod commands;
 mod edits;
 mod entries;
 mod hangar;
@@ -17,7 +15,7 @@ mod replies;
 mod workspaces;
 
 pub use actions::Action;
-pub use commands::Command;
+pub use commands::{Command, Edit};
 pub use entries::Entry;
 pub use hangar::Hangar;
 pub use journal::Journal;

@@ -2,16 +2,16 @@
 
 ghost use Rattle.std.specs.Prelude.{◌≡◌, ◌<◌, remove, None, Some, IfOk, IfSome, OnErr, slice_get, length};
 ghost use Rattle.std.specs.List.{find};
+ghost use Rattle.commands.specs.SessionModels.{AreModels, empty_plan as empty_plan_by};
 ghost use Rattle.hangar_core.specs.Edits.{changed_by, IsMadeAt, IsRevisionOf};
-ghost use Rattle.hangar_core.specs.Opening.{dropped_at, dropped_branch, empty_plan as empty_plan_by, forked, forked_at, IsForkOf, new_branch, refusal_to_open as refusal_by, opened_with};
-ghost use Rattle.hangar_core.specs.Standing.{AllStayWith, AreModels, AreRevisionsWithin, IsActionOn, IsBranchIn, IsChangeOn, IsWorkspace, MayChange, branch_names};
+ghost use Rattle.hangar_core.specs.Opening.{dropped_at, dropped_branch, forked, forked_at, IsForkOf, new_branch, refusal_to_open as refusal_by, opened_with};
+ghost use Rattle.hangar_core.specs.ValidWorkspaces.{AllStayWith, AreRevisionsWithin, IsActionOn, IsBranchIn, IsChangeOn, IsWorkspace, MayChange, branch_names};
 ghost use Rattle.hangar_core.specs.Steps.{step as step_of};
 ghost use Rattle.hangar_core.specs.Workspaces.{branch_named, has_name, item_there};
 
 use crate::actions::Action;
 use crate::branches::Branch;
 use crate::changes::{BranchChange, changed};
-use crate::edits::Edit;
 use crate::held_plans::HeldPlan;
 use crate::last_revisions::LastRevisions;
 use crate::replies::{Reply, share_run};
@@ -100,7 +100,7 @@ impl Workspace {
         }
     }
 
-    /// Begins a branch with the plan and the kept run of the one at a place.
+    /// Begins a branch with the plan and the kept run of the one at a position.
     fn fork_from(&mut self, alloc: Global, at: usize, name: Name) -> Result<Reply, OutOfMemory>
         requires workspace { IsWorkspace self.old }
         requires few { AreRevisionsWithin 9_223_372_036_854_775_807 self.old }
@@ -130,7 +130,7 @@ impl Workspace {
         }
     }
 
-    /// Takes the branch at a place away.
+    /// Takes the branch at a position away.
     fn drop_at(&mut self, at: usize, name: Name) -> Result<Reply, OutOfMemory>
         requires workspace { IsWorkspace self.old }
         requires found { slice_get self.old.branches at ≡ branch_named self.old name }
@@ -186,42 +186,8 @@ impl Workspace {
             Action::New { branch } => self.begin(alloc, branch),
             Action::Fork { branch, source } => self.fork(alloc, branch, &source),
             Action::Drop { branch } => self.drop_branch(branch),
-            Action::Add {
-                branch,
-                at,
-                kind,
-                arguments,
-            } => self.on_branch(
-                alloc,
-                &branch,
-                BranchChange::Edit(Edit::Add {
-                    at,
-                    kind,
-                    arguments,
-                }),
-            ),
-            Action::Remove { branch, id } => {
-                self.on_branch(alloc, &branch, BranchChange::Edit(Edit::Remove { id }))
-            }
-            Action::Move { branch, id, at } => {
-                self.on_branch(alloc, &branch, BranchChange::Edit(Edit::Move { id, at }))
-            }
-            Action::Set {
-                branch,
-                id,
-                parameter,
-                value,
-            } => self.on_branch(
-                alloc,
-                &branch,
-                BranchChange::Edit(Edit::Set {
-                    id,
-                    parameter,
-                    value,
-                }),
-            ),
-            Action::Load { branch, text } => {
-                self.on_branch(alloc, &branch, BranchChange::Edit(Edit::Load { text }))
+            Action::Edit { branch, edit } => {
+                self.on_branch(alloc, &branch, BranchChange::Edit(edit))
             }
             Action::Migrate { branch, model } => {
                 self.on_branch(alloc, &branch, BranchChange::Migrate { model })
@@ -237,7 +203,7 @@ impl Workspace {
     }
 }
 
-/// The place of the branch with a name. It scans them all.
+/// The position of the branch with a name. It scans them all.
 fn position_of(branches: &[Branch], name: &Name) -> Option<usize>
     ensures found { item_there branches.now result ≡ find (has_name name.now) branches.now }
     ensures within { IfSome result (λ at. at < length branches.now) }
@@ -250,7 +216,7 @@ fn position_of(branches: &[Branch], name: &Name) -> Option<usize>
     None
 }
 
-/// The revision of the branch at a place.
+/// The revision of the branch at a position.
 fn revision_at(branches: &[Branch], at: usize) -> u64
     requires within { at < length branches.now }
     ensures { IsRevisionOf result (slice_get branches.now at) }
@@ -258,7 +224,7 @@ fn revision_at(branches: &[Branch], at: usize) -> u64
     branches[at].revision
 }
 
-/// Takes the branch at a place out.
+/// Takes the branch at a position out.
 fn take_out(branches: &mut List<Branch>, at: usize)
     requires within { at < length branches.old }
     ensures { branches.new ≡ remove branches.old at }
@@ -266,7 +232,7 @@ fn take_out(branches: &mut List<Branch>, at: usize)
     branches.items.remove(at);
 }
 
-/// Changes the branch at a place, and answers what tells of it.
+/// Changes the branch at a position, and answers what tells of it.
 fn changed_at(
     alloc: Global,
     models: &[Shared<Model>],
@@ -287,7 +253,7 @@ fn changed_at(
     changed(alloc, models, mappings, branch, change)
 }
 
-/// A branch with the plan and the kept run of the one at a place.
+/// A branch with the plan and the kept run of the one at a position.
 fn forked_branch(
     alloc: Global,
     branches: &mut List<Branch>,

@@ -5,11 +5,11 @@ use lib.ListN.{get_elem?}
 use Rattle.atomic_table.specs.Table.{State}
 use Rattle.atomic_table.proofs.Lists.{at_set, set_else, at_longer}
 use Rattle.hangar_core.specs.Journals.{Entries}
-use Rattle.hangar_core.specs.Standing.{CountedWorkspace}
+use Rattle.hangar_core.specs.ValidWorkspaces.{CountedWorkspace}
 use Rattle.hangar_lock.specs.declared.desk.Desk.{Desk}
 use Rattle.hangar_lock.specs.declared.views.View.{View}
 use Rattle.hangar_lock.specs.Places.{HasPassNumber}
-use Rattle.hangar_lock.specs.Rule.{has_ticket, holders, HasHome}
+use Rattle.hangar_lock.specs.OneJournal.{has_ticket, holders, HasHome}
 
 abbrev pub St : Type 0
 St = State (Option Desk) View

@@ -4,12 +4,12 @@ use mathlib.Core.Option.{Option as Maybe, some, none, some-injective}
 use lib.ListN.{get_elem?}
 use Rattle.atomic_table.specs.Table.{Final, Seen}
 use Rattle.hangar_core.specs.Journals.{Entries}
-use Rattle.hangar_core.specs.Standing.{CountedWorkspace}
+use Rattle.hangar_core.specs.ValidWorkspaces.{CountedWorkspace}
 use Rattle.hangar_lock.specs.declared.desk.Desk.{Desk}
 use Rattle.hangar_lock.specs.declared.views.View.{View}
 use Rattle.hangar_lock.specs.Desks.{IsDesk}
 use Rattle.hangar_lock.specs.Places.{HasPassNumber, HasPlace, StartsWith, ToldEntry}
-use Rattle.hangar_lock.specs.Rule.{HasHome, HasOneJournal}
+use Rattle.hangar_lock.specs.OneJournal.{HasHome, HasOneJournal}
 use Rattle.hangar_lock.proofs.Places.{IsAt}
 use Rattle.hangar_lock.proofs.AllViews.{St}
 

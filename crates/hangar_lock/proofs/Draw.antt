@@ -1,11 +1,11 @@
 -- A ticket is drawn.
 use Rattle.std.proofs.Common.{◌≡◌, ℕ, ◌+◌, ◌%◌, ◌^◌, false, List, [], ◌∷◌, Some, None, Option, set, sym, refl, ap, ◌∙◌, arith, length-set, true≢false, get_or}
 use Rattle.atomic_table.specs.Table.{Step, keeps, Allows}
-use Rattle.hangar_core.specs.Standing.{CountedWorkspace}
+use Rattle.hangar_core.specs.ValidWorkspaces.{CountedWorkspace}
 use Rattle.hangar_lock.specs.declared.desk.Desk.{Desk}
 use Rattle.hangar_lock.specs.declared.views.View.{View}
 use Rattle.hangar_lock.specs.Places.{HasPassNumber}
-use Rattle.hangar_lock.specs.Rule.{has_ticket, holders, Knows, HasOneJournal}
+use Rattle.hangar_lock.specs.OneJournal.{has_ticket, holders, Knows, HasOneJournal}
 use Rattle.hangar_lock.specs.Steps.{Seated, Draws}
 use Rattle.hangar_lock.proofs.Places.{bump, same_value}
 use Rattle.hangar_lock.proofs.AllViews.{holders_set, all_hold, stay_alone, still_alone, HoldsTicketNo, StandsFor, home_stays}

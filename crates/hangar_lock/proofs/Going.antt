@@ -4,7 +4,7 @@ use Rattle.std.proofs.lemmas.Bool.Decides.{leb_tells}
 use Rattle.std.proofs.lemmas.List.{append-nil, length-take-le}
 use Rattle.std.proofs.Math.Seq.{take-suc, take-length}
 use Rattle.hangar_core.specs.declared.actions.Action.{Action}
-use Rattle.hangar_core.specs.declared.commands.Command.{Command}
+use Rattle.commands.specs.declared.commands.Command.{Command}
 use Rattle.hangar_core.specs.declared.entries.Entry.{Entry}
 use Rattle.hangar_core.specs.declared.replies.Reply.{Reply}
 use Rattle.hangar_core.specs.Fits.{IsWorkOf, Meanings, next_action}
@@ -13,7 +13,7 @@ use Rattle.hangar_core.proofs.Serial.{over_at}
 use Rattle.hangar_lock.specs.declared.receipts.Receipt.{Receipt}
 use Rattle.hangar_lock.specs.Passes.{HasActed, PassView}
 use Rattle.hangar_lock.specs.Places.{Places, ToldEntry}
-use Rattle.hangar_lock.specs.Works.{HasBegun, HasDone, HasWorked, IsBegun, reply_of, RisesTo, own_entry}
+use Rattle.hangar_lock.specs.ClientEntries.{HasBegun, HasDone, HasWorked, IsBegun, reply_of, RisesTo, own_entry}
 use Rattle.hangar_lock.proofs.Growing.{begun_ends, begun_grows, rises_grows, work_grows}
 use Rattle.hangar_lock.proofs.Places.{none_some}
 

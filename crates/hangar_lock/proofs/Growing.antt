@@ -2,12 +2,12 @@
 use Rattle.std.proofs.Common.{◌≡◌, ℕ, ◌+◌, ◌≤◌, List, [], ◌∷◌, ◌++◌, length, map, Some, None, refl, sym, ap, ◌∙◌, subst, arith, append_assoc}
 use Rattle.std.proofs.lemmas.List.{append-nil}
 use Rattle.hangar_core.specs.declared.actions.Action.{Action}
-use Rattle.hangar_core.specs.declared.commands.Command.{Command}
+use Rattle.commands.specs.declared.commands.Command.{Command}
 use Rattle.hangar_core.specs.declared.replies.Reply.{Reply}
 use Rattle.hangar_core.specs.Fits.{IsCommand, IsWorkOf, Meanings, next_action}
 use Rattle.hangar_core.specs.Journals.{Entries}
 use Rattle.hangar_lock.specs.Places.{Places, ToldEntry}
-use Rattle.hangar_lock.specs.Works.{IsBegun, reply_of, RisesTo}
+use Rattle.hangar_lock.specs.ClientEntries.{IsBegun, reply_of, RisesTo}
 use Rattle.hangar_lock.proofs.Picking.{Rises}
 
 pub begun_grows : (meanings : Meanings) (client n : ℕ) (c : Command) (rs : List Reply) (own : Entries) (a : Action) (r : Reply) → IsBegun meanings client n c rs own

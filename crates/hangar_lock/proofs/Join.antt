@@ -4,11 +4,11 @@ use mathlib.Core.Option.{some}
 use lib.ListN.{get_elem?}
 use Rattle.atomic_table.specs.Table.{Joins}
 use Rattle.atomic_table.proofs.Lists.{at_set, set_else}
-use Rattle.hangar_core.specs.Standing.{CountedWorkspace}
+use Rattle.hangar_core.specs.ValidWorkspaces.{CountedWorkspace}
 use Rattle.hangar_lock.specs.declared.views.View.{View}
 use Rattle.hangar_lock.specs.Places.{HasPassNumber, HasPlace}
 use Rattle.hangar_lock.specs.Views.{joining, spent}
-use Rattle.hangar_lock.specs.Rule.{has_ticket, holders, Knows, HasOneJournal}
+use Rattle.hangar_lock.specs.OneJournal.{has_ticket, holders, Knows, HasOneJournal}
 use Rattle.hangar_lock.proofs.Places.{none_some, has_place_left, has_place_right, has_place_cases, has_number_left, has_number_right, has_number_cases, longer_starts}
 use Rattle.hangar_lock.proofs.AllViews.{St, holders_set, all_hold, Alone, still_alone, HoldsTicketNo, StandsFor, home_stays}
 

@@ -7,11 +7,11 @@ use lib.ListN.{get_elem?}
 use lib.Seq.{set-get_or}
 use Rattle.atomic_table.specs.Table.{Step, keeps, takes, Allows}
 use Rattle.atomic_table.proofs.Lists.{set_again, one_turn}
-use Rattle.hangar_core.specs.Standing.{CountedWorkspace}
+use Rattle.hangar_core.specs.ValidWorkspaces.{CountedWorkspace}
 use Rattle.hangar_lock.specs.declared.desk.Desk.{Desk}
 use Rattle.hangar_lock.specs.declared.views.View.{View}
 use Rattle.hangar_lock.specs.Desks.{IsDesk}
-use Rattle.hangar_lock.specs.Rule.{has_ticket, holders, HasHome, Knows, HasOneJournal}
+use Rattle.hangar_lock.specs.OneJournal.{has_ticket, holders, HasHome, Knows, HasOneJournal}
 use Rattle.hangar_lock.specs.Steps.{Seated, Looks, enters_with}
 use Rattle.hangar_lock.proofs.Places.{same_value, further}
 use Rattle.hangar_lock.proofs.AllViews.{St, holders_set, holders_le, here, all_hold, still_alone, HoldsTicketNo, StandsFor}

@@ -3,12 +3,12 @@ use Rattle.std.proofs.Common.{◌≡◌, inl, ℕ, zero, suc, ◌<◌, false, Li
 use mathlib.Core.Option.{some, some-injective, some-ne-none}
 use lib.ListN.{get_elem?}
 use Rattle.atomic_table.specs.Table.{opening}
-use Rattle.hangar_core.specs.Standing.{CountedWorkspace}
+use Rattle.hangar_core.specs.ValidWorkspaces.{CountedWorkspace}
 use Rattle.hangar_lock.specs.declared.desk.Desk.{Desk}
 use Rattle.hangar_lock.specs.declared.views.View.{View}
 use Rattle.hangar_lock.specs.Desks.{IsDesk}
 use Rattle.hangar_lock.specs.Views.{first_view}
-use Rattle.hangar_lock.specs.Rule.{Knows, HasOneJournal}
+use Rattle.hangar_lock.specs.OneJournal.{Knows, HasOneJournal}
 use Rattle.hangar_lock.proofs.Places.{none_some}
 
 only : (P : View → Type 0) (first : View) → P first → (j : ℕ) (v : View) → get_elem? (first ∷ []) j ≡ some v → P v

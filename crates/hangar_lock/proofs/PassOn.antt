@@ -8,13 +8,13 @@ use lib.ListN.{get_elem?}
 use Rattle.atomic_table.specs.Table.{Step, gives, Allows}
 use Rattle.atomic_table.proofs.Lists.{at_set}
 use Rattle.hangar_core.specs.Journals.{Entries}
-use Rattle.hangar_core.specs.Standing.{CountedWorkspace}
+use Rattle.hangar_core.specs.ValidWorkspaces.{CountedWorkspace}
 use Rattle.hangar_lock.specs.declared.desk.Desk.{Desk}
 use Rattle.hangar_lock.specs.declared.views.View.{View}
 use Rattle.hangar_lock.specs.Desks.{IsDesk}
 use Rattle.hangar_lock.specs.Places.{HasPassNumber, HasPlace, placed_from, Places, StartsWith, ToldEntry}
 use Rattle.hangar_lock.specs.Views.{leaving_with}
-use Rattle.hangar_lock.specs.Rule.{has_ticket, holders, HasHome, Knows, HasOneJournal}
+use Rattle.hangar_lock.specs.OneJournal.{has_ticket, holders, HasHome, Knows, HasOneJournal}
 use Rattle.hangar_lock.specs.Steps.{Seated, PassesOn}
 use Rattle.hangar_lock.proofs.Places.{none_some, bump, same_value, IsAt, is_at_below, is_at_left, is_at_front, placed_at, at_placed, has_place_left, has_place_right, has_place_cases, further}
 use Rattle.hangar_lock.proofs.AllViews.{St, holders_set, all_hold, stay_alone, still_alone, HoldsTicketNo, StandsFor}

@@ -4,13 +4,13 @@ use Rattle.std.specs.List.{filter}
 use Rattle.std.proofs.lemmas.List.{append-nil}
 use Rattle.std.proofs.lemmas.Bool.Decides.{eqb_tells}
 use Rattle.std.proofs.lemmas.Option.{slice_get_within}
-use Rattle.hangar_core.specs.declared.commands.Command.{Command}
+use Rattle.commands.specs.declared.commands.Command.{Command}
 use Rattle.hangar_core.specs.declared.entries.Entry.{Entry}
 use Rattle.hangar_core.specs.declared.replies.Reply.{Reply}
 use Rattle.hangar_core.specs.Fits.{IsCommand, IsWorkOf, Meanings}
 use Rattle.hangar_core.specs.Journals.{Entries}
 use Rattle.hangar_lock.specs.Places.{HasPlace, Places, ToldEntry}
-use Rattle.hangar_lock.specs.Works.{own_entry}
+use Rattle.hangar_lock.specs.ClientEntries.{own_entry}
 use Rattle.hangar_lock.proofs.Places.{same_value}
 
 -- the places rise, from one on

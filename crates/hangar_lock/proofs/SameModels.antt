@@ -2,9 +2,9 @@
 use Rattle.std.proofs.Common.{ℕ, List, sym, ◌∙◌, subst}
 use Rattle.aerie_base.specs.declared.models.model.Parts.{Parts}
 use Rattle.hangar_core.specs.declared.actions.Action.{Action}
-use Rattle.hangar_core.specs.declared.actions.Action.TheVariants.{New, Fork, Drop, Add, Remove, Move, Set, Load, Migrate, Fetch, Attach, Place}
+use Rattle.hangar_core.specs.declared.actions.Action.TheVariants.{New, Fork, Drop, Edit, Migrate, Fetch, Attach, Place}
 use Rattle.hangar_core.specs.declared.workspaces.Workspace.{Workspace}
-use Rattle.hangar_core.specs.Standing.{IsActionOn, IsKeptIn, IsOfSameSession, IsPlanIn}
+use Rattle.hangar_core.specs.ValidWorkspaces.{IsActionOn, IsKeptIn, IsOfSameSession, IsPlanIn}
 
 pub same_later : (first second third : Workspace) → IsOfSameSession first second → IsOfSameSession second third → IsOfSameSession first third
 same_later first second third one two = record {
@@ -17,11 +17,7 @@ pub action_on : (before after : Workspace) (action : Action) → IsOfSameSession
 action_on before after (New branch) same on = on
 action_on before after (Fork branch source) same on = on
 action_on before after (Drop branch) same on = on
-action_on before after (Add branch at kind arguments) same on = on
-action_on before after (Remove branch id) same on = on
-action_on before after (Move branch id at) same on = on
-action_on before after (Set branch id parameter value) same on = on
-action_on before after (Load branch text) same on = on
+action_on before after (Edit branch edit) same on = on
 action_on before after (Migrate branch model) same on = on
 action_on before after (Fetch branch) same on = on
 action_on before after (Attach branch kept) same on = subst (λ (models : List Parts). IsKeptIn models kept) (sym same.models) on

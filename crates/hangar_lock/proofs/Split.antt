@@ -7,12 +7,12 @@ use lib.ListN.{get_elem?}
 use Rattle.atomic_table.specs.Table.{Splits}
 use Rattle.atomic_table.proofs.Lists.{at_set, set_else}
 use Rattle.hangar_core.specs.Journals.{Entries}
-use Rattle.hangar_core.specs.Standing.{CountedWorkspace}
+use Rattle.hangar_core.specs.ValidWorkspaces.{CountedWorkspace}
 use Rattle.hangar_lock.specs.declared.desk.Desk.{Desk}
 use Rattle.hangar_lock.specs.declared.views.View.{View}
 use Rattle.hangar_lock.specs.Places.{HasPassNumber}
 use Rattle.hangar_lock.specs.Views.{splitting, split_off}
-use Rattle.hangar_lock.specs.Rule.{has_ticket, holders, HasHome, Knows, HasOneJournal}
+use Rattle.hangar_lock.specs.OneJournal.{has_ticket, holders, HasHome, Knows, HasOneJournal}
 use Rattle.hangar_lock.proofs.AllViews.{holders_set, holders_snoc, here, at_end, all_hold, still_alone, end_alone, HoldsTicketNo, StandsFor, home_more}
 
 pub splits : (o : CountedWorkspace) (id : ℕ) (v : View) → HasPassNumber v.stands 0 → v.split + 2 ≤ 2 ^ 32 → Splits (HasOneJournal o) id v (splitting v) (split_off v)

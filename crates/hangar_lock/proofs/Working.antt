@@ -6,14 +6,14 @@ use Rattle.hangar_core.specs.declared.entries.Entry.{Entry}
 use Rattle.hangar_core.specs.declared.replies.Reply.{Reply}
 use Rattle.hangar_core.specs.declared.workspaces.Workspace.{Workspace}
 use Rattle.hangar_core.specs.Journals.{accepted_in, after_entries, Entries, IsReplay}
-use Rattle.hangar_core.specs.Standing.{CountedWorkspace, IsActionOn, IsReplyOf, IsStepped}
+use Rattle.hangar_core.specs.ValidWorkspaces.{CountedWorkspace, IsActionOn, IsReplyOf, IsStepped}
 use Rattle.hangar_core.specs.Steps.{step}
 use Rattle.hangar_lock.specs.declared.desk.Desk.{Desk}
 use Rattle.hangar_lock.specs.declared.receipts.Receipt.{Receipt}
 use Rattle.hangar_lock.specs.Desks.{IsDesk}
 use Rattle.hangar_lock.specs.Pasts.{IsPast}
 use Rattle.hangar_lock.specs.Places.{StartsWith, ToldEntry}
-use Rattle.hangar_lock.specs.Steps.{Seated, Works}
+use Rattle.hangar_lock.specs.Steps.{Seated, NotesEntry}
 use Rattle.hangar_lock.specs.Views.{leaving_with}
 use Rattle.hangar_lock.proofs.SameModels.{action_on, same_later}
 
@@ -81,7 +81,7 @@ module _ (o : CountedWorkspace) (d : Desk) (entry : Entry) (desk : IsDesk o d) (
 
   pub worked : (d' : Desk) (before after : Seated) (r : Result Receipt OutOfMemory) → before.0.opened ≡ o → before.0.seen ≡ d.journal →
       IfOk r (λ t. IsStepped d.hangar d'.hangar entry.action t.reply) → IfOk r (λ t. d'.journal ≡ d.journal ++ (entry, t.reply) ∷ []) →
-      IfOk r (λ t. t.place ≡ length d.journal) → after ≡ (leaving_with before.0 d'.journal, []) → IfOk r (Works before entry after)
+      IfOk r (λ t. t.place ≡ length d.journal) → after ≡ (leaving_with before.0 d'.journal, []) → IfOk r (NotesEntry before entry after)
   worked d' before after (Ok t) opened seen stepped noted placed left = record {
     place = placed ∙ ap length (sym seen);
     reply =

@@ -3,7 +3,7 @@ use Rattle.std.specs.Prelude.{◌≡◌, ◌≤◌, [], ◌∷◌, ◌++◌}
 use Rattle.hangar_core.specs.declared.actions.Action.{Action}
 use Rattle.hangar_core.specs.declared.entries.Entry.{Entry}
 use Rattle.hangar_core.specs.Journals.{accepted_in, after_entries}
-use Rattle.hangar_core.specs.Standing.{CountedWorkspace, IsOfSameSession, IsStepped}
+use Rattle.hangar_core.specs.ValidWorkspaces.{CountedWorkspace, IsOfSameSession, IsStepped}
 use Rattle.hangar_lock.specs.declared.desk.Desk.{Desk}
 use Rattle.hangar_lock.specs.declared.receipts.Receipt.{Receipt}
 use Rattle.hangar_lock.specs.Pasts.{IsPast}

@@ -3,8 +3,8 @@ pub mod Places
 pub mod Passes
 pub mod Views
 pub mod Desks
-pub mod Rule
+pub mod OneJournal
 pub mod Steps
 pub mod Resting
-pub mod Works
+pub mod ClientEntries
 pub mod laws

@@ -3,7 +3,7 @@ use Rattle.std.specs.Prelude.{◌≡◌, ℕ, ◌+◌, ◌≤◌, List, [], ◌�
 use Rattle.atomic_table.specs.Seated.{TableId}
 use Rattle.hangar_core.specs.declared.entries.Entry.{Entry}
 use Rattle.hangar_core.specs.Journals.{Entries, after_entries}
-use Rattle.hangar_core.specs.Standing.{CountedWorkspace}
+use Rattle.hangar_core.specs.ValidWorkspaces.{CountedWorkspace}
 use Rattle.hangar_core.specs.Steps.{step}
 use Rattle.hangar_lock.specs.declared.receipts.Receipt.{Receipt}
 use Rattle.hangar_lock.specs.Places.{Places, HasPassNumber, StartsWith, longer}

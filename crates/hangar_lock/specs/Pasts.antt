@@ -3,7 +3,7 @@ use Rattle.std.specs.List.{AllByRecursion}
 use Rattle.hangar_core.specs.declared.replies.Reply.{Reply}
 use Rattle.hangar_core.specs.declared.workspaces.Workspace.{Workspace}
 use Rattle.hangar_core.specs.Journals.{Entries, IsReplay}
-use Rattle.hangar_core.specs.Standing.{IsActionOn, IsReplyOf}
+use Rattle.hangar_core.specs.ValidWorkspaces.{IsActionOn, IsReplyOf}
 
 -- what a Fetch answered is of the models of a workspace
 abbrev pub IsReplyIn : Workspace → Reply → Type 0

@@ -92,7 +92,7 @@ pub record CanLeave (me : Seated) (desk : Desk) : Type 0 where
   pub is_desk : IsDesk me.0.opened desk
 
 -- an entry was noted and the turn passed on
-pub record Works (before : Seated) (entry : Entry) (after : Seated) (receipt : Receipt) : Type 0 where
+pub record NotesEntry (before : Seated) (entry : Entry) (after : Seated) (receipt : Receipt) : Type 0 where
   pub place : receipt.place ≡ length before.0.seen
   pub reply : receipt.reply ≡ (step (after_entries before.0.opened.workspace before.0.seen) entry.action).0
   pub past : IsPast before.0.opened.workspace (before.0.seen ++ (entry, receipt.reply) ∷ [])

@@ -1,7 +1,7 @@
 -- What passes know, and what becomes of it.
 use Rattle.std.specs.Prelude.{◌+◌, false, [], ◌∷◌, ◌++◌, length, drop, None}
 use Rattle.hangar_core.specs.Journals.{Entries}
-use Rattle.hangar_core.specs.Standing.{CountedWorkspace}
+use Rattle.hangar_core.specs.ValidWorkspaces.{CountedWorkspace}
 use Rattle.hangar_lock.specs.declared.views.View.{View}
 use Rattle.hangar_lock.specs.Places.{longer, placed_from}
 

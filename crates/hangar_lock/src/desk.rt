@@ -2,7 +2,7 @@
 
 ghost use Rattle.std.specs.Prelude.{◌≡◌, ◌≤◌, length, IfOk, OnErr};
 ghost use Rattle.hangar_core.specs.Journals.{accepted_in};
-ghost use Rattle.hangar_core.specs.Standing.{IsActionOn};
+ghost use Rattle.hangar_core.specs.ValidWorkspaces.{IsActionOn};
 ghost use Rattle.hangar_lock.specs.Desks.{HasNoted, IsDeskStepped};
 
 use crate::receipts::Receipt;

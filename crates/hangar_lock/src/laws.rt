@@ -1,7 +1,7 @@
 //! Laws, each the promise of a function without a body.
 
 ghost use Rattle.hangar_lock.specs.laws.ClientsWork.{CommandsBegin, CommandsEnd, CommandsGoOn, CommandsHaveFewParts, WorkBegins, WorkEnds, WorkGoesOn};
-ghost use Rattle.hangar_lock.specs.laws.JoinedPasses.{JoinedPassesAreWhole, JoinedPassesFit, JoinedPassesHaveAll};
+ghost use Rattle.hangar_lock.specs.laws.JoinedPasses.{JoinedPassesAreWhole, JoinedPassesFit, JoinedPassesHaveAll, PassesHaveTheirEntries};
 
 /// A command is done with a pass entry by entry, each the next action by the replies so far, until there is none; there are at
 /// most four.
@@ -23,6 +23,12 @@ pub fn work_is_done()
 /// were joined: whatever the order in which they took turns.
 pub fn joined_passes_fit()
     ensures { JoinedPassesFit }
+{}
+
+/// Where each client's commands were done with a pass of its own and all passes were joined, the entries of a client's pass are
+/// those of the journal that are the client's.
+pub fn passes_have_their_entries()
+    ensures { PassesHaveTheirEntries }
 {}
 
 /// A first pass into which all passes are joined that were split from it stands for all numbers, and has what was done with all.

@@ -4,8 +4,8 @@
 mod desk;
 pub mod laws;
 mod lock;
+mod one_journal;
 mod receipts;
-mod rule;
 mod turnstile;
 mod views;
 

@@ -2,14 +2,14 @@
 
 ghost use Rattle.std.specs.Prelude.{◌≡◌, ◌<◌, IfOk, IsOk, OnErr};
 ghost use Rattle.hangar_core.specs.Journals.{after_entries};
-ghost use Rattle.hangar_core.specs.Standing.{IsActionOn};
+ghost use Rattle.hangar_core.specs.ValidWorkspaces.{IsActionOn};
 ghost use Rattle.hangar_lock.specs.Passes.{after_split, first_pass, HasActed, HasSeenMore, IsWhole, joined_with, split_from};
 ghost use Rattle.hangar_lock.specs.Pasts.{IsPast, IsReplyIn};
 ghost use Rattle.hangar_lock.specs.Places.{HasPassNumber, HaveAllOf, StandIn, StartsWith};
 
 use crate::desk::Desk;
+use crate::one_journal::{JoinSeats, PassSeat, SplitSeat, TurnTable};
 use crate::receipts::Receipt;
-use crate::rule::{JoinSeats, PassSeat, SplitSeat, TurnTable};
 use crate::turnstile::Turnstile;
 use aerie_base::OutOfMemory;
 use hangar_core::{Entry, Hangar, Journal};

@@ -1,14 +1,14 @@
 //! Turns by tickets.
 
 ghost use Rattle.std.specs.Prelude.{◌≡◌, ◌∷◌, [], Some, None, true, false, IfOk, OnErr};
-ghost use Rattle.hangar_core.specs.Standing.{IsActionOn};
+ghost use Rattle.hangar_core.specs.ValidWorkspaces.{IsActionOn};
 ghost use Rattle.hangar_lock.specs.declared.desk.Desk.{Desk};
-ghost use Rattle.hangar_lock.specs.Steps.{CanLeave, HasDrawn, HasEntered, HasLeft, HasTaken, HasTurn, IsIdle, IsWaiting, Works};
+ghost use Rattle.hangar_lock.specs.Steps.{CanLeave, HasDrawn, HasEntered, HasLeft, HasTaken, HasTurn, IsIdle, IsWaiting, NotesEntry};
 ghost use Rattle.hangar_lock.specs.Views.{leaving_with};
 
 use crate::desk::Desk;
+use crate::one_journal::{DrawTicket, LookAtTurn, PassSeat, PassTurnOn, TurnTable};
 use crate::receipts::Receipt;
-use crate::rule::{DrawTicket, LookAtTurn, PassSeat, PassTurnOn, TurnTable};
 use aerie_base::OutOfMemory;
 use hangar_core::Entry;
 use std::alloc::Global;
@@ -120,7 +120,7 @@ impl Turnstile {
         requires inside { (desk : Desk) × CanLeave seat.old.me desk × (seat.old.me.0.seen ≡ desk.journal) }
         requires action { IsActionOn seat.old.me.0.opened.workspace entry.action }
         ensures own { (seat.new.table_id ≡ seat.old.table_id) × (seat.new.id ≡ seat.old.id) }
-        ensures worked { IfOk result (Works seat.old.me entry seat.new.me) }
+        ensures worked { IfOk result (NotesEntry seat.old.me entry seat.new.me) }
         ensures unchanged { OnErr result (seat.new.me ≡ (leaving_with seat.old.me.0 seat.old.me.0.seen, [])) }
     {
         let mut desk = self.take(seat);

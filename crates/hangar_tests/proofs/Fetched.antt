@@ -7,7 +7,7 @@ use Rattle.hangar_core.specs.declared.replies.Reply.{Reply}
 use Rattle.hangar_core.specs.declared.replies.Reply.TheVariants as reply
 use Rattle.hangar_core.specs.declared.workspaces.Workspace.{Workspace}
 use Rattle.hangar_core.specs.Replies.{accepted_with}
-use Rattle.hangar_core.specs.Standing.{CountedWorkspace, IsOfSameSession, IsPlanIn, IsReplyOf, IsStepped}
+use Rattle.hangar_core.specs.ValidWorkspaces.{CountedWorkspace, IsOfSameSession, IsPlanIn, IsReplyOf, IsStepped}
 
 pub fetch_changes_nothing : (before after : CountedWorkspace) (action : Action) (told : Reply) (revision : ℕ) (plan : Plan) (kept : Option KeptRun) →
     IsStepped before after action told → told ≡ reply.Fetched revision plan kept → after ≡ before

@@ -4,7 +4,7 @@ use Rattle.hangar_core.specs.declared.actions.Action.{Action}
 use Rattle.hangar_core.specs.declared.replies.Reply.{Reply}
 use Rattle.hangar_core.specs.declared.replies.Reply.TheVariants.{Opened, Dropped, Added, Edited, Loaded, Fetched, Attached, Placed, NoBranch, BranchExists, TooManyBranches, NoMapping, Unmapped, Misfit, Edit, Stale}
 use Rattle.hangar_core.specs.Replies.{accepted_with}
-use Rattle.hangar_core.specs.Standing.{CountedWorkspace, IsStepped}
+use Rattle.hangar_core.specs.ValidWorkspaces.{CountedWorkspace, IsStepped}
 
 one_or_none : (reply : Reply) → accepted_with reply ≤ 1
 one_or_none (Opened revision) = omega arith

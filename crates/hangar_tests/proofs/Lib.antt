@@ -1,4 +1,3 @@
-pub mod EmptyPlans
 pub mod Fetched
 pub mod FewAccepted
 pub mod OneModel

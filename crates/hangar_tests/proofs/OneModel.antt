@@ -4,7 +4,7 @@ use Rattle.aerie_base.specs.declared.models.model.Parts.{Parts}
 use Rattle.aerie_base.specs.declared.plans.Plan.{Plan}
 use Rattle.aerie_base.specs.plans.OfModel.{IsPlanOf}
 use Rattle.plan_edit.specs.declared.mappings.Mapping.{Mapping}
-use Rattle.hangar_core.specs.Standing.{AreModels, IsPlanAmong}
+use Rattle.commands.specs.SessionModels.{AreModels, IsPlanAmong}
 
 one_model : (model : Parts) → AreModels (model ∷ []) []
 one_model model = record { some_model = omega arith; few_models = omega arith; names = refl; between = tt }

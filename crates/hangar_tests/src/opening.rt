@@ -1,15 +1,12 @@
 //! The workspace that is tried.
 
-ghost use Rattle.std.specs.Prelude.{◌≡◌, ◌≤◌, ◌∷◌, [], IfSome};
-ghost use Rattle.aerie_base.specs.declared.models.model.Parts.{Parts};
+ghost use Rattle.std.specs.Prelude.{◌≡◌, ◌∷◌, [], IfSome};
 ghost use Rattle.aerie_base.specs.plans.OfModel.{IsPlanOf};
 
 use aerie_base::{List, Model, Name, Plan, Shared, Time};
-use aerie_text::tokens;
 use hangar_core::Hangar;
-use model_check::check;
-use model_reader::read_model;
 use std::alloc::Global;
+use test_worlds::{empty_plan, model_in};
 
 /// A model of one activity type, whose parameter has to be above 0.
 const MODEL: &str = "\
@@ -25,16 +22,6 @@ pub(crate) fn named(alloc: Global, text: &str) -> Option<Name> {
     Name::new(alloc, text).ok()?
 }
 
-/// The model of a text.
-fn model_in(alloc: Global, text: &str) -> Option<Model> {
-    if text.len() >= 4_294_967_295 {
-        return None;
-    }
-    let tokens = tokens(alloc, text).ok()?;
-    let (raw, _) = read_model(alloc, text, tokens.as_slice(), 0).ok()?;
-    check(alloc, &raw).ok()
-}
-
 /// One model, alone.
 fn alone(alloc: Global, model: Model) -> Option<List<Shared<Model>>>
     ensures { IfSome result (λ models. models ≡ model ∷ []) }
@@ -42,20 +29,6 @@ fn alone(alloc: Global, model: Model) -> Option<List<Shared<Model>>>
     let mut models = List::new(alloc);
     models.push(Shared::new(alloc, model).ok()?).ok()?;
     Some(models)
-}
-
-/// A plan without directives.
-fn empty(alloc: Global, duration: Time) -> Plan
-    requires { 1 ≤ duration }
-    ensures model { result.model ≡ 0 }
-    ensures plan { (model : Parts) → IsPlanOf model result }
-{
-    Plan {
-        model: 0,
-        duration,
-        next_id: 1,
-        directives: List::new(alloc),
-    }
 }
 
 /// The workspace of one model, with this branch and a plan without directives.
@@ -79,6 +52,6 @@ pub(crate) fn hangar(alloc: Global) -> Option<Hangar>
     if duration.get() < 1 {
         return None;
     }
-    let plan = empty(alloc, duration);
+    let plan = empty_plan(alloc, duration, 1);
     opened(alloc, model, branch, plan)
 }

@@ -1,7 +1,7 @@
 //! Plans that are placed: the second of two that fetched the same revision comes too late.
 
 ghost use Rattle.std.specs.Prelude.{◌≡◌, ◌≤◌, ◌<◌, ◌+◌, IfSome};
-ghost use Rattle.hangar_core.specs.Standing.{IsActionOn, IsOfSameSession, IsPlanIn, IsStepped};
+ghost use Rattle.hangar_core.specs.ValidWorkspaces.{IsActionOn, IsOfSameSession, IsPlanIn, IsStepped};
 
 use crate::opening::{hangar, named};
 use aerie_base::Plan;

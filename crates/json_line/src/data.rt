@@ -4,7 +4,7 @@ ghost use Rattle.std.specs.Prelude.{◌≡◌, ◌++◌, List, ℕ, OnOk, string
 ghost use Rattle.serde_json.specs.Data.{Data};
 ghost use Rattle.json_line.specs.Parts.{data_tokens, member_tokens};
 
-use crate::line::JsonLine;
+use crate::lines::JsonLine;
 use aerie_base::OutOfMemory;
 
 /// What is written as one value of JSON.

@@ -3,11 +3,13 @@
 #![tactic(auto)]
 
 mod data;
-mod line;
+mod lines;
 mod parts;
 mod paths;
+mod trees;
 mod values;
 
 pub use data::{JsonData, JsonIn, JsonMember, JsonText};
-pub use line::JsonLine;
+pub use lines::JsonLine;
 pub use parts::{line_of, line_of_in};
+pub use trees::{line, object, text_value};

@@ -7,7 +7,7 @@ ghost use Rattle.serde_json.specs.Written.{compact_text};
 ghost use Rattle.json_line.specs.Parts.{data_tokens, listed_tokens, member_if_tokens, member_tokens, members_from};
 
 use crate::data::{JsonData, JsonIn, JsonMember, JsonText};
-use crate::line::JsonLine;
+use crate::lines::JsonLine;
 use aerie_base::OutOfMemory;
 use std::alloc::Global;
 

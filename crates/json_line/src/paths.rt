@@ -4,7 +4,7 @@ ghost use Rattle.std.specs.Prelude.{◌≡◌, ◌++◌, OnOk, string_bytes, dec
 ghost use Rattle.json_line.specs.PathTexts.{numbers_text, path_data, path_text};
 
 use crate::data::{JsonData, JsonText};
-use crate::line::JsonLine;
+use crate::lines::JsonLine;
 use aerie_base::{OutOfMemory, Path};
 use itoa::Buffer;
 

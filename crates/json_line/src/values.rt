@@ -8,7 +8,7 @@ ghost use Rattle.serde_json.specs.View.{items_of};
 ghost use Rattle.json_line.specs.Parts.{optional_data};
 
 use crate::data::{JsonData, JsonIn};
-use crate::line::JsonLine;
+use crate::lines::JsonLine;
 use aerie_base::{List, Name, Number, OutOfMemory, Text, Time};
 
 impl JsonData for bool {

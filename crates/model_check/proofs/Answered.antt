@@ -1,38 +1,31 @@
 -- A model answers a check only where nothing is refused, and is then the one that is meant.
-use Rattle.std.proofs.Common.{◌≡◌, true, List, [], ◌∷◌, ◌++◌, Option, Some, None, Ok, if◌then◌else◌, refl, sym, ◌∙◌, subst}
+use Rattle.std.proofs.Common.{◌≡◌, true, List, [], ◌∷◌, ◌++◌, Option, Some, None, Ok, refl, sym, ◌∙◌, subst}
 use Rattle.aerie_base.specs.declared.models.model.Parts.{Parts}
 use Rattle.aerie_base.specs.models.ValidModel.{valid_model}
 use Rattle.model_reader.specs.Limits.{IsWithinLimits}
 use Rattle.model_reader.specs.declared.raw.models.RawModel.{RawModel}
-use Rattle.model_check.specs.declared.diagnostics.Diagnostic.{Diagnostic}
+use Rattle.diagnostics.specs.declared.diagnostic.Diagnostic.{Diagnostic}
+use Rattle.model_check.specs.declared.causes.Cause.{Cause}
 use Rattle.model_check.specs.CheckAnswers.{told, IsCheckOf}
-use Rattle.model_check.specs.Diagnostics.{noted, first_diagnostic, is_told_before}
-use Rattle.model_check.specs.FirstTold.{StandsAmong}
+use Rattle.model_check.specs.Diagnostics.{number_of_cause, first_diagnostic}
+use Rattle.diagnostics.specs.FirstTold.{StandsAmong}
+use Rattle.diagnostics.specs.NotedInTurn.{none_found}
 use Rattle.model_check.specs.ModelDiagnostics.{model_diagnostics}
 use Rattle.model_check.specs.ModelMeaning.{model_of}
 use Rattle.model_check.proofs.Sound.Models.{is_valid}
 
--- what was found first stays found
-stays_some : (wrong : List Diagnostic) (found : Diagnostic) → noted (Some found) wrong ≡ None → ⊥
-stays_some [] found e = cc
-stays_some (new ∷ rest) found e = stays_some rest (if is_told_before new found then new else found) e
-
-none_refused : (wrong : List Diagnostic) → first_diagnostic wrong ≡ None → wrong ≡ []
-none_refused [] e = refl
-none_refused (one ∷ rest) e = absurd (stays_some rest one e)
-
-answered : (first : Option Diagnostic) (meant model : Parts) → told first meant ≡ Ok model → (first ≡ None) × (model ≡ meant)
+answered : (first : Option (Diagnostic Cause)) (meant model : Parts) → told first meant ≡ Ok model → (first ≡ None) × (model ≡ meant)
 answered None meant model e = (refl, cc)
 answered (Some one) meant model e = cc
 
 pub nothing_refused : (raw : RawModel) (model : Parts) → IsCheckOf raw (Ok model) → model_diagnostics raw ≡ []
-nothing_refused raw model is = none_refused (model_diagnostics raw) (answered (first_diagnostic (model_diagnostics raw)) (model_of raw) model is).0
+nothing_refused raw model is = none_found number_of_cause (model_diagnostics raw) (answered (first_diagnostic (model_diagnostics raw)) (model_of raw) model is).0
 
-one_is_some : (one : Diagnostic) (front behind : List Diagnostic) → front ++ (one ∷ behind) ≡ [] → ⊥
+one_is_some : (one : Diagnostic Cause) (front behind : List (Diagnostic Cause)) → front ++ (one ∷ behind) ≡ [] → ⊥
 one_is_some one [] behind e = cc
 one_is_some one (other ∷ front) behind e = cc
 
-pub no_answer : (raw : RawModel) (one : Diagnostic) (model : Parts) → StandsAmong one (model_diagnostics raw) → IsCheckOf raw (Ok model) → ⊥
+pub no_answer : (raw : RawModel) (one : Diagnostic Cause) (model : Parts) → StandsAmong one (model_diagnostics raw) → IsCheckOf raw (Ok model) → ⊥
 no_answer raw one model stands is = one_is_some one stands.0 stands.1 (sym stands.2 ∙ nothing_refused raw model is)
 
 pub is_meant : (raw : RawModel) (model : Parts) → IsCheckOf raw (Ok model) → model ≡ model_of raw

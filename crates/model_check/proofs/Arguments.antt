@@ -6,19 +6,21 @@ use Rattle.std.proofs.lemmas.Option.{slice_get_within, slice_get-get_or}
 use Rattle.aerie_base.specs.declared.expressions.Expr.{Expr}
 use Rattle.aerie_base.specs.declared.places.Place.{Place}
 use Rattle.model_reader.specs.declared.raw.expressions.RawExpr.{RawExpr}
-use Rattle.model_check.specs.declared.diagnostics.Cause.TheVariants.{Duplicate, WrongType}
-use Rattle.model_check.specs.declared.diagnostics.Diagnostic.{Diagnostic}
+use Rattle.model_check.specs.declared.causes.Cause.TheVariants.{Duplicate, WrongType}
+use Rattle.diagnostics.specs.declared.diagnostic.Diagnostic.{Diagnostic}
+use Rattle.model_check.specs.declared.causes.Cause.{Cause}
 use Rattle.model_check.specs.declared.scopes.BodyScope.{BodyScope}
 use Rattle.model_check.specs.declared.symbols.ParameterSymbol.{ParameterSymbol}
 use Rattle.model_check.specs.declared.symbols.Symbols.{Symbols}
-use Rattle.model_check.specs.Diagnostics.{noted, refused_unless, Makes}
+use Rattle.diagnostics.specs.Diagnostics.{refused_unless}
+use Rattle.model_check.specs.Diagnostics.{number_of_cause, noted, Makes}
 use Rattle.model_check.specs.Expressions.{raw_kind, expr_diagnostics, expr_of}
 use Rattle.model_check.specs.GivenArguments.{GivenValues, slot_given, put_given, put_found, given_with, given_with_all, name_found, argument_found, arguments_found, missing_found, given_or_default, filled_values}
 use Rattle.model_check.specs.Invokes.{NamedArgument, Parameters, is_this_number, given_value, parameter_kind, argument_name_diagnostics, argument_diagnostics, arguments_diagnostics, missing_diagnostics, argument_expr, filled_arguments}
 use Rattle.model_check.specs.Literals.{mismatch}
-use Rattle.model_check.specs.NameLists.{name_number}
+use Rattle.diagnostics.specs.NameLists.{name_number}
 use Rattle.model_check.specs.NameTables.{numbered_value, entry_in}
-use Rattle.model_check.proofs.NotedInTurn.{noted_in_turn}
+use Rattle.diagnostics.specs.NotedInTurn.{noted_in_turn}
 
 -- ---- the first argument of a name, and one argument more
 
@@ -185,7 +187,7 @@ module _ (symbols : Symbols) (scope : BodyScope) where
 
     -- what is wrong with an argument behind the earlier ones
     found_is : argument_found symbols scope parameters given argument ≡ argument_diagnostics symbols scope parameters earlier argument
-    found_is = ap (λ (ds : List Diagnostic). ds ++ expr_diagnostics symbols scope argument.1 ++ mismatch argument.1.at (parameter_kind (entry_in argument.0.name parameters)) (raw_kind symbols scope argument.1.what)) (name_is (entry_in argument.0.name parameters) refl)
+    found_is = ap (λ (ds : List (Diagnostic Cause)). ds ++ expr_diagnostics symbols scope argument.1 ++ mismatch argument.1.at (parameter_kind (entry_in argument.0.name parameters)) (raw_kind symbols scope argument.1.what)) (name_is (entry_in argument.0.name parameters) refl)
       where
         name_is : (entry : Option (ℕ × ParameterSymbol)) → entry_in argument.0.name parameters ≡ entry →
             name_found given argument.0 entry ≡ argument_name_diagnostics parameters earlier argument.0 entry
@@ -267,7 +269,7 @@ module _ (symbols : Symbols) (scope : BodyScope) where
         (sym (whole ∙ ap (λ (g : GivenValues). given_with_all symbols scope parameters g arguments) start))
         (all_given arguments [] (replicate (length parameters.values) None) none_given)
 
-    pub known_made : (at : Place) (arguments : List NamedArgument) (first given : GivenValues) (found between after : Option Diagnostic) (made : List Expr) →
+    pub known_made : (at : Place) (arguments : List NamedArgument) (first given : GivenValues) (found between after : Option (Diagnostic Cause)) (made : List Expr) →
         first ≡ replicate (length parameters.values) None →
         given ≡ given_with_all symbols scope parameters first arguments →
         between ≡ noted found (arguments_found symbols scope parameters first arguments) →
@@ -278,7 +280,7 @@ module _ (symbols : Symbols) (scope : BodyScope) where
         let are : AreGiven symbols scope parameters arguments given = given_in_all arguments first given start whole in
         let none : AreGiven symbols scope parameters [] first = subst (λ (g : GivenValues). AreGiven symbols scope parameters [] g) (sym start) none_given in (
           filling.0 ∙ filled_is arguments parameters.values given 0 are.count (from_first arguments given are),
-          noted_in_turn (arguments_diagnostics symbols scope parameters [] arguments) (missing_diagnostics at parameters arguments 0 parameters.values) found between after
+          noted_in_turn number_of_cause (arguments_diagnostics symbols scope parameters [] arguments) (missing_diagnostics at parameters arguments 0 parameters.values) found between after
               (judged ∙ ap (noted found) (all_found arguments [] first none))
               (filling.1 ∙ ap (noted between) (missing_is at arguments parameters.values given 0 are.count (from_first arguments given are))),
         )

@@ -9,7 +9,8 @@ use Rattle.model_reader.specs.declared.raw.expressions.RawExpr.{RawExpr}
 use Rattle.model_reader.specs.declared.raw.expressions.RawExprKind.{RawExprKind, Literal, Read, Not, Negate, Binary}
 use Rattle.model_reader.specs.declared.raw.literals.RawLiteralKind.{RawLiteralKind}
 use Rattle.model_reader.specs.declared.raw.reads.RawRead.{RawRead}
-use Rattle.model_check.specs.declared.diagnostics.Diagnostic.{Diagnostic}
+use Rattle.diagnostics.specs.declared.diagnostic.Diagnostic.{Diagnostic}
+use Rattle.model_check.specs.declared.causes.Cause.{Cause}
 use Rattle.model_check.specs.declared.scopes.BodyScope.{BodyScope}
 use Rattle.model_check.specs.declared.symbols.Symbols.{Symbols}
 use Rattle.model_check.specs.CellReads.{read_diagnostics, read_operand}
@@ -20,8 +21,8 @@ use Rattle.model_check.proofs.RawExpressionForms.{gives_Not, gives_Negate, gives
 
 module _ (symbols : Symbols) (scope : BodyScope) where
   -- what is wrong by a step over one level, and what is meant
-  abbrev wrong : RawExpr → RawExprKind → List Diagnostic
-  wrong raw what = raw_gives (List Diagnostic) [] (expr_diagnostics_step symbols scope) raw.at what
+  abbrev wrong : RawExpr → RawExprKind → List (Diagnostic Cause)
+  wrong raw what = raw_gives (List (Diagnostic Cause)) [] (expr_diagnostics_step symbols scope) raw.at what
 
   abbrev meant : RawExpr → RawExprKind → Expr
   meant raw what = raw_gives Expr (expr.Literal (value.Truth false)) (expr_step symbols scope) raw.at what
@@ -49,7 +50,7 @@ module _ (symbols : Symbols) (scope : BodyScope) where
   pub wrong_not : (raw inner : RawExpr) → raw.what ≡ Not inner →
       expr_diagnostics symbols scope raw ≡ expr_diagnostics symbols scope inner ++ is_wanted symbols scope Truth inner
   unfolding expr_diagnostics
-  wrong_not raw inner e = ap (wrong raw) e ∙ gives_Not (List Diagnostic) [] (expr_diagnostics_step symbols scope) raw.at inner
+  wrong_not raw inner e = ap (wrong raw) e ∙ gives_Not (List (Diagnostic Cause)) [] (expr_diagnostics_step symbols scope) raw.at inner
 
   pub meant_not : (raw inner : RawExpr) → raw.what ≡ Not inner → expr_of symbols scope raw ≡ expr.Not (expr_of symbols scope inner)
   unfolding expr_of
@@ -58,7 +59,7 @@ module _ (symbols : Symbols) (scope : BodyScope) where
   pub wrong_negate : (raw inner : RawExpr) → raw.what ≡ Negate inner →
       expr_diagnostics symbols scope raw ≡ expr_diagnostics symbols scope inner ++ is_wanted symbols scope Int inner
   unfolding expr_diagnostics
-  wrong_negate raw inner e = ap (wrong raw) e ∙ gives_Negate (List Diagnostic) [] (expr_diagnostics_step symbols scope) raw.at inner
+  wrong_negate raw inner e = ap (wrong raw) e ∙ gives_Negate (List (Diagnostic Cause)) [] (expr_diagnostics_step symbols scope) raw.at inner
 
   pub meant_negate : (raw inner : RawExpr) → raw.what ≡ Negate inner →
       expr_of symbols scope raw ≡ expr.Negate (expr_of symbols scope inner)
@@ -71,7 +72,7 @@ module _ (symbols : Symbols) (scope : BodyScope) where
       ++ sides_diagnostics symbols scope (side_kind_of operator) left right
   unfolding expr_diagnostics
   wrong_binary raw operator left right e =
-      ap (wrong raw) e ∙ gives_Binary (List Diagnostic) [] (expr_diagnostics_step symbols scope) raw.at operator left right
+      ap (wrong raw) e ∙ gives_Binary (List (Diagnostic Cause)) [] (expr_diagnostics_step symbols scope) raw.at operator left right
 
   pub meant_binary : (raw : RawExpr) (operator : Operator) (left right : RawExpr) → raw.what ≡ Binary operator left right →
       expr_of symbols scope raw ≡ expr.Binary operator (expr_of symbols scope left) (expr_of symbols scope right)

@@ -1,10 +1,8 @@
 pub mod RawExpressionForms
 pub mod RawStatementForms
-pub mod NotedInTurn
 pub mod Results
 pub mod ExpressionForms
 pub mod MadeExpressions
-pub mod Turns
 pub mod Arguments
 pub mod LeafForms
 pub mod ConditionForms
@@ -16,6 +14,5 @@ pub mod MadeActivities
 pub mod MadeParts
 pub mod Sound
 pub mod Checked
-pub mod FirstTold
 pub mod Answered
 pub mod Placed

@@ -5,14 +5,15 @@ use Rattle.aerie_base.specs.declared.values.Kind.{Kind}
 use Rattle.aerie_base.specs.models.Limits.{local_limit}
 use Rattle.aerie_base.specs.models.Names.{is_name_among}
 use Rattle.model_reader.specs.declared.raw.names.RawName.{RawName}
-use Rattle.model_check.specs.declared.diagnostics.Cause.TheVariants.{Duplicate, TooManyLocals}
-use Rattle.model_check.specs.declared.diagnostics.Diagnostic.{Diagnostic}
+use Rattle.model_check.specs.declared.causes.Cause.TheVariants.{Duplicate, TooManyLocals}
+use Rattle.diagnostics.specs.declared.diagnostic.Diagnostic.{Diagnostic}
+use Rattle.model_check.specs.declared.causes.Cause.{Cause}
 use Rattle.model_check.specs.declared.scopes.BodyScope.{BodyScope}
 use Rattle.model_check.specs.declared.symbols.CellSymbol.{CellSymbol}
 use Rattle.model_check.specs.declared.symbols.EnumSymbol.{EnumSymbol}
 use Rattle.model_check.specs.declared.symbols.Symbols.{Symbols}
-use Rattle.model_check.specs.Diagnostics.{is_place_before, at_place, refused_unless}
-use Rattle.model_check.specs.NameLists.{with_name}
+use Rattle.diagnostics.specs.Diagnostics.{is_place_before, at_place, refused_unless}
+use Rattle.diagnostics.specs.NameLists.{with_name}
 use Rattle.model_check.specs.NameTables.{no_entries, with_entry, entry_in, first_entries}
 
 -- ---- which locals are known
@@ -45,7 +46,7 @@ abbrev pub later_place : Place → Place → Place
 later_place one other = if is_place_before one other then other else one
 
 -- a name that is also that of something else: the later one of the two is refused
-abbrev pub clash : Place → Option Place → List Diagnostic
+abbrev pub clash : Place → Option Place → List (Diagnostic Cause)
 clash at None = []
 clash at (Some other) = at_place Duplicate (later_place at other)
 
@@ -56,12 +57,12 @@ abbrev pub cell_place : ℕ × CellSymbol → Place
 cell_place cell = cell.1.at
 
 -- the name of a new local is that of no other local of its body, and of no enumeration and no cell
-abbrev pub local_diagnostics : Symbols → BodyScope → RawName → List Diagnostic
+abbrev pub local_diagnostics : Symbols → BodyScope → RawName → List (Diagnostic Cause)
 local_diagnostics symbols scope name =
     refused_unless (not (is_name_among name.name scope.names)) Duplicate name.at
     ++ clash name.at (option_map enum_place (entry_in name.name symbols.enums))
     ++ clash name.at (option_map cell_place (entry_in name.name symbols.cells))
 
 -- a `let` may be one too many
-abbrev pub let_diagnostics : Place → BodyScope → List Diagnostic
+abbrev pub let_diagnostics : Place → BodyScope → List (Diagnostic Cause)
 let_diagnostics at scope = refused_unless (nat_lt scope.count local_limit) TooManyLocals at

@@ -9,16 +9,17 @@ use Rattle.aerie_base.specs.declared.values.Kind.TheVariants.{Int, Truth}
 use Rattle.model_reader.specs.declared.raw.reads.RawPart.{RawPart}
 use Rattle.model_reader.specs.declared.raw.reads.RawPart.TheVariants.{Whole, Volume, Rate, Conflicted}
 use Rattle.model_reader.specs.declared.raw.reads.RawRead.{RawRead}
-use Rattle.model_check.specs.declared.diagnostics.Cause.TheVariants.{Unknown, WrongType}
-use Rattle.model_check.specs.declared.diagnostics.Diagnostic.{Diagnostic}
+use Rattle.model_check.specs.declared.causes.Cause.TheVariants.{Unknown, WrongType}
+use Rattle.diagnostics.specs.declared.diagnostic.Diagnostic.{Diagnostic}
+use Rattle.model_check.specs.declared.causes.Cause.{Cause}
 use Rattle.model_check.specs.declared.scopes.BodyScope.{BodyScope}
 use Rattle.model_check.specs.declared.scopes.LocalSymbol.{LocalSymbol}
 use Rattle.model_check.specs.declared.symbols.CellSort.{CellSort}
 use Rattle.model_check.specs.declared.symbols.CellSort.TheVariants.{Counter, Register, Accumulator}
 use Rattle.model_check.specs.declared.symbols.CellSymbol.{CellSymbol}
 use Rattle.model_check.specs.declared.symbols.Symbols.{Symbols}
-use Rattle.model_check.specs.Diagnostics.{at_place}
-use Rattle.model_check.specs.Literals.{short}
+use Rattle.diagnostics.specs.Diagnostics.{at_place}
+use Rattle.diagnostics.specs.ShortNumbers.{short}
 use Rattle.model_check.specs.NameTables.{entry_in}
 
 -- a local and a cell that a name may stand for
@@ -67,38 +68,38 @@ raw_read_kind symbols scope read = part_kind read.part (entry_in read.name.name 
 -- ---- what is wrong
 
 -- no accumulator alone
-abbrev pub whole_sort : Place → CellSort → List Diagnostic
+abbrev pub whole_sort : Place → CellSort → List (Diagnostic Cause)
 whole_sort at Counter = []
 whole_sort at (Register kind) = []
 whole_sort at Accumulator = at_place WrongType at
 
-abbrev pub flow_sort : Place → CellSort → List Diagnostic
+abbrev pub flow_sort : Place → CellSort → List (Diagnostic Cause)
 flow_sort at Counter = at_place WrongType at
 flow_sort at (Register kind) = at_place WrongType at
 flow_sort at Accumulator = []
 
-abbrev pub flag_sort : Place → CellSort → List Diagnostic
+abbrev pub flag_sort : Place → CellSort → List (Diagnostic Cause)
 flag_sort at Counter = at_place WrongType at
 flag_sort at (Register kind) = []
 flag_sort at Accumulator = at_place WrongType at
 
 -- a cell, of the right sort
-abbrev pub on_cell : (Place → CellSort → List Diagnostic) → Place → FoundCell → List Diagnostic
+abbrev pub on_cell : (Place → CellSort → List (Diagnostic Cause)) → Place → FoundCell → List (Diagnostic Cause)
 on_cell judged at None = at_place Unknown at
 on_cell judged at (Some cell) = judged at cell.1.sort
 
-abbrev pub whole_diagnostics : Place → FoundLocal → FoundCell → List Diagnostic
+abbrev pub whole_diagnostics : Place → FoundLocal → FoundCell → List (Diagnostic Cause)
 whole_diagnostics at (Some local) cell = []
 whole_diagnostics at None cell = on_cell whole_sort at cell
 
-abbrev pub part_diagnostics : RawPart → Place → FoundLocal → FoundCell → List Diagnostic
+abbrev pub part_diagnostics : RawPart → Place → FoundLocal → FoundCell → List (Diagnostic Cause)
 part_diagnostics Whole at local cell = whole_diagnostics at local cell
 part_diagnostics Volume at local cell = on_cell flow_sort at cell
 part_diagnostics Rate at local cell = on_cell flow_sort at cell
 part_diagnostics Conflicted at local cell = on_cell flag_sort at cell
 
 -- what is wrong with a read: its name is of no local and no cell, or of a cell of another sort
-abbrev pub read_diagnostics : Symbols → BodyScope → RawRead → List Diagnostic
+abbrev pub read_diagnostics : Symbols → BodyScope → RawRead → List (Diagnostic Cause)
 read_diagnostics symbols scope read =
     part_diagnostics read.part read.name.at (entry_in read.name.name scope.known) (entry_in read.name.name symbols.cells)
 

@@ -5,9 +5,9 @@ use Rattle.aerie_base.specs.declared.places.Place.{Place}
 use Rattle.model_reader.specs.declared.raw.models.RawModel.{RawModel}
 use Rattle.model_check.specs.declared.check_error.CheckError.{CheckError}
 use Rattle.model_check.specs.declared.check_error.CheckError.TheVariants as error
-use Rattle.model_check.specs.declared.diagnostics.Cause.{Cause}
-use Rattle.model_check.specs.declared.diagnostics.Cause.TheVariants as cause
-use Rattle.model_check.specs.declared.diagnostics.Diagnostic.{Diagnostic}
+use Rattle.model_check.specs.declared.causes.Cause.{Cause}
+use Rattle.model_check.specs.declared.causes.Cause.TheVariants as cause
+use Rattle.diagnostics.specs.declared.diagnostic.Diagnostic.{Diagnostic}
 use Rattle.model_check.specs.declared.parts.CheckedParts.{CheckedParts}
 use Rattle.model_check.specs.ModelDiagnostics.{first_refused}
 use Rattle.model_check.specs.ModelMeaning.{model_of}
@@ -23,7 +23,7 @@ error_at cause.TooManyLocals at = error.TooMany (codes "locals") at
 error_at cause.TooManyTerms at = error.TooMany (codes "terms") at
 
 -- what is refused, or else this model
-abbrev pub told : Option Diagnostic → Parts → Result Parts CheckError
+abbrev pub told : Option (Diagnostic Cause) → Parts → Result Parts CheckError
 told None model = Ok model
 told (Some diagnostic) model = Err (error_at diagnostic.cause diagnostic.place)
 

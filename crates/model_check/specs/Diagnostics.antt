@@ -1,11 +1,9 @@
--- What is wrong with a model, and what of it comes first: by place, and at one place by number.
-use Rattle.std.specs.Prelude.{◌≡◌, ℕ, ◌==◌, Bool, ◌&&◌, ◌||◌, not, List, [], ◌∷◌, Option, Some, None, nat_lt, if◌then◌else◌}
-use Rattle.aerie_base.specs.declared.places.Place.{Place}
-use Rattle.model_check.specs.declared.diagnostics.Cause.{Cause}
-use Rattle.model_check.specs.declared.diagnostics.Cause.TheVariants.{Unknown, Duplicate, WrongType, NotLinear, OutOfRange, TooManyLocals, TooManyTerms}
-use Rattle.model_check.specs.declared.diagnostics.Diagnostic.{Diagnostic}
-
--- ---- the order
+-- What is wrong with a model: why a part of it is refused, and by which rank the first of several causes at one place is told.
+use Rattle.std.specs.Prelude.{ℕ, List, Option}
+use Rattle.diagnostics.specs.declared.diagnostic.Diagnostic.{Diagnostic}
+use Rattle.diagnostics.specs.Diagnostics.{noted_by, first_by, MakesBy}
+use Rattle.model_check.specs.declared.causes.Cause.{Cause}
+use Rattle.model_check.specs.declared.causes.Cause.TheVariants.{Unknown, Duplicate, WrongType, NotLinear, OutOfRange, TooManyLocals, TooManyTerms}
 
 abbrev pub number_of_cause : Cause → ℕ
 number_of_cause Unknown = 1
@@ -16,43 +14,14 @@ number_of_cause OutOfRange = 5
 number_of_cause TooManyLocals = 6
 number_of_cause TooManyTerms = 6
 
--- by line, and in one line by column
-abbrev pub is_place_before : Place → Place → Bool
-is_place_before one other = nat_lt one.line other.line || (one.line == other.line && nat_lt one.column other.column)
-
--- by place, and at one place by number
-abbrev pub is_told_before : Diagnostic → Diagnostic → Bool
-is_told_before one other =
-    is_place_before one.place other.place
-    || (not (is_place_before other.place one.place) && nat_lt (number_of_cause one.cause) (number_of_cause other.cause))
-
--- ---- the first one
-
--- the first of what was found so far and one more
-abbrev pub sooner : Option Diagnostic → Diagnostic → Option Diagnostic
-sooner None new = Some new
-sooner (Some old) new = Some (if is_told_before new old then new else old)
-
 -- the first of what was found so far and more of them
-abbrev pub noted : Option Diagnostic → List Diagnostic → Option Diagnostic
-noted found [] = found
-noted found (new ∷ rest) = noted (sooner found new) rest
+abbrev pub noted : Option (Diagnostic Cause) → List (Diagnostic Cause) → Option (Diagnostic Cause)
+noted = noted_by number_of_cause
 
 -- the first of them, where there is one
-abbrev pub first_diagnostic : List Diagnostic → Option Diagnostic
-first_diagnostic = noted None
-
--- ---- one at a place
-
-abbrev pub at_place : Cause → Place → List Diagnostic
-at_place cause place = record { place = place; cause = cause } ∷ []
-
--- the same, where something does not hold
-abbrev pub refused_unless : Bool → Cause → Place → List Diagnostic
-refused_unless holds cause place = if holds then [] else at_place cause place
-
--- ---- what is made while it is noted
+abbrev pub first_diagnostic : List (Diagnostic Cause) → Option (Diagnostic Cause)
+first_diagnostic = first_by number_of_cause
 
 -- this was made, and what is wrong with it was noted
-abbrev pub Makes : {A : Type 0} → A → List Diagnostic → Option Diagnostic → Option Diagnostic → A → Type 0
-Makes meant wrong before after made = (made ≡ meant) × (after ≡ noted before wrong)
+abbrev pub Makes : {A : Type 0} → A → List (Diagnostic Cause) → Option (Diagnostic Cause) → Option (Diagnostic Cause) → A → Type 0
+Makes = MakesBy number_of_cause

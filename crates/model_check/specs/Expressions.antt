@@ -13,7 +13,8 @@ use Rattle.aerie_base.specs.declared.values.Value.TheVariants as value
 use Rattle.model_reader.specs.declared.raw.expressions.RawExpr.{RawExpr}
 use Rattle.model_reader.specs.declared.raw.expressions.RawExprKind.{RawExprKind, Literal, Read, Not', Negate', Binary'}
 use Rattle.model_reader.specs.declared.raw.expressions.RawExprKind.TheOpen.{RawExprKind-F}
-use Rattle.model_check.specs.declared.diagnostics.Diagnostic.{Diagnostic}
+use Rattle.diagnostics.specs.declared.diagnostic.Diagnostic.{Diagnostic}
+use Rattle.model_check.specs.declared.causes.Cause.{Cause}
 use Rattle.model_check.specs.declared.scopes.BodyScope.{BodyScope}
 use Rattle.model_check.specs.declared.symbols.Symbols.{Symbols}
 use Rattle.model_check.specs.CellReads.{raw_read_kind, read_diagnostics, read_operand}
@@ -63,17 +64,17 @@ raw_kind symbols scope (Binary' operator _ _ _ _) = Some (kind_of_operator opera
 -- ---- what is wrong
 
 -- a part that has another type than is wanted
-abbrev pub is_wanted : Symbols → BodyScope → Kind → RawExpr → List Diagnostic
+abbrev pub is_wanted : Symbols → BodyScope → Kind → RawExpr → List (Diagnostic Cause)
 is_wanted symbols scope wanted part = mismatch part.at (Some wanted) (raw_kind symbols scope part.what)
 
 -- the sides of an operator have the type that it takes, or one type
-abbrev pub sides_diagnostics : Symbols → BodyScope → Option Kind → RawExpr → RawExpr → List Diagnostic
+abbrev pub sides_diagnostics : Symbols → BodyScope → Option Kind → RawExpr → RawExpr → List (Diagnostic Cause)
 sides_diagnostics symbols scope None left right =
     mismatch right.at (raw_kind symbols scope left.what) (raw_kind symbols scope right.what)
 sides_diagnostics symbols scope (Some wanted) left right =
     is_wanted symbols scope wanted left ++ is_wanted symbols scope wanted right
 
-abbrev pub expr_diagnostics_step : Symbols → BodyScope → Place → RawLevel (List Diagnostic) → List Diagnostic
+abbrev pub expr_diagnostics_step : Symbols → BodyScope → Place → RawLevel (List (Diagnostic Cause)) → List (Diagnostic Cause)
 expr_diagnostics_step symbols scope at (RawExprKind-F.Literal literal) = literal_diagnostics symbols.enums literal
 expr_diagnostics_step symbols scope at (RawExprKind-F.Read read) = read_diagnostics symbols scope read
 expr_diagnostics_step symbols scope at (RawExprKind-F.Not inner) = inner.1 ++ is_wanted symbols scope Truth inner.0
@@ -82,11 +83,11 @@ expr_diagnostics_step symbols scope at (RawExprKind-F.Binary operator left right
     left.1 ++ right.1 ++ sides_diagnostics symbols scope (side_kind_of operator) left.0 right.0
 
 -- what is wrong with an expression
-unfoldable pub expr_diagnostics : Symbols → BodyScope → RawExpr → List Diagnostic
-expr_diagnostics symbols scope raw = raw_gives (List Diagnostic) [] (expr_diagnostics_step symbols scope) raw.at raw.what
+unfoldable pub expr_diagnostics : Symbols → BodyScope → RawExpr → List (Diagnostic Cause)
+expr_diagnostics symbols scope raw = raw_gives (List (Diagnostic Cause)) [] (expr_diagnostics_step symbols scope) raw.at raw.what
 
 -- the same where a type is wanted of it
-abbrev pub typed_diagnostics : Symbols → BodyScope → Kind → RawExpr → List Diagnostic
+abbrev pub typed_diagnostics : Symbols → BodyScope → Kind → RawExpr → List (Diagnostic Cause)
 typed_diagnostics symbols scope wanted raw = expr_diagnostics symbols scope raw ++ is_wanted symbols scope wanted raw
 
 -- ---- what it means

@@ -3,12 +3,13 @@ use Rattle.std.specs.Prelude.{ℕ, ◌||◌, not, List, [], ◌∷◌, ◌++◌,
 use Rattle.aerie_base.specs.declared.expressions.Expr.{Expr}
 use Rattle.aerie_base.specs.declared.places.Place.{Place}
 use Rattle.model_reader.specs.declared.raw.names.RawName.{RawName}
-use Rattle.model_check.specs.declared.diagnostics.Cause.TheVariants.{Unknown, Duplicate, WrongType}
-use Rattle.model_check.specs.declared.diagnostics.Diagnostic.{Diagnostic}
+use Rattle.model_check.specs.declared.causes.Cause.TheVariants.{Unknown, Duplicate, WrongType}
+use Rattle.diagnostics.specs.declared.diagnostic.Diagnostic.{Diagnostic}
+use Rattle.model_check.specs.declared.causes.Cause.{Cause}
 use Rattle.model_check.specs.declared.scopes.BodyScope.{BodyScope}
 use Rattle.model_check.specs.declared.symbols.ParameterSymbol.{ParameterSymbol}
 use Rattle.model_check.specs.declared.symbols.Symbols.{Symbols}
-use Rattle.model_check.specs.Diagnostics.{at_place, refused_unless}
+use Rattle.diagnostics.specs.Diagnostics.{at_place, refused_unless}
 use Rattle.model_check.specs.Expressions.{raw_kind, expr_diagnostics, expr_of}
 use Rattle.model_check.specs.Invokes.{NamedArgument, Parameters, default_expr, parameter_kind}
 use Rattle.model_check.specs.Literals.{mismatch}
@@ -41,24 +42,24 @@ given_with_all symbols scope parameters given (argument ∷ rest) =
     given_with_all symbols scope parameters (given_with symbols scope parameters given argument) rest
 
 -- what is wrong with the name of one more argument
-abbrev pub name_found : GivenValues → RawName → Option (ℕ × ParameterSymbol) → List Diagnostic
+abbrev pub name_found : GivenValues → RawName → Option (ℕ × ParameterSymbol) → List (Diagnostic Cause)
 name_found given name None = at_place Unknown name.at
 name_found given name (Some parameter) = refused_unless (not (is_some (slot_given given parameter.0))) Duplicate name.at
 
-abbrev pub argument_found : Symbols → BodyScope → Parameters → GivenValues → NamedArgument → List Diagnostic
+abbrev pub argument_found : Symbols → BodyScope → Parameters → GivenValues → NamedArgument → List (Diagnostic Cause)
 argument_found symbols scope parameters given argument =
     name_found given argument.0 (entry_in argument.0.name parameters)
     ++ expr_diagnostics symbols scope argument.1
     ++ mismatch argument.1.at (parameter_kind (entry_in argument.0.name parameters)) (raw_kind symbols scope argument.1.what)
 
-abbrev pub arguments_found : Symbols → BodyScope → Parameters → GivenValues → List NamedArgument → List Diagnostic
+abbrev pub arguments_found : Symbols → BodyScope → Parameters → GivenValues → List NamedArgument → List (Diagnostic Cause)
 arguments_found symbols scope parameters given [] = []
 arguments_found symbols scope parameters given (argument ∷ rest) =
     argument_found symbols scope parameters given argument
     ++ arguments_found symbols scope parameters (given_with symbols scope parameters given argument) rest
 
 -- a place without a value, whose parameter has no default
-abbrev pub missing_found : Place → List ParameterSymbol → GivenValues → List Diagnostic
+abbrev pub missing_found : Place → List ParameterSymbol → GivenValues → List (Diagnostic Cause)
 missing_found at [] given = []
 missing_found at (parameter ∷ rest) [] = []
 missing_found at (parameter ∷ rest) (value ∷ values) =

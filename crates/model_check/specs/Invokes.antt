@@ -9,18 +9,20 @@ use Rattle.aerie_base.specs.declared.values.Value.TheVariants as value
 use Rattle.model_reader.specs.declared.raw.expressions.RawExpr.{RawExpr}
 use Rattle.model_reader.specs.declared.raw.invokes.RawInvoke.{RawInvoke}
 use Rattle.model_reader.specs.declared.raw.names.RawName.{RawName}
-use Rattle.model_check.specs.declared.diagnostics.Cause.TheVariants.{Unknown, Duplicate, WrongType}
-use Rattle.model_check.specs.declared.diagnostics.Diagnostic.{Diagnostic}
+use Rattle.model_check.specs.declared.causes.Cause.TheVariants.{Unknown, Duplicate, WrongType}
+use Rattle.diagnostics.specs.declared.diagnostic.Diagnostic.{Diagnostic}
+use Rattle.model_check.specs.declared.causes.Cause.{Cause}
 use Rattle.model_check.specs.declared.scopes.BodyScope.{BodyScope}
 use Rattle.model_check.specs.declared.symbols.ParameterSymbol.{ParameterSymbol}
 use Rattle.model_check.specs.declared.symbols.ResultSymbol.{ResultSymbol}
 use Rattle.model_check.specs.declared.symbols.Symbols.{Symbols}
 use Rattle.model_check.specs.declared.symbols.TypeSymbol.{TypeSymbol}
 use Rattle.model_check.specs.declared.tables.NameTable.{NameTable}
-use Rattle.model_check.specs.Diagnostics.{at_place, refused_unless}
+use Rattle.diagnostics.specs.Diagnostics.{at_place, refused_unless}
 use Rattle.model_check.specs.Expressions.{raw_kind, expr_diagnostics, expr_of}
-use Rattle.model_check.specs.Literals.{short, mismatch}
-use Rattle.model_check.specs.NameLists.{name_number}
+use Rattle.diagnostics.specs.ShortNumbers.{short}
+use Rattle.model_check.specs.Literals.{mismatch}
+use Rattle.diagnostics.specs.NameLists.{name_number}
 use Rattle.model_check.specs.NameTables.{entry_in}
 
 abbrev pub NamedArgument : Type 0
@@ -48,58 +50,58 @@ parameter_kind None = None
 parameter_kind (Some parameter) = parameter.1.kind
 
 -- an argument has the name of a parameter, which no earlier one has
-abbrev pub argument_name_diagnostics : Parameters → List NamedArgument → RawName → Option (ℕ × ParameterSymbol) → List Diagnostic
+abbrev pub argument_name_diagnostics : Parameters → List NamedArgument → RawName → Option (ℕ × ParameterSymbol) → List (Diagnostic Cause)
 argument_name_diagnostics parameters earlier name None = at_place Unknown name.at
 argument_name_diagnostics parameters earlier name (Some parameter) =
     refused_unless (not (is_some (given_value parameters parameter.0 earlier))) Duplicate name.at
 
-abbrev pub argument_diagnostics : Symbols → BodyScope → Parameters → List NamedArgument → NamedArgument → List Diagnostic
+abbrev pub argument_diagnostics : Symbols → BodyScope → Parameters → List NamedArgument → NamedArgument → List (Diagnostic Cause)
 argument_diagnostics symbols scope parameters earlier argument =
     argument_name_diagnostics parameters earlier argument.0 (entry_in argument.0.name parameters)
     ++ expr_diagnostics symbols scope argument.1
     ++ mismatch argument.1.at (parameter_kind (entry_in argument.0.name parameters)) (raw_kind symbols scope argument.1.what)
 
 -- the arguments behind earlier ones
-abbrev pub arguments_diagnostics : Symbols → BodyScope → Parameters → List NamedArgument → List NamedArgument → List Diagnostic
+abbrev pub arguments_diagnostics : Symbols → BodyScope → Parameters → List NamedArgument → List NamedArgument → List (Diagnostic Cause)
 arguments_diagnostics symbols scope parameters earlier [] = []
 arguments_diagnostics symbols scope parameters earlier (argument ∷ rest) =
     argument_diagnostics symbols scope parameters earlier argument
     ++ arguments_diagnostics symbols scope parameters (earlier ++ argument ∷ []) rest
 
 -- each parameter from this number on is given or has a default
-abbrev pub missing_diagnostics : Place → Parameters → List NamedArgument → ℕ → List ParameterSymbol → List Diagnostic
+abbrev pub missing_diagnostics : Place → Parameters → List NamedArgument → ℕ → List ParameterSymbol → List (Diagnostic Cause)
 missing_diagnostics at parameters arguments number [] = []
 missing_diagnostics at parameters arguments number (parameter ∷ rest) =
     refused_unless (is_some parameter.default || is_some (given_value parameters number arguments)) WrongType at
     ++ missing_diagnostics at parameters arguments (number + 1) rest
 
 -- the values of arguments of an activity type that is unknown
-abbrev pub values_diagnostics : Symbols → BodyScope → List NamedArgument → List Diagnostic
+abbrev pub values_diagnostics : Symbols → BodyScope → List NamedArgument → List (Diagnostic Cause)
 values_diagnostics symbols scope [] = []
 values_diagnostics symbols scope (argument ∷ rest) =
     expr_diagnostics symbols scope argument.1 ++ values_diagnostics symbols scope rest
 
 -- arguments of these parameters
-abbrev pub known_diagnostics : Symbols → BodyScope → Parameters → RawInvoke → List Diagnostic
+abbrev pub known_diagnostics : Symbols → BodyScope → Parameters → RawInvoke → List (Diagnostic Cause)
 known_diagnostics symbols scope parameters invoke =
     arguments_diagnostics symbols scope parameters [] invoke.arguments
     ++ missing_diagnostics invoke.name.at parameters invoke.arguments 0 parameters.values
 
-abbrev pub invoked_diagnostics : Symbols → BodyScope → RawInvoke → Option (ℕ × TypeSymbol) → List Diagnostic
+abbrev pub invoked_diagnostics : Symbols → BodyScope → RawInvoke → Option (ℕ × TypeSymbol) → List (Diagnostic Cause)
 invoked_diagnostics symbols scope invoke None =
     at_place Unknown invoke.name.at ++ values_diagnostics symbols scope invoke.arguments
 invoked_diagnostics symbols scope invoke (Some type) = known_diagnostics symbols scope type.1.parameters invoke
 
 -- what is wrong with the start of an activity
-unfoldable pub invoke_diagnostics : Symbols → BodyScope → RawInvoke → List Diagnostic
+unfoldable pub invoke_diagnostics : Symbols → BodyScope → RawInvoke → List (Diagnostic Cause)
 invoke_diagnostics symbols scope invoke = invoked_diagnostics symbols scope invoke (entry_in invoke.name.name symbols.types)
 
-abbrev pub result_wanted : Place → Option (ℕ × TypeSymbol) → List Diagnostic
+abbrev pub result_wanted : Place → Option (ℕ × TypeSymbol) → List (Diagnostic Cause)
 result_wanted at None = []
 result_wanted at (Some type) = refused_unless (is_some type.1.result) WrongType at
 
 -- a `let` takes a result, so the activity type has one
-abbrev pub result_diagnostics : Symbols → RawInvoke → List Diagnostic
+abbrev pub result_diagnostics : Symbols → RawInvoke → List (Diagnostic Cause)
 result_diagnostics symbols invoke = result_wanted invoke.name.at (entry_in invoke.name.name symbols.types)
 
 -- ---- what is meant

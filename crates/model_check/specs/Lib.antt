@@ -1,6 +1,4 @@
 pub mod Diagnostics
-pub mod FirstTold
-pub mod NameLists
 pub mod NameTables
 pub mod RawExpressions
 pub mod Literals

@@ -17,8 +17,9 @@ use Rattle.model_reader.specs.declared.raw.literals.RawLiteralKind.TheVariants a
 use Rattle.model_reader.specs.declared.raw.reads.RawPart.{RawPart}
 use Rattle.model_reader.specs.declared.raw.reads.RawPart.TheVariants.{Whole, Volume, Rate, Conflicted}
 use Rattle.model_reader.specs.declared.raw.reads.RawRead.{RawRead}
-use Rattle.model_check.specs.declared.diagnostics.Cause.TheVariants.{NotLinear, OutOfRange, TooManyTerms}
-use Rattle.model_check.specs.declared.diagnostics.Diagnostic.{Diagnostic}
+use Rattle.model_check.specs.declared.causes.Cause.TheVariants.{NotLinear, OutOfRange, TooManyTerms}
+use Rattle.diagnostics.specs.declared.diagnostic.Diagnostic.{Diagnostic}
+use Rattle.model_check.specs.declared.causes.Cause.{Cause}
 use Rattle.model_check.specs.declared.leaves.FormUse.{FormUse}
 use Rattle.model_check.specs.declared.leaves.FormUse.TheVariants.{Comparison, Resource}
 use Rattle.model_check.specs.declared.leaves.Leaf.{Leaf}
@@ -27,7 +28,7 @@ use Rattle.model_check.specs.declared.symbols.CellSort.{CellSort}
 use Rattle.model_check.specs.declared.symbols.CellSort.TheVariants.{Counter, Register, Accumulator}
 use Rattle.model_check.specs.declared.symbols.Symbols.{Symbols}
 use Rattle.model_check.specs.CellReads.{FoundCell, raw_read_kind, read_operand}
-use Rattle.model_check.specs.Diagnostics.{refused_unless}
+use Rattle.diagnostics.specs.Diagnostics.{refused_unless}
 use Rattle.model_check.specs.Literals.{literal_kind}
 use Rattle.model_check.specs.NameTables.{entry_in}
 use Rattle.model_check.specs.RawExpressions.{RawLevel, raw_gives}
@@ -71,7 +72,7 @@ is_leaf_read use_ symbols scope read = is_leaf_kind (raw_read_kind symbols scope
 
 -- ---- leaves
 
-abbrev pub not_linear : Place → Diagnostic
+abbrev pub not_linear : Place → Diagnostic Cause
 not_linear at = record { place = at; cause = NotLinear }
 
 -- a part that is not of the form
@@ -79,7 +80,7 @@ abbrev pub unfit_leaf : Place → Leaf
 unfit_leaf at = record { at = at; wrong = Some (not_linear at); term = None; constant = pos 0 }
 
 -- a literal is no part of a resource
-abbrev pub constant_wrong : FormUse → Place → Option Diagnostic
+abbrev pub constant_wrong : FormUse → Place → Option (Diagnostic Cause)
 constant_wrong Comparison at = None
 constant_wrong Resource at = Some (not_linear at)
 
@@ -87,7 +88,7 @@ abbrev pub constant_leaf : FormUse → Place → ℤ → Leaf
 constant_leaf use_ at number = record { at = at; wrong = constant_wrong use_ at; term = None; constant = number }
 
 -- a coefficient has its range
-abbrev pub coefficient_wrong : Place → ℤ → Option Diagnostic
+abbrev pub coefficient_wrong : Place → ℤ → Option (Diagnostic Cause)
 coefficient_wrong at coefficient =
     if nat_le (unsigned_abs coefficient) coefficient_limit then None else Some (record { place = at; cause = OutOfRange })
 
@@ -234,16 +235,16 @@ leaves_of use_ symbols scope raw = raw_gives Leaves no_leaves (leaves_step use_ 
 -- ---- what is wrong with a form
 
 -- a leaf behind so many others: those past the sixteenth are too many
-abbrev pub leaf_diagnostics : ℕ → Leaf → List Diagnostic
+abbrev pub leaf_diagnostics : ℕ → Leaf → List (Diagnostic Cause)
 leaf_diagnostics before leaf = option_to_list leaf.wrong ++ refused_unless (nat_lt before term_limit) TooManyTerms leaf.at
 
 -- the same of the leaves behind so many others
-abbrev pub leaves_diagnostics : ℕ → List Leaf → List Diagnostic
+abbrev pub leaves_diagnostics : ℕ → List Leaf → List (Diagnostic Cause)
 leaves_diagnostics before [] = []
 leaves_diagnostics before (leaf ∷ rest) =
     leaf_diagnostics before leaf ++ leaves_diagnostics (before + 1) rest
 
-abbrev pub form_diagnostics : FormUse → Symbols → BodyScope → RawExpr → List Diagnostic
+abbrev pub form_diagnostics : FormUse → Symbols → BodyScope → RawExpr → List (Diagnostic Cause)
 form_diagnostics use_ symbols scope raw = leaves_diagnostics 0 (leaves_of use_ symbols scope raw false)
 
 -- ---- what it means

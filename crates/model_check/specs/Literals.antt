@@ -1,5 +1,5 @@
 -- Literals: what is wrong with one, its type and its value.
-use Rattle.std.specs.Prelude.{ℕ, min, false, List, [], Option, Some, None, option_map}
+use Rattle.std.specs.Prelude.{ℕ, false, List, [], Option, Some, None, option_map}
 use Rattle.aerie_base.specs.declared.places.Place.{Place}
 use Rattle.aerie_base.specs.declared.values.Kind.{Kind}
 use Rattle.aerie_base.specs.declared.values.Kind.TheVariants.{Int, Truth, Enum}
@@ -9,22 +9,20 @@ use Rattle.aerie_base.specs.expressions.Typing.{same_kind}
 use Rattle.model_reader.specs.declared.raw.literals.RawLiteralKind.{RawLiteralKind}
 use Rattle.model_reader.specs.declared.raw.literals.RawLiteralKind.TheVariants as literal
 use Rattle.model_reader.specs.declared.raw.names.RawName.{RawName}
-use Rattle.model_check.specs.declared.diagnostics.Cause.TheVariants.{Unknown, WrongType}
-use Rattle.model_check.specs.declared.diagnostics.Diagnostic.{Diagnostic}
+use Rattle.model_check.specs.declared.causes.Cause.TheVariants.{Unknown, WrongType}
+use Rattle.diagnostics.specs.declared.diagnostic.Diagnostic.{Diagnostic}
+use Rattle.model_check.specs.declared.causes.Cause.{Cause}
 use Rattle.model_check.specs.declared.symbols.EnumSymbol.{EnumSymbol}
 use Rattle.model_check.specs.declared.tables.NameTable.{NameTable}
-use Rattle.model_check.specs.Diagnostics.{at_place, refused_unless}
-use Rattle.model_check.specs.NameLists.{name_number}
+use Rattle.diagnostics.specs.Diagnostics.{at_place, refused_unless}
+use Rattle.diagnostics.specs.NameLists.{name_number}
+use Rattle.diagnostics.specs.ShortNumbers.{short}
 use Rattle.model_check.specs.NameTables.{entry_in}
-
--- the number of an enumeration, a variant or a cell, which has 16 bits: one past its type's end stands at the end
-abbrev pub short : ℕ → ℕ
-short number = min number 65535
 
 -- ---- types that are wanted
 
 -- a type where another one is wanted; what has no type, since a name in it is unknown, is as wanted
-abbrev pub mismatch : Place → Option Kind → Option Kind → List Diagnostic
+abbrev pub mismatch : Place → Option Kind → Option Kind → List (Diagnostic Cause)
 mismatch at None found = []
 mismatch at (Some wanted) None = []
 mismatch at (Some wanted) (Some found) = refused_unless (same_kind wanted found) WrongType at
@@ -41,16 +39,16 @@ literal_kind enums (literal.Truth truth) = Some Truth
 literal_kind enums (literal.Variant kind variant) = option_map enum_kind (entry_in kind.name enums)
 
 -- an enumeration has the variant
-abbrev pub no_variant : RawName → Option ℕ → List Diagnostic
+abbrev pub no_variant : RawName → Option ℕ → List (Diagnostic Cause)
 no_variant variant None = at_place Unknown variant.at
 no_variant variant (Some number) = []
 
-abbrev pub variant_diagnostics : RawName → RawName → Option (ℕ × EnumSymbol) → List Diagnostic
+abbrev pub variant_diagnostics : RawName → RawName → Option (ℕ × EnumSymbol) → List (Diagnostic Cause)
 variant_diagnostics kind variant None = at_place Unknown kind.at
 variant_diagnostics kind variant (Some enum) = no_variant variant (name_number variant.name enum.1.variants)
 
 -- what is wrong with a literal: its enumeration is unknown, or that has no such variant
-abbrev pub literal_diagnostics : NameTable EnumSymbol → RawLiteralKind → List Diagnostic
+abbrev pub literal_diagnostics : NameTable EnumSymbol → RawLiteralKind → List (Diagnostic Cause)
 literal_diagnostics enums (literal.Number number) = []
 literal_diagnostics enums (literal.Truth truth) = []
 literal_diagnostics enums (literal.Variant kind variant) = variant_diagnostics kind variant (entry_in kind.name enums)

@@ -20,8 +20,9 @@ use Rattle.model_reader.specs.declared.raw.names.RawName.{RawName}
 use Rattle.model_reader.specs.declared.raw.statements.RawStmt.{RawStmt}
 use Rattle.model_reader.specs.declared.raw.types.RawType.{RawType}
 use Rattle.model_check.specs.declared.bodies.CheckedBody.{CheckedBody}
-use Rattle.model_check.specs.declared.diagnostics.Cause.TheVariants.{Duplicate}
-use Rattle.model_check.specs.declared.diagnostics.Diagnostic.{Diagnostic}
+use Rattle.model_check.specs.declared.causes.Cause.TheVariants.{Duplicate}
+use Rattle.diagnostics.specs.declared.diagnostic.Diagnostic.{Diagnostic}
+use Rattle.model_check.specs.declared.causes.Cause.{Cause}
 use Rattle.model_check.specs.declared.leaves.FormUse.{FormUse}
 use Rattle.model_check.specs.declared.parts.CheckedParts.{CheckedParts}
 use Rattle.model_check.specs.declared.scopes.BodyScope.{BodyScope}
@@ -33,7 +34,8 @@ use Rattle.model_check.specs.CheckedBodies.{checked_body}
 use Rattle.model_check.specs.CheckedParameters.{parameter_of, with_parameter}
 use Rattle.model_check.specs.CheckedParts.{with_checked_item}
 use Rattle.model_check.specs.DeclaredParts.{register_start}
-use Rattle.model_check.specs.Diagnostics.{noted, refused_unless, Makes}
+use Rattle.diagnostics.specs.Diagnostics.{refused_unless}
+use Rattle.model_check.specs.Diagnostics.{noted, Makes}
 use Rattle.model_check.specs.Expressions.{typed_diagnostics, expr_of}
 use Rattle.model_check.specs.GivenArguments.{GivenValues, given_with, given_with_all, argument_found, arguments_found}
 use Rattle.model_check.specs.Invokes.{NamedArgument, Parameters, known_diagnostics, filled_arguments, invoke_diagnostics, invoke_arguments}
@@ -42,26 +44,21 @@ use Rattle.model_check.specs.MadeStatements.{MakesBehind}
 use Rattle.model_check.specs.ModelDiagnostics.{repeated_diagnostics, typed_literal_diagnostics, parameter_diagnostics, parameter_scope, parameters_diagnostics, requires_diagnostics, activity_diagnostics_in, item_diagnostics}
 use Rattle.model_check.specs.ModelMeaning.{model_parameters, model_requires, activity_in}
 use Rattle.model_check.specs.ModelSymbols.{with_names, type_diagnostics}
-use Rattle.model_check.specs.NameLists.{with_name}
+use Rattle.diagnostics.specs.NameLists.{with_name}
 use Rattle.model_check.specs.Statements.{cell_in, valued_diagnostics, flow_diagnostics, return_diagnostics, returned_of, block_diagnostics}
 use Rattle.model_check.specs.Waits.{compared_diagnostics, compared_of, forms_compared, plain_operator_diagnostics, plain_operator_of}
 
 -- something is made, by what was noted before it and behind it
 abbrev pub PartMaking : Type 0 → Type 1
-PartMaking A = Option Diagnostic → Option Diagnostic → A → Type 0
+PartMaking A = Option (Diagnostic Cause) → Option (Diagnostic Cause) → A → Type 0
 
 -- something is added to others, by these before it and behind it
 abbrev pub PartAdding : Type 0 → Type 1
-PartAdding A = A → A → Option Diagnostic → Option Diagnostic → Type 0
+PartAdding A = A → A → Option (Diagnostic Cause) → Option (Diagnostic Cause) → Type 0
 
 -- ---- names
 
--- one more name, which may be that of an earlier one
-abbrev pub AddsName : RawName → PartAdding (List (List ℕ))
-AddsName name earlier later before after =
-    (later ≡ with_name earlier name.name)
-    × (after ≡ noted before (refused_unless (not (is_name_among name.name earlier)) Duplicate name.at))
-
+-- names more, of which each may be that of an earlier one
 abbrev pub AddsNames : List RawName → PartAdding (List (List ℕ))
 AddsNames names earlier later before after =
     (later ≡ with_names earlier names) × (after ≡ noted before (repeated_diagnostics earlier names))

@@ -20,9 +20,9 @@ use Rattle.model_reader.specs.declared.raw.statements.RawStmtKind.{RawStmtKind, 
 use Rattle.model_reader.specs.declared.raw.statements.RawStmtKind.TheBlock.{hidden-the_row-RawStmt-0, shape-the_row-RawStmt-0}
 use Rattle.model_reader.specs.declared.raw.types.RawType.TheVariants as type
 use denote.Hole.Carrier.{hidden}
-use Rattle.model_check.specs.declared.diagnostics.Cause.{Cause}
-use Rattle.model_check.specs.declared.diagnostics.Cause.TheVariants.{Unknown, Duplicate, WrongType, NotLinear, OutOfRange}
-use Rattle.model_check.specs.declared.diagnostics.Diagnostic.{Diagnostic}
+use Rattle.model_check.specs.declared.causes.Cause.{Cause}
+use Rattle.model_check.specs.declared.causes.Cause.TheVariants.{Unknown, Duplicate, WrongType, NotLinear, OutOfRange}
+use Rattle.diagnostics.specs.declared.diagnostic.Diagnostic.{Diagnostic}
 use Rattle.model_check.specs.Expressions.{expr_diagnostics}
 use Rattle.model_check.specs.Invokes.{invoke_diagnostics}
 use Rattle.model_check.specs.LinearForms.{leaves_of}
@@ -88,7 +88,7 @@ model items = record { name = name 7 (codes "m"); items = items }
 abbrev with_body : List RawStmt → RawModel
 with_body body = model (counter 10 n ∷ flag ∷ bump body ∷ [])
 
-abbrev told : ℕ → Cause → Option Diagnostic
+abbrev told : ℕ → Cause → Option (Diagnostic Cause)
 told column cause = Some (record { place = at column; cause = cause })
 
 -- ---- names
@@ -158,7 +158,7 @@ a_result_without_a_return = refl
 
 -- ---- conditions and linear forms
 
-abbrev waits_for : RawExpr → Option Diagnostic
+abbrev waits_for : RawExpr → Option (Diagnostic Cause)
 waits_for condition = first_refused (with_body (statement 60 (WaitUntil condition) ∷ []))
 
 abbrev more : RawExpr → RawExpr → RawExpr

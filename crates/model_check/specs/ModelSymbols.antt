@@ -11,8 +11,9 @@ use Rattle.model_reader.specs.declared.raw.literals.RawLiteral.{RawLiteral}
 use Rattle.model_reader.specs.declared.raw.names.RawName.{RawName}
 use Rattle.model_reader.specs.declared.raw.types.RawType.{RawType}
 use Rattle.model_reader.specs.declared.raw.types.RawType.TheVariants as type
-use Rattle.model_check.specs.declared.diagnostics.Cause.TheVariants.{Unknown}
-use Rattle.model_check.specs.declared.diagnostics.Diagnostic.{Diagnostic}
+use Rattle.model_check.specs.declared.causes.Cause.TheVariants.{Unknown}
+use Rattle.diagnostics.specs.declared.diagnostic.Diagnostic.{Diagnostic}
+use Rattle.model_check.specs.declared.causes.Cause.{Cause}
 use Rattle.model_check.specs.declared.symbols.CellSort.TheVariants as sort
 use Rattle.model_check.specs.declared.symbols.CellSymbol.{CellSymbol}
 use Rattle.model_check.specs.declared.symbols.EnumSymbol.{EnumSymbol}
@@ -21,9 +22,9 @@ use Rattle.model_check.specs.declared.symbols.ResultSymbol.{ResultSymbol}
 use Rattle.model_check.specs.declared.symbols.Symbols.{Symbols}
 use Rattle.model_check.specs.declared.symbols.TypeSymbol.{TypeSymbol}
 use Rattle.model_check.specs.declared.tables.NameTable.{NameTable}
-use Rattle.model_check.specs.Diagnostics.{at_place}
+use Rattle.diagnostics.specs.Diagnostics.{at_place}
 use Rattle.model_check.specs.Literals.{enum_kind, literal_value}
-use Rattle.model_check.specs.NameLists.{with_name}
+use Rattle.diagnostics.specs.NameLists.{with_name}
 use Rattle.model_check.specs.NameTables.{no_entries, with_entry, entry_in}
 
 abbrev pub Enums : Type 0
@@ -37,11 +38,11 @@ type_kind enums type.Int = Some Int
 type_kind enums type.Truth = Some Truth
 type_kind enums (type.Named name) = option_map enum_kind (entry_in name.name enums)
 
-abbrev pub known_enum : RawName → Option (ℕ × EnumSymbol) → List Diagnostic
+abbrev pub known_enum : RawName → Option (ℕ × EnumSymbol) → List (Diagnostic Cause)
 known_enum name None = at_place Unknown name.at
 known_enum name (Some enum) = []
 
-abbrev pub type_diagnostics : Enums → RawType → List Diagnostic
+abbrev pub type_diagnostics : Enums → RawType → List (Diagnostic Cause)
 type_diagnostics enums type.Int = []
 type_diagnostics enums type.Truth = []
 type_diagnostics enums (type.Named name) = known_enum name (entry_in name.name enums)

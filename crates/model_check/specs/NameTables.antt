@@ -1,7 +1,7 @@
 -- What goes by a name: of several of one name the first counts.
 use Rattle.std.specs.Prelude.{ℕ, List, [], ◌∷◌, ◌++◌, Option, option_and_then, option_map, slice_get, take, if◌then◌else◌}
 use Rattle.aerie_base.specs.models.Names.{is_name_among}
-use Rattle.model_check.specs.NameLists.{with_name, name_number}
+use Rattle.diagnostics.specs.NameLists.{with_name, name_number}
 use Rattle.model_check.specs.declared.tables.NameTable.{NameTable}
 
 abbrev pub no_entries : {A : Type 0} → NameTable A

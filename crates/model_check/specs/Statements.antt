@@ -11,8 +11,9 @@ use Rattle.model_reader.specs.declared.raw.expressions.RawExpr.{RawExpr}
 use Rattle.model_reader.specs.declared.raw.names.RawName.{RawName}
 use Rattle.model_reader.specs.declared.raw.statements.RawStmt.{RawStmt}
 use Rattle.model_reader.specs.declared.raw.statements.RawStmtKind.TheOpen.{RawStmtKind-F}
-use Rattle.model_check.specs.declared.diagnostics.Cause.TheVariants.{Unknown, WrongType}
-use Rattle.model_check.specs.declared.diagnostics.Diagnostic.{Diagnostic}
+use Rattle.model_check.specs.declared.causes.Cause.TheVariants.{Unknown, WrongType}
+use Rattle.diagnostics.specs.declared.diagnostic.Diagnostic.{Diagnostic}
+use Rattle.model_check.specs.declared.causes.Cause.{Cause}
 use Rattle.model_check.specs.declared.scopes.BodyScope.{BodyScope}
 use Rattle.model_check.specs.declared.symbols.CellSort.{CellSort}
 use Rattle.model_check.specs.declared.symbols.CellSort.TheVariants.{Counter, Register, Accumulator}
@@ -20,7 +21,7 @@ use Rattle.model_check.specs.declared.symbols.ResultSymbol.{ResultSymbol}
 use Rattle.model_check.specs.declared.symbols.Symbols.{Symbols}
 use Rattle.model_check.specs.BodyScopes.{local_diagnostics, let_diagnostics}
 use Rattle.model_check.specs.CellReads.{FoundLocal, FoundCell, of_cell, on_cell, cell_number, flow_sort}
-use Rattle.model_check.specs.Diagnostics.{at_place, refused_unless}
+use Rattle.diagnostics.specs.Diagnostics.{at_place, refused_unless}
 use Rattle.model_check.specs.Expressions.{raw_kind, expr_diagnostics, typed_diagnostics, expr_of}
 use Rattle.model_check.specs.Invokes.{invoke_diagnostics, result_diagnostics, invoked_number, invoke_arguments}
 use Rattle.model_check.specs.Literals.{mismatch}
@@ -38,7 +39,7 @@ abbrev pub cell_in : Symbols → RawName → FoundCell
 cell_in symbols name = entry_in name.name symbols.cells
 
 -- a local that is no parameter
-abbrev pub assigned_diagnostics : Place → FoundLocal → List Diagnostic
+abbrev pub assigned_diagnostics : Place → FoundLocal → List (Diagnostic Cause)
 assigned_diagnostics at None = at_place Unknown at
 assigned_diagnostics at (Some local) = refused_unless (not local.1.is_parameter) WrongType at
 
@@ -50,12 +51,12 @@ abbrev pub local_slot : FoundLocal → ℕ
 local_slot None = 0
 local_slot (Some local) = local.1.slot
 
-abbrev pub counter_sort : Place → CellSort → List Diagnostic
+abbrev pub counter_sort : Place → CellSort → List (Diagnostic Cause)
 counter_sort at Counter = []
 counter_sort at (Register kind) = at_place WrongType at
 counter_sort at Accumulator = at_place WrongType at
 
-abbrev pub register_sort : Place → CellSort → List Diagnostic
+abbrev pub register_sort : Place → CellSort → List (Diagnostic Cause)
 register_sort at Counter = at_place WrongType at
 register_sort at (Register kind) = []
 register_sort at Accumulator = at_place WrongType at
@@ -66,14 +67,14 @@ register_sort_kind (Register kind) = kind
 register_sort_kind Accumulator = None
 
 -- a value of a type where another one is wanted, where one is
-abbrev pub valued_diagnostics : Symbols → BodyScope → Option Kind → RawExpr → List Diagnostic
+abbrev pub valued_diagnostics : Symbols → BodyScope → Option Kind → RawExpr → List (Diagnostic Cause)
 valued_diagnostics symbols scope wanted value =
     expr_diagnostics symbols scope value ++ mismatch value.at wanted (raw_kind symbols scope value.what)
 
 -- ---- results
 
 -- a value is returned exactly where there is a result
-abbrev pub return_diagnostics : Symbols → BodyScope → Option ResultSymbol → Place → Option RawExpr → List Diagnostic
+abbrev pub return_diagnostics : Symbols → BodyScope → Option ResultSymbol → Place → Option RawExpr → List (Diagnostic Cause)
 return_diagnostics symbols scope None at None = []
 return_diagnostics symbols scope (Some result) at None = at_place WrongType at
 return_diagnostics symbols scope None at (Some value) = at_place WrongType at ++ expr_diagnostics symbols scope value
@@ -86,29 +87,29 @@ returned_of symbols scope (Some value) = Some (expr_of symbols scope value)
 -- ---- what is wrong with a statement
 
 -- a local takes a value of its type
-abbrev pub assign_diagnostics : Symbols → BodyScope → RawName → RawExpr → List Diagnostic
+abbrev pub assign_diagnostics : Symbols → BodyScope → RawName → RawExpr → List (Diagnostic Cause)
 assign_diagnostics symbols scope name value =
     assigned_diagnostics name.at (local_in scope name) ++ valued_diagnostics symbols scope (local_kind (local_in scope name)) value
 
 -- a whole number is added to a counter
-abbrev pub add_diagnostics : Symbols → BodyScope → RawName → RawExpr → List Diagnostic
+abbrev pub add_diagnostics : Symbols → BodyScope → RawName → RawExpr → List (Diagnostic Cause)
 add_diagnostics symbols scope name value =
     on_cell counter_sort name.at (cell_in symbols name) ++ typed_diagnostics symbols scope Int value
 
 -- a register is set to a value of its type
-abbrev pub put_diagnostics : Symbols → BodyScope → RawName → RawExpr → List Diagnostic
+abbrev pub put_diagnostics : Symbols → BodyScope → RawName → RawExpr → List (Diagnostic Cause)
 put_diagnostics symbols scope name value =
     on_cell register_sort name.at (cell_in symbols name)
     ++ valued_diagnostics symbols scope (of_cell register_sort_kind (cell_in symbols name)) value
 
 -- a whole number is added to a part of an accumulator
-abbrev pub flow_diagnostics : Symbols → BodyScope → RawName → RawExpr → List Diagnostic
+abbrev pub flow_diagnostics : Symbols → BodyScope → RawName → RawExpr → List (Diagnostic Cause)
 flow_diagnostics symbols scope name value =
     on_cell flow_sort name.at (cell_in symbols name) ++ typed_diagnostics symbols scope Int value
 
 -- by the scope in front of it
 abbrev pub Judging : Type 0
-Judging = BodyScope → List Diagnostic
+Judging = BodyScope → List (Diagnostic Cause)
 
 abbrev pub judged_in_turn : Symbols → List (RawStmt × Judging) → Judging
 judged_in_turn symbols [] scope = []

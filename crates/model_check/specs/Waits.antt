@@ -19,13 +19,14 @@ use Rattle.model_reader.specs.declared.raw.literals.RawLiteralKind.{RawLiteralKi
 use Rattle.model_reader.specs.declared.raw.literals.RawLiteralKind.TheVariants as literal
 use Rattle.model_reader.specs.declared.raw.reads.RawPart.{RawPart}
 use Rattle.model_reader.specs.declared.raw.reads.RawPart.TheVariants.{Whole}
-use Rattle.model_check.specs.declared.diagnostics.Cause.TheVariants.{NotLinear}
-use Rattle.model_check.specs.declared.diagnostics.Diagnostic.{Diagnostic}
+use Rattle.model_check.specs.declared.causes.Cause.TheVariants.{NotLinear}
+use Rattle.diagnostics.specs.declared.diagnostic.Diagnostic.{Diagnostic}
+use Rattle.model_check.specs.declared.causes.Cause.{Cause}
 use Rattle.model_check.specs.declared.leaves.FormUse.TheVariants.{Comparison as InComparison}
 use Rattle.model_check.specs.declared.scopes.BodyScope.{BodyScope}
 use Rattle.model_check.specs.declared.symbols.Symbols.{Symbols}
 use Rattle.model_check.specs.CellReads.{raw_read_kind, read_operand}
-use Rattle.model_check.specs.Diagnostics.{at_place, refused_unless}
+use Rattle.diagnostics.specs.Diagnostics.{at_place, refused_unless}
 use Rattle.model_check.specs.Expressions.{raw_kind, typed_diagnostics}
 use Rattle.model_check.specs.LinearForms.{form_diagnostics, linear_of}
 use Rattle.model_check.specs.Literals.{literal_kind, literal_value}
@@ -47,7 +48,7 @@ is_side symbols scope (Not' _ _) = false
 is_side symbols scope (Negate' _ _) = false
 is_side symbols scope (Binary' _ _ _ _ _) = false
 
-abbrev pub side_diagnostics : Symbols → BodyScope → RawExpr → List Diagnostic
+abbrev pub side_diagnostics : Symbols → BodyScope → RawExpr → List (Diagnostic Cause)
 side_diagnostics symbols scope raw = refused_unless (is_side symbols scope raw.what) NotLinear raw.at
 
 abbrev pub side_of : Symbols → BodyScope → RawExprKind → Simple
@@ -88,7 +89,7 @@ is_equal by.More = false
 is_equal by.AtLeast = false
 
 -- two linear forms, or two sides of an equality
-abbrev pub compared_diagnostics : Symbols → BodyScope → RawExpr → RawExpr → Bool → List Diagnostic
+abbrev pub compared_diagnostics : Symbols → BodyScope → RawExpr → RawExpr → Bool → List (Diagnostic Cause)
 compared_diagnostics symbols scope left right true =
     form_diagnostics InComparison symbols scope left ++ form_diagnostics InComparison symbols scope right
 compared_diagnostics symbols scope left right false = side_diagnostics symbols scope left ++ side_diagnostics symbols scope right
@@ -131,7 +132,7 @@ junction operator.Divide = None
 junction operator.Remainder = None
 
 -- a comparison is judged by itself; no other operator that joins no conditions makes one
-abbrev pub plain_operator_diagnostics : Symbols → BodyScope → Place → Operator → RawExpr → RawExpr → List Diagnostic
+abbrev pub plain_operator_diagnostics : Symbols → BodyScope → Place → Operator → RawExpr → RawExpr → List (Diagnostic Cause)
 plain_operator_diagnostics symbols scope at (operator.Compare how) left right =
     compared_diagnostics symbols scope left right (forms_compared symbols scope how left right)
 plain_operator_diagnostics symbols scope at operator.Or left right = at_place NotLinear at
@@ -142,11 +143,11 @@ plain_operator_diagnostics symbols scope at operator.Times left right = at_place
 plain_operator_diagnostics symbols scope at operator.Divide left right = at_place NotLinear at
 plain_operator_diagnostics symbols scope at operator.Remainder left right = at_place NotLinear at
 
-abbrev pub cond_operator_diagnostics : Symbols → BodyScope → Place → Operator → Option Bool → RawExpr × List Diagnostic → RawExpr × List Diagnostic → List Diagnostic
+abbrev pub cond_operator_diagnostics : Symbols → BodyScope → Place → Operator → Option Bool → RawExpr × List (Diagnostic Cause) → RawExpr × List (Diagnostic Cause) → List (Diagnostic Cause)
 cond_operator_diagnostics symbols scope at operator (Some is_or) left right = left.1 ++ right.1
 cond_operator_diagnostics symbols scope at operator None left right = plain_operator_diagnostics symbols scope at operator left.0 right.0
 
-abbrev pub cond_diagnostics_step : Symbols → BodyScope → Place → RawLevel (List Diagnostic) → List Diagnostic
+abbrev pub cond_diagnostics_step : Symbols → BodyScope → Place → RawLevel (List (Diagnostic Cause)) → List (Diagnostic Cause)
 cond_diagnostics_step symbols scope at (RawExprKind-F.Literal literal) =
     refused_unless (is_truth (literal_kind symbols.enums literal)) NotLinear at
 cond_diagnostics_step symbols scope at (RawExprKind-F.Read read) = refused_unless (is_truth (raw_read_kind symbols scope read)) NotLinear at
@@ -156,11 +157,11 @@ cond_diagnostics_step symbols scope at (RawExprKind-F.Binary operator left right
     cond_operator_diagnostics symbols scope at operator (junction operator) left right
 
 -- the parts of a condition that are not of its form
-unfoldable pub cond_diagnostics : Symbols → BodyScope → RawExpr → List Diagnostic
-cond_diagnostics symbols scope raw = raw_gives (List Diagnostic) [] (cond_diagnostics_step symbols scope) raw.at raw.what
+unfoldable pub cond_diagnostics : Symbols → BodyScope → RawExpr → List (Diagnostic Cause)
+cond_diagnostics symbols scope raw = raw_gives (List (Diagnostic Cause)) [] (cond_diagnostics_step symbols scope) raw.at raw.what
 
 -- what is wrong with a condition: as with every expression that is to be a truth, and parts that are not of the form
-abbrev pub wait_diagnostics : Symbols → BodyScope → RawExpr → List Diagnostic
+abbrev pub wait_diagnostics : Symbols → BodyScope → RawExpr → List (Diagnostic Cause)
 wait_diagnostics symbols scope raw = typed_diagnostics symbols scope Truth raw ++ cond_diagnostics symbols scope raw
 
 -- ---- what a condition means

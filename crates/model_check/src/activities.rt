@@ -8,12 +8,13 @@ ghost use Rattle.model_check.specs.ModelSymbols.{type_kind, bare_symbols};
 ghost use Rattle.model_check.specs.Making.{MakesParameter, MakesParameters, MakesActivity};
 
 use crate::bodies::{body, note_end, requirements};
+use crate::causes::Cause;
 use crate::declarations::{default_value, note_type, result_symbol, type_kind};
-use crate::diagnostics::Diagnostic;
 use crate::items::{kind_written, note_typed_literal};
 use crate::scopes::{BodyScope, note_local};
 use crate::symbols::Symbols;
 use aerie_base::{Activity, Kind, List, OutOfMemory, Parameter};
+use diagnostics::Diagnostic;
 use model_reader::{RawExpr, RawLiteral, RawName, RawParameter, RawStmt, RawType};
 use std::alloc::Global;
 
@@ -24,7 +25,7 @@ fn note_default(
     symbols: &Symbols,
     written: &RawType,
     default: &Option<RawLiteral>,
-    found: &mut Option<Diagnostic>,
+    found: &mut Option<Diagnostic<Cause>>,
 )
     ensures { found.new ≡ noted found.old (default_diagnostics symbols.now written.now default.now) }
 {
@@ -35,12 +36,12 @@ fn note_default(
 }
 
 /// Notes what is wrong with a parameter.
-#[tactic(auto, using(crate::proofs::NotedInTurn::noted_appended))]
+#[tactic(auto, using(diagnostics::specs::NotedInTurn::noted_appended))]
 fn note_parameter(
     symbols: &Symbols,
     scope: &BodyScope,
     parameter: &RawParameter,
-    found: &mut Option<Diagnostic>,
+    found: &mut Option<Diagnostic<Cause>>,
 )
     ensures { found.new ≡ noted found.old (parameter_diagnostics symbols.now scope.now parameter.now) }
 {
@@ -55,7 +56,7 @@ fn parameter(
     symbols: &Symbols,
     written: &RawParameter,
     scope: &mut BodyScope,
-    found: &mut Option<Diagnostic>,
+    found: &mut Option<Diagnostic<Cause>>,
 ) -> Result<Parameter, OutOfMemory>
     ensures { IfOk result (MakesParameter symbols.now written.now scope.old scope.new found.old found.new) }
 {
@@ -76,7 +77,7 @@ fn parameters(
     symbols: &Symbols,
     written: &[RawParameter],
     scope: &mut BodyScope,
-    found: &mut Option<Diagnostic>,
+    found: &mut Option<Diagnostic<Cause>>,
 ) -> Result<List<Parameter>, OutOfMemory>
     ensures { IfOk result (MakesParameters symbols.now written.now scope.old scope.new found.old found.new) }
 {
@@ -90,7 +91,11 @@ fn parameters(
 // ---- results
 
 /// Notes the type of a result that names no enumeration.
-fn note_result_type(symbols: &Symbols, written: &Option<RawType>, found: &mut Option<Diagnostic>)
+fn note_result_type(
+    symbols: &Symbols,
+    written: &Option<RawType>,
+    found: &mut Option<Diagnostic<Cause>>,
+)
     ensures { found.new ≡ noted found.old (result_type_diagnostics symbols.now written.now) }
 {
     match written {
@@ -121,7 +126,7 @@ pub(crate) fn activity(
     returns: &Option<RawType>,
     truths: &[RawExpr],
     raw: &List<RawStmt>,
-    found: &mut Option<Diagnostic>,
+    found: &mut Option<Diagnostic<Cause>>,
 ) -> Result<Activity, OutOfMemory>
     requires { bare.now ≡ bare_symbols symbols.now.enums }
     ensures { IfOk result (MakesActivity symbols.now name.now written.now returns.now truths.now raw.now found.old found.new) }

@@ -7,12 +7,13 @@ ghost use Rattle.model_check.specs.ModelDiagnostics.{is_return_kind, returns_at_
 ghost use Rattle.model_check.specs.ModelSymbols.{bare_symbols};
 ghost use Rattle.model_check.specs.Making.{MakesBody, MakesRequires};
 
-use crate::diagnostics::{Cause, Diagnostic, note};
+use crate::causes::Cause;
 use crate::expressions::typed;
 use crate::scopes::BodyScope;
 use crate::statements::block;
 use crate::symbols::{ResultSymbol, Symbols};
 use aerie_base::{Expr, Kind, List, OutOfMemory, Place, Stmt};
+use diagnostics::{Diagnostic, note};
 use model_reader::{RawExpr, RawStmt, RawStmtKind, RawType};
 use std::alloc::Global;
 
@@ -33,7 +34,7 @@ pub(crate) fn body(
     returns: Option<ResultSymbol>,
     raw: &List<RawStmt>,
     mut scope: BodyScope,
-    found: &mut Option<Diagnostic>,
+    found: &mut Option<Diagnostic<Cause>>,
 ) -> Result<CheckedBody, OutOfMemory>
     ensures { IfOk result (MakesBody symbols.now returns raw.now scope found.old found.new) }
 {
@@ -49,7 +50,7 @@ pub(crate) fn daemon_body(
     alloc: Global,
     symbols: &Symbols,
     raw: &List<RawStmt>,
-    found: &mut Option<Diagnostic>,
+    found: &mut Option<Diagnostic<Cause>>,
 ) -> Result<CheckedBody, OutOfMemory>
     ensures { IfOk result (MakesBody symbols.now None raw.now empty_scope found.old found.new) }
 {
@@ -62,7 +63,7 @@ pub(crate) fn requirements(
     bare: &Symbols,
     scope: &BodyScope,
     written: &[RawExpr],
-    found: &mut Option<Diagnostic>,
+    found: &mut Option<Diagnostic<Cause>>,
 ) -> Result<List<Expr>, OutOfMemory>
     requires { bare.now ≡ bare_symbols bare.now.enums }
     ensures { IfOk result (MakesRequires bare.now scope.now written.now found.old found.new) }
@@ -100,7 +101,7 @@ pub(crate) fn note_end(
     at: Place,
     returns: &Option<RawType>,
     body: &[RawStmt],
-    found: &mut Option<Diagnostic>,
+    found: &mut Option<Diagnostic<Cause>>,
 )
     ensures { found.new ≡ noted found.old (end_diagnostics at returns.now body.now) }
 {

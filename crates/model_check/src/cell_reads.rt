@@ -5,11 +5,11 @@ ghost use Rattle.model_reader.specs.declared.raw.reads.RawPart.TheVariants.{Whol
 ghost use Rattle.model_check.specs.Diagnostics.{noted};
 ghost use Rattle.model_check.specs.CellReads.{sort_kind, flow_sort_kind, flag_sort_kind, part_kind, raw_read_kind, whole_sort, flow_sort, flag_sort, part_diagnostics, read_diagnostics, cell_number, sort_operand, part_operand, read_operand};
 
-use crate::diagnostics::{Cause, Diagnostic, note};
-use crate::literals::short;
+use crate::causes::Cause;
 use crate::scopes::{BodyScope, LocalSymbol};
 use crate::symbols::{CellSort, CellSymbol, Symbols};
 use aerie_base::{CellRead, Kind, Operand, Place};
+use diagnostics::{Diagnostic, note, short};
 use model_reader::{RawPart, RawRead};
 
 /// A local with its number among those that are known.
@@ -82,7 +82,7 @@ pub(crate) fn raw_read_kind(symbols: &Symbols, scope: &BodyScope, read: &RawRead
 // ---- what is wrong
 
 /// Notes an accumulator that is read by its name alone.
-fn note_whole_sort(found: &mut Option<Diagnostic>, at: Place, sort: CellSort)
+fn note_whole_sort(found: &mut Option<Diagnostic<Cause>>, at: Place, sort: CellSort)
     ensures { found.new ≡ noted found.old (whole_sort at sort) }
 {
     match sort {
@@ -92,7 +92,7 @@ fn note_whole_sort(found: &mut Option<Diagnostic>, at: Place, sort: CellSort)
 }
 
 /// Notes a volume or a rate of a cell that has none.
-fn note_flow_sort(found: &mut Option<Diagnostic>, at: Place, sort: CellSort)
+fn note_flow_sort(found: &mut Option<Diagnostic<Cause>>, at: Place, sort: CellSort)
     ensures { found.new ≡ noted found.old (flow_sort at sort) }
 {
     match sort {
@@ -102,7 +102,7 @@ fn note_flow_sort(found: &mut Option<Diagnostic>, at: Place, sort: CellSort)
 }
 
 /// Notes a conflict flag of a cell that has none.
-fn note_flag_sort(found: &mut Option<Diagnostic>, at: Place, sort: CellSort)
+fn note_flag_sort(found: &mut Option<Diagnostic<Cause>>, at: Place, sort: CellSort)
     ensures { found.new ≡ noted found.old (flag_sort at sort) }
 {
     match sort {
@@ -112,7 +112,7 @@ fn note_flag_sort(found: &mut Option<Diagnostic>, at: Place, sort: CellSort)
 }
 
 /// Notes what is wrong with a read of a cell.
-fn note_cell_part(found: &mut Option<Diagnostic>, at: Place, part: RawPart, cell: FoundCell)
+fn note_cell_part(found: &mut Option<Diagnostic<Cause>>, at: Place, part: RawPart, cell: FoundCell)
     ensures { found.new ≡ noted found.old (part_diagnostics part at None cell) }
 {
     match cell {
@@ -127,7 +127,7 @@ fn note_cell_part(found: &mut Option<Diagnostic>, at: Place, part: RawPart, cell
 
 /// Notes what is wrong with a part of what goes by a name.
 fn note_part(
-    found: &mut Option<Diagnostic>,
+    found: &mut Option<Diagnostic<Cause>>,
     at: Place,
     part: RawPart,
     local: FoundLocal,
@@ -146,7 +146,7 @@ pub(crate) fn note_read(
     symbols: &Symbols,
     scope: &BodyScope,
     read: &RawRead,
-    found: &mut Option<Diagnostic>,
+    found: &mut Option<Diagnostic<Cause>>,
 )
     ensures { found.new ≡ noted found.old (read_diagnostics symbols.now scope.now read.now) }
 {

@@ -6,11 +6,12 @@ ghost use Rattle.model_check.specs.CheckAnswers.{error_at, told, ToldUnlessOutOf
 ghost use Rattle.model_check.specs.declared.check_error.CheckError.TheVariants.{TooMany};
 ghost use Rattle.model_reader.specs.Limits.{IsWithinLimits};
 
+use crate::causes::Cause;
 use crate::check_error::CheckError;
-use crate::diagnostics::{Cause, Diagnostic};
 use crate::laws::unrefused_models_are_valid;
 use crate::parts::{CheckedParts, parts};
 use aerie_base::{Model, Name, Place, Text};
+use diagnostics::Diagnostic;
 use model_reader::RawModel;
 use std::alloc::Global;
 
@@ -33,7 +34,7 @@ fn tell(
     alloc: Global,
     name: Name,
     parts: CheckedParts,
-    found: Option<Diagnostic>,
+    found: Option<Diagnostic<Cause>>,
 ) -> Result<Model, CheckError>
     requires { found ≡ None → IsTrue (valid_model (named_model name parts)) }
     ensures { ToldUnlessOutOfMemory (told found (named_model name parts)) result }
@@ -52,7 +53,7 @@ fn tell(
 }
 
 /// The error that tells what was found, or that memory was wanted.
-fn refusal(alloc: Global, diagnostic: Diagnostic) -> CheckError
+fn refusal(alloc: Global, diagnostic: Diagnostic<Cause>) -> CheckError
     ensures { ToldUnlessOutOfMemory (Err (error_at diagnostic.cause diagnostic.place)) (Err result) }
 {
     let place = diagnostic.place;

@@ -5,14 +5,14 @@ ghost use Rattle.model_check.specs.Diagnostics.{noted};
 ghost use Rattle.model_check.specs.ModelSymbols.{type_kind, type_diagnostics, with_names, with_enum_symbol, enum_symbols_from, with_cell_symbol, cell_symbols_from, default_value, parameters_from, result_symbol, with_type_symbol, type_symbols_from, bare_symbols, symbols_of};
 ghost use Rattle.model_check.specs.NameTables.{no_entries, with_entry};
 
-use crate::diagnostics::{Cause, Diagnostic, note};
-use crate::literals::{literal_value, short};
-use crate::names::NameSet;
+use crate::causes::Cause;
+use crate::literals::literal_value;
 use crate::symbols::{
     CellSort, CellSymbol, EnumSymbol, ParameterSymbol, ResultSymbol, Symbols, TypeSymbol,
 };
 use crate::tables::NameTable;
 use aerie_base::{Kind, OutOfMemory, Value};
+use diagnostics::{Diagnostic, NameSet, note, short};
 use model_reader::{RawItem, RawLiteral, RawName, RawParameter, RawType};
 use std::alloc::Global;
 
@@ -36,7 +36,7 @@ pub(crate) fn type_kind(enums: &Enums, written: &RawType) -> Option<Kind>
 }
 
 /// Notes a type that names no enumeration.
-pub(crate) fn note_type(enums: &Enums, written: &RawType, found: &mut Option<Diagnostic>)
+pub(crate) fn note_type(enums: &Enums, written: &RawType, found: &mut Option<Diagnostic<Cause>>)
     ensures { found.new ≡ noted found.old (type_diagnostics enums.now written.now) }
 {
     match written {

@@ -5,12 +5,13 @@ ghost use Rattle.model_check.specs.Diagnostics.{noted, Makes};
 ghost use Rattle.model_check.specs.Expressions.{kind_of_operator, side_kind_of, raw_kind, is_wanted, sides_diagnostics, expr_diagnostics, expr_of};
 ghost use Rattle.model_check.specs.Making.{MakesTyped, MakesValued};
 
+use crate::causes::Cause;
 use crate::cell_reads::{note_read, raw_read_kind, read_operand};
-use crate::diagnostics::Diagnostic;
 use crate::literals::{literal_kind, literal_value, note_literal, note_mismatch};
 use crate::scopes::BodyScope;
 use crate::symbols::Symbols;
 use aerie_base::{Boxed, Comparison, Expr, Kind, Operator, OutOfMemory};
+use diagnostics::Diagnostic;
 use model_reader::{RawExpr, RawExprKind};
 use std::alloc::Global;
 
@@ -59,7 +60,7 @@ pub(crate) fn note_unless_wanted(
     scope: &BodyScope,
     wanted: Kind,
     part: &RawExpr,
-    found: &mut Option<Diagnostic>,
+    found: &mut Option<Diagnostic<Cause>>,
 )
     ensures { found.new ≡ noted found.old (is_wanted symbols.now scope.now wanted part.now) }
 {
@@ -72,14 +73,14 @@ pub(crate) fn note_unless_wanted(
 }
 
 /// Notes sides of an operator of other types than it takes.
-#[tactic(auto, using(crate::proofs::NotedInTurn::noted_appended))]
+#[tactic(auto, using(diagnostics::specs::NotedInTurn::noted_appended))]
 fn note_sides(
     symbols: &Symbols,
     scope: &BodyScope,
     operator: Operator,
     left: &RawExpr,
     right: &RawExpr,
-    found: &mut Option<Diagnostic>,
+    found: &mut Option<Diagnostic<Cause>>,
 )
     ensures { found.new ≡ noted found.old (sides_diagnostics symbols.now scope.now (side_kind_of operator) left.now right.now) }
 {
@@ -103,7 +104,7 @@ pub(crate) fn expression(
     symbols: &Symbols,
     scope: &BodyScope,
     raw: &RawExpr,
-    found: &mut Option<Diagnostic>,
+    found: &mut Option<Diagnostic<Cause>>,
 ) -> Result<Expr, OutOfMemory>
     ensures { IfOk result (Makes (expr_of symbols.now scope.now raw.now) (expr_diagnostics symbols.now scope.now raw.now) found.old found.new) }
 {
@@ -148,14 +149,14 @@ pub(crate) fn expression(
 // ---- values of a type
 
 /// Makes a value of this type, and notes what is wrong with it.
-#[tactic(auto, using(crate::proofs::NotedInTurn::noted_appended))]
+#[tactic(auto, using(diagnostics::specs::NotedInTurn::noted_appended))]
 pub(crate) fn typed(
     alloc: Global,
     symbols: &Symbols,
     scope: &BodyScope,
     wanted: Kind,
     raw: &RawExpr,
-    found: &mut Option<Diagnostic>,
+    found: &mut Option<Diagnostic<Cause>>,
 ) -> Result<Expr, OutOfMemory>
     ensures { IfOk result (MakesTyped symbols.now scope.now wanted raw.now found.old found.new) }
 {
@@ -165,14 +166,14 @@ pub(crate) fn typed(
 }
 
 /// Makes a value of a type, where one is wanted, and notes what is wrong with it.
-#[tactic(auto, using(crate::proofs::NotedInTurn::noted_appended))]
+#[tactic(auto, using(diagnostics::specs::NotedInTurn::noted_appended))]
 pub(crate) fn valued(
     alloc: Global,
     symbols: &Symbols,
     scope: &BodyScope,
     wanted: Option<Kind>,
     raw: &RawExpr,
-    found: &mut Option<Diagnostic>,
+    found: &mut Option<Diagnostic<Cause>>,
 ) -> Result<Expr, OutOfMemory>
     ensures { IfOk result (MakesValued symbols.now scope.now wanted raw.now found.old found.new) }
 {

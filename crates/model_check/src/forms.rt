@@ -2,12 +2,13 @@
 
 ghost use Rattle.std.specs.Prelude.{◌≡◌, ◌≤◌, ◌++◌, IfOk, length, nat_lt, option_to_list, take};
 ghost use Rattle.aerie_base.specs.models.Limits.{term_limit};
-ghost use Rattle.model_check.specs.Diagnostics.{noted, refused_unless};
+ghost use Rattle.diagnostics.specs.Diagnostics.{refused_unless};
+ghost use Rattle.model_check.specs.Diagnostics.{noted};
 ghost use Rattle.model_check.specs.LinearForms.{plain_number, negated_leaf, sum_sign, joint_sign, operator_leaf, leaves_of, leaf_diagnostics, leaves_diagnostics, terms_in, constants_in, sum_of_leaves};
-ghost use Rattle.model_check.specs.declared.diagnostics.Cause.TheVariants.{TooManyTerms};
+ghost use Rattle.model_check.specs.declared.causes.Cause.TheVariants.{TooManyTerms};
 ghost use Rattle.model_check.specs.Making.{MakesForm};
 
-use crate::diagnostics::{Cause, Diagnostic, note};
+use crate::causes::Cause;
 use crate::leaves::{
     FormUse, Leaf, constant_leaf, literal_leaf, plain_number, product_leaf, read_leaf, signed_by,
     unfit_leaf,
@@ -15,6 +16,7 @@ use crate::leaves::{
 use crate::scopes::BodyScope;
 use crate::symbols::Symbols;
 use aerie_base::{Linear, List, Operator, OutOfMemory, Place, Term};
+use diagnostics::{Diagnostic, note};
 use model_reader::{RawExpr, RawExprKind};
 use std::alloc::Global;
 
@@ -136,7 +138,7 @@ fn collect(
 }
 
 /// Notes what is wrong, where something is.
-fn note_wrong(wrong: Option<Diagnostic>, found: &mut Option<Diagnostic>)
+fn note_wrong(wrong: Option<Diagnostic<Cause>>, found: &mut Option<Diagnostic<Cause>>)
     ensures { found.new ≡ noted found.old (option_to_list wrong) }
 {
     if let Some(wrong) = wrong {
@@ -145,7 +147,7 @@ fn note_wrong(wrong: Option<Diagnostic>, found: &mut Option<Diagnostic>)
 }
 
 /// Notes a leaf behind so many others that it is one too many.
-fn note_too_many(at: Place, before: usize, found: &mut Option<Diagnostic>)
+fn note_too_many(at: Place, before: usize, found: &mut Option<Diagnostic<Cause>>)
     ensures { found.new ≡ noted found.old (refused_unless (nat_lt before term_limit) TooManyTerms at) }
 {
     if TERM_LIMIT <= before {
@@ -154,8 +156,8 @@ fn note_too_many(at: Place, before: usize, found: &mut Option<Diagnostic>)
 }
 
 /// Notes what is wrong with a leaf behind so many others.
-#[tactic(auto, using(crate::proofs::NotedInTurn::noted_appended))]
-fn note_leaf(leaf: &Leaf, before: usize, found: &mut Option<Diagnostic>)
+#[tactic(auto, using(diagnostics::specs::NotedInTurn::noted_appended))]
+fn note_leaf(leaf: &Leaf, before: usize, found: &mut Option<Diagnostic<Cause>>)
     ensures { found.new ≡ noted found.old (leaf_diagnostics before leaf.now) }
 {
     note_wrong(leaf.wrong, found);
@@ -163,7 +165,7 @@ fn note_leaf(leaf: &Leaf, before: usize, found: &mut Option<Diagnostic>)
 }
 
 /// Notes what is wrong with the leaves of a form.
-fn note_leaves(leaves: &[Leaf], found: &mut Option<Diagnostic>)
+fn note_leaves(leaves: &[Leaf], found: &mut Option<Diagnostic<Cause>>)
     ensures { found.new ≡ noted found.old (leaves_diagnostics 0 leaves.now) }
 {
     for index in 0..leaves.len() {
@@ -221,7 +223,7 @@ pub(crate) fn linear(
     symbols: &Symbols,
     scope: &BodyScope,
     raw: &RawExpr,
-    found: &mut Option<Diagnostic>,
+    found: &mut Option<Diagnostic<Cause>>,
 ) -> Result<Linear, OutOfMemory>
     ensures { IfOk result (MakesForm use_ symbols.now scope.now raw.now found.old found.new) }
 {

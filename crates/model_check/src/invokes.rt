@@ -1,19 +1,21 @@
 //! Starts of activities are judged and made.
 
 ghost use Rattle.std.specs.Prelude.{◌≡◌, ◌||◌, Some, None, IfOk, is_some, length, replicate, slice_set};
-ghost use Rattle.model_check.specs.Diagnostics.{noted, refused_unless, Makes};
+ghost use Rattle.diagnostics.specs.Diagnostics.{refused_unless};
+ghost use Rattle.model_check.specs.Diagnostics.{noted, Makes};
 ghost use Rattle.model_check.specs.GivenArguments.{slot_given, put_given, put_found, name_found, missing_found, given_or_default, filled_values};
 ghost use Rattle.model_check.specs.Invokes.{parameter_kind, values_diagnostics, result_diagnostics, call_kind, invoked_number};
-ghost use Rattle.model_check.specs.declared.diagnostics.Cause.TheVariants.{WrongType};
+ghost use Rattle.model_check.specs.declared.causes.Cause.TheVariants.{WrongType};
 ghost use Rattle.model_check.specs.Making.{AddsArgument, AddsArguments, MakesArguments, MakesInvoke};
 
-use crate::diagnostics::{Cause, Diagnostic, note};
+use crate::causes::Cause;
 use crate::expressions::{expression, raw_kind};
-use crate::literals::{note_mismatch, short};
+use crate::literals::note_mismatch;
 use crate::scopes::BodyScope;
 use crate::symbols::{ParameterSymbol, Symbols};
 use crate::tables::NameTable;
 use aerie_base::{Expr, Kind, List, OutOfMemory, Place, Value};
+use diagnostics::{Diagnostic, note, short};
 use model_reader::{RawExpr, RawInvoke, RawName};
 use std::alloc::Global;
 
@@ -44,7 +46,7 @@ fn note_argument_name(
     given: &[Option<Expr>],
     name: &RawName,
     parameter: &Option<(usize, ParameterSymbol)>,
-    found: &mut Option<Diagnostic>,
+    found: &mut Option<Diagnostic<Cause>>,
 )
     ensures { found.new ≡ noted found.old (name_found given.now name.now parameter.now) }
 {
@@ -90,7 +92,7 @@ fn put_found(
 }
 
 /// Judges an argument and makes its value.
-#[tactic(auto, using(crate::proofs::NotedInTurn::noted_appended))]
+#[tactic(auto, using(diagnostics::specs::NotedInTurn::noted_appended))]
 fn argument(
     alloc: Global,
     symbols: &Symbols,
@@ -98,7 +100,7 @@ fn argument(
     parameters: &NameTable<ParameterSymbol>,
     given: &mut Vec<Option<Expr>>,
     argument: &(RawName, RawExpr),
-    found: &mut Option<Diagnostic>,
+    found: &mut Option<Diagnostic<Cause>>,
 ) -> Result<(), OutOfMemory>
     ensures { IfOk result (λ _. AddsArgument symbols.now scope.now parameters.now argument.now given.old.items given.new.items found.old found.new) }
 {
@@ -124,7 +126,7 @@ fn each_argument(
     parameters: &NameTable<ParameterSymbol>,
     given: &mut Vec<Option<Expr>>,
     arguments: &[(RawName, RawExpr)],
-    found: &mut Option<Diagnostic>,
+    found: &mut Option<Diagnostic<Cause>>,
 ) -> Result<(), OutOfMemory>
     ensures { IfOk result (λ _. AddsArguments symbols.now scope.now parameters.now arguments.now given.old.items given.new.items found.old found.new) }
 {
@@ -165,7 +167,7 @@ fn note_missing(
     at: Place,
     parameter: &ParameterSymbol,
     value: &Option<Expr>,
-    found: &mut Option<Diagnostic>,
+    found: &mut Option<Diagnostic<Cause>>,
 )
     ensures { found.new ≡ noted found.old (refused_unless (is_some parameter.now.default || is_some value.now) WrongType at) }
 {
@@ -180,7 +182,7 @@ fn fill(
     at: Place,
     parameters: &[ParameterSymbol],
     mut given: Vec<Option<Expr>>,
-    found: &mut Option<Diagnostic>,
+    found: &mut Option<Diagnostic<Cause>>,
 ) -> Result<List<Expr>, OutOfMemory>
     requires { length given.items ≡ length parameters.now }
     ensures { IfOk result (Makes (filled_values parameters.now given.items) (missing_found at parameters.now given.items) found.old found.new) }
@@ -201,7 +203,7 @@ fn known_arguments(
     scope: &BodyScope,
     parameters: &NameTable<ParameterSymbol>,
     invoke: &RawInvoke,
-    found: &mut Option<Diagnostic>,
+    found: &mut Option<Diagnostic<Cause>>,
 ) -> Result<List<Expr>, OutOfMemory>
     ensures { IfOk result (MakesArguments symbols.now scope.now parameters.now invoke.now found.old found.new) }
 {
@@ -225,7 +227,7 @@ fn note_values(
     symbols: &Symbols,
     scope: &BodyScope,
     arguments: &[(RawName, RawExpr)],
-    found: &mut Option<Diagnostic>,
+    found: &mut Option<Diagnostic<Cause>>,
 ) -> Result<(), OutOfMemory>
     ensures { IfOk result (λ _. found.new ≡ noted found.old (values_diagnostics symbols.now scope.now arguments.now)) }
 {
@@ -241,7 +243,7 @@ pub(crate) fn arguments(
     symbols: &Symbols,
     scope: &BodyScope,
     invoke: &RawInvoke,
-    found: &mut Option<Diagnostic>,
+    found: &mut Option<Diagnostic<Cause>>,
 ) -> Result<List<Expr>, OutOfMemory>
     ensures { IfOk result (MakesInvoke symbols.now scope.now invoke.now found.old found.new) }
 {
@@ -279,7 +281,11 @@ pub(crate) fn call_kind(symbols: &Symbols, invoke: &RawInvoke) -> Option<Kind>
 }
 
 /// Notes an activity type without the result that a `let` takes.
-pub(crate) fn note_result(symbols: &Symbols, invoke: &RawInvoke, found: &mut Option<Diagnostic>)
+pub(crate) fn note_result(
+    symbols: &Symbols,
+    invoke: &RawInvoke,
+    found: &mut Option<Diagnostic<Cause>>,
+)
     ensures { found.new ≡ noted found.old (result_diagnostics symbols.now invoke.now) }
 {
     if let Some((_, symbol)) = symbols.types.find(&invoke.name.name)

@@ -12,9 +12,9 @@ ghost use Rattle.model_check.specs.NameTables.{entry_in};
 ghost use Rattle.model_check.specs.declared.leaves.FormUse.TheVariants.{Resource as InResource};
 ghost use Rattle.model_check.specs.Making.{MakesRegister};
 
+use crate::causes::Cause;
 use crate::cell_reads::{note_read, read_operand};
 use crate::declarations::{note_type, type_kind};
-use crate::diagnostics::{Cause, Diagnostic, note};
 use crate::expressions::expression;
 use crate::forms::linear;
 use crate::leaves::FormUse;
@@ -26,6 +26,7 @@ use aerie_base::{
     CellRead, CellStart, EnumType, Kind, Linear, List, Name, Number, Operand, OutOfMemory,
     RATE_LIMIT,
 };
+use diagnostics::{Diagnostic, note};
 use model_reader::{RawExpr, RawLiteral, RawLiteralKind, RawName, RawPart, RawRead, RawType};
 use std::alloc::Global;
 
@@ -47,7 +48,7 @@ pub(crate) fn enum_type(
     alloc: Global,
     name: &RawName,
     variants: &[RawName],
-    found: &mut Option<Diagnostic>,
+    found: &mut Option<Diagnostic<Cause>>,
 ) -> Result<EnumType, OutOfMemory>
     ensures { IfOk result (Makes (enum_type name.now variants.now) (repeated_diagnostics [] variants.now) found.old found.new) }
 {
@@ -60,12 +61,12 @@ pub(crate) fn enum_type(
 // ---- cells
 
 /// Notes a literal of another type than is written.
-#[tactic(auto, using(crate::proofs::NotedInTurn::noted_appended))]
+#[tactic(auto, using(diagnostics::specs::NotedInTurn::noted_appended))]
 pub(crate) fn note_typed_literal(
     symbols: &Symbols,
     written: &RawType,
     literal: &RawLiteral,
-    found: &mut Option<Diagnostic>,
+    found: &mut Option<Diagnostic<Cause>>,
 )
     ensures { found.new ≡ noted found.old (typed_literal_diagnostics symbols.now written.now literal.now) }
 {
@@ -86,12 +87,12 @@ pub(crate) fn kind_written(symbols: &Symbols, written: &RawType) -> Kind
 }
 
 /// Makes the beginning of a register, and notes a type that is unknown and a literal of another type.
-#[tactic(auto, using(crate::proofs::NotedInTurn::noted_appended))]
+#[tactic(auto, using(diagnostics::specs::NotedInTurn::noted_appended))]
 pub(crate) fn register_start(
     symbols: &Symbols,
     kind: &RawType,
     start: &RawLiteral,
-    found: &mut Option<Diagnostic>,
+    found: &mut Option<Diagnostic<Cause>>,
 ) -> CellStart
     ensures { MakesRegister symbols.now kind.now start.now found.old found.new result }
 {
@@ -115,7 +116,7 @@ fn rate_of(rate: &RawLiteralKind) -> i64
 }
 
 /// Notes a rate out of its range, and one that is no number.
-fn note_rate(rate: &RawLiteral, found: &mut Option<Diagnostic>)
+fn note_rate(rate: &RawLiteral, found: &mut Option<Diagnostic<Cause>>)
     ensures { found.new ≡ noted found.old (rate_diagnostics rate.now.at rate.now.what) }
 {
     match &rate.what {
@@ -134,7 +135,7 @@ fn note_rate(rate: &RawLiteral, found: &mut Option<Diagnostic>)
 pub(crate) fn accumulator_start(
     volume: Number,
     rate: &RawLiteral,
-    found: &mut Option<Diagnostic>,
+    found: &mut Option<Diagnostic<Cause>>,
 ) -> CellStart
     ensures { Makes (accumulator_start volume rate.now) (rate_diagnostics rate.now.at rate.now.what) found.old found.new result }
 {
@@ -148,7 +149,7 @@ pub(crate) fn accumulator_start(
 // ---- resources
 
 /// Notes a volume that is shown as it is.
-fn note_shown(symbols: &Symbols, read: &RawRead, found: &mut Option<Diagnostic>)
+fn note_shown(symbols: &Symbols, read: &RawRead, found: &mut Option<Diagnostic<Cause>>)
     ensures { found.new ≡ noted found.old (shown_diagnostics read.now.part read.now.name.at (entry_in read.now.name.name symbols.now.cells)) }
 {
     let cell = symbols.cells.entry(&read.name.name);
@@ -173,12 +174,12 @@ fn read_of(operand: Operand) -> CellRead
 }
 
 /// Makes what a discrete resource shows, and notes what is wrong with it.
-#[tactic(auto, using(crate::proofs::NotedInTurn::noted_appended))]
+#[tactic(auto, using(diagnostics::specs::NotedInTurn::noted_appended))]
 pub(crate) fn discrete(
     alloc: Global,
     symbols: &Symbols,
     read: &RawRead,
-    found: &mut Option<Diagnostic>,
+    found: &mut Option<Diagnostic<Cause>>,
 ) -> CellRead
     ensures { Makes (read_of (read_operand symbols.now empty_scope read.now)) (discrete_diagnostics symbols.now read.now) found.old found.new result }
 {
@@ -189,12 +190,12 @@ pub(crate) fn discrete(
 }
 
 /// Makes the sum of a linear resource, and notes what is wrong with it.
-#[tactic(auto, using(crate::proofs::NotedInTurn::noted_appended))]
+#[tactic(auto, using(diagnostics::specs::NotedInTurn::noted_appended))]
 pub(crate) fn linear_resource(
     alloc: Global,
     symbols: &Symbols,
     sum: &RawExpr,
-    found: &mut Option<Diagnostic>,
+    found: &mut Option<Diagnostic<Cause>>,
 ) -> Result<Linear, OutOfMemory>
     ensures { IfOk result (Makes (linear_of InResource symbols.now empty_scope sum.now) (linear_diagnostics symbols.now sum.now) found.old found.new) }
 {

@@ -4,12 +4,13 @@ ghost use Rattle.std.specs.Prelude.{◌≡◌, Some, IfSome};
 ghost use Rattle.aerie_base.specs.Ranges.{IsNumber};
 ghost use Rattle.model_check.specs.LinearForms.{is_whole_number, is_counter_sort, is_summed_part, may_stand, is_leaf_read, unfit_leaf, constant_leaf, coefficient_wrong, signed_by, read_leaf, no_number_leaf, literal_leaf, literal_number, plain_number, negated_number, signed_number, read_in, product_leaf};
 
+use crate::causes::Cause;
 use crate::cell_reads::{raw_read_kind, read_operand};
-use crate::diagnostics::{Cause, Diagnostic};
 use crate::literals::literal_kind;
 use crate::scopes::BodyScope;
 use crate::symbols::{CellSort, CellSymbol, Symbols};
 use aerie_base::{Kind, Operator, OutOfMemory, Place, Term};
+use diagnostics::Diagnostic;
 use model_reader::{RawExpr, RawExprKind, RawLiteralKind, RawPart, RawRead};
 use std::alloc::Global;
 
@@ -22,7 +23,7 @@ pub(crate) struct Leaf {
     /// The place of its first token; a sign in front of it is no part of it.
     pub at: Place,
     /// What is wrong with it.
-    pub wrong: Option<Diagnostic>,
+    pub wrong: Option<Diagnostic<Cause>>,
     /// The read with its coefficient, where it is one.
     pub term: Option<Term>,
     /// The number, where it is one, and else 0.
@@ -193,7 +194,7 @@ pub(crate) fn constant_leaf(use_: FormUse, at: Place, number: i64) -> Leaf
 }
 
 /// What is wrong with a coefficient.
-fn coefficient_wrong(at: Place, coefficient: i64) -> Option<Diagnostic>
+fn coefficient_wrong(at: Place, coefficient: i64) -> Option<Diagnostic<Cause>>
     ensures { result ≡ coefficient_wrong at coefficient }
 {
     if -COEFFICIENT_LIMIT <= coefficient && coefficient <= COEFFICIENT_LIMIT {

@@ -3,11 +3,11 @@
 
 mod activities;
 mod bodies;
+mod causes;
 mod cell_reads;
 mod check_error;
 mod checking;
 mod declarations;
-mod diagnostics;
 mod expressions;
 mod forms;
 mod invokes;
@@ -15,7 +15,6 @@ mod items;
 pub mod laws;
 mod leaves;
 mod literals;
-mod names;
 mod parts;
 mod repeats;
 mod scopes;

@@ -1,46 +1,19 @@
 //! Literals, and types where other types are wanted.
 
 ghost use Rattle.std.specs.Prelude.{◌≡◌};
-ghost use Rattle.aerie_base.specs.expressions.Typing.{same_kind};
 ghost use Rattle.model_check.specs.Diagnostics.{noted};
-ghost use Rattle.model_check.specs.Literals.{short, mismatch, literal_kind, literal_diagnostics, literal_value};
+ghost use Rattle.model_check.specs.Literals.{mismatch, literal_kind, literal_diagnostics, literal_value};
 
-use crate::diagnostics::{Cause, Diagnostic, note};
+use crate::causes::Cause;
 use crate::symbols::EnumSymbol;
 use crate::tables::NameTable;
 use aerie_base::{Kind, Place, Value};
+use diagnostics::{Diagnostic, note, same_kind, short};
 use model_reader::RawLiteralKind;
-
-/// The number in 16 bits; one past their end stands at it.
-pub(crate) fn short(number: usize) -> u16
-    ensures { result ≡ short number }
-{
-    if number < 65535 { number as u16 } else { 65535 }
-}
-
-/// Whether two types are one.
-pub(crate) fn same_kind(one: Kind, other: Kind) -> bool
-    ensures { result ≡ same_kind one other }
-{
-    match one {
-        Kind::Int => match other {
-            Kind::Int => true,
-            _ => false,
-        },
-        Kind::Truth => match other {
-            Kind::Truth => true,
-            _ => false,
-        },
-        Kind::Enum(number) => match other {
-            Kind::Enum(other) => number == other,
-            _ => false,
-        },
-    }
-}
 
 /// Notes a type where another one is wanted.
 pub(crate) fn note_mismatch(
-    found: &mut Option<Diagnostic>,
+    found: &mut Option<Diagnostic<Cause>>,
     at: Place,
     wanted: Option<Kind>,
     kind: Option<Kind>,
@@ -73,7 +46,7 @@ pub(crate) fn literal_kind(enums: &NameTable<EnumSymbol>, literal: &RawLiteralKi
 pub(crate) fn note_literal(
     enums: &NameTable<EnumSymbol>,
     literal: &RawLiteralKind,
-    found: &mut Option<Diagnostic>,
+    found: &mut Option<Diagnostic<Cause>>,
 )
     ensures { found.new ≡ noted found.old (literal_diagnostics enums.now literal.now) }
 {

@@ -9,12 +9,13 @@ ghost use Rattle.model_check.specs.Making.{AddsItem};
 
 use crate::activities::activity;
 use crate::bodies::daemon_body;
+use crate::causes::Cause;
 use crate::declarations::{bare_symbols, symbols};
-use crate::diagnostics::Diagnostic;
 use crate::items::{accumulator_start, discrete, enum_type, linear_resource, register_start};
 use crate::repeats::{NameGroup, note_repeated_items};
 use crate::symbols::Symbols;
 use aerie_base::{Activity, CellStart, Daemon, EnumType, List, Name, OutOfMemory, Resource};
+use diagnostics::Diagnostic;
 use model_reader::{RawItem, RawModel, RawName};
 use std::alloc::Global;
 
@@ -83,7 +84,7 @@ fn add_item(
     bare: &Symbols,
     item: &RawItem,
     parts: &mut CheckedParts,
-    found: &mut Option<Diagnostic>,
+    found: &mut Option<Diagnostic<Cause>>,
 ) -> Result<(), OutOfMemory>
     requires { bare.now ≡ bare_symbols symbols.now.enums }
     ensures { IfOk result (λ _. AddsItem symbols.now item.now parts.old parts.new found.old found.new) }
@@ -151,7 +152,7 @@ fn items(
     symbols: &Symbols,
     bare: &Symbols,
     items: &[RawItem],
-    found: &mut Option<Diagnostic>,
+    found: &mut Option<Diagnostic<Cause>>,
 ) -> Result<CheckedParts, OutOfMemory>
     requires { bare.now ≡ bare_symbols symbols.now.enums }
     ensures { IfOk result (Makes (with_checked_items symbols.now no_parts items.now) (items_diagnostics symbols.now items.now) found.old found.new) }
@@ -168,7 +169,7 @@ fn items_of(
     alloc: Global,
     symbols: &Symbols,
     declared: &[RawItem],
-    found: &mut Option<Diagnostic>,
+    found: &mut Option<Diagnostic<Cause>>,
 ) -> Result<CheckedParts, OutOfMemory>
     requires { symbols.now ≡ symbols_of declared.now }
     ensures { IfOk result (Makes (with_checked_items symbols.now no_parts declared.now) (items_diagnostics symbols.now declared.now) found.old found.new) }
@@ -182,7 +183,7 @@ fn items_of(
 pub(crate) fn parts(
     alloc: Global,
     raw: &RawModel,
-    found: &mut Option<Diagnostic>,
+    found: &mut Option<Diagnostic<Cause>>,
 ) -> Result<CheckedParts, OutOfMemory>
     ensures { IfOk result (Makes (checked_parts raw.now) (model_diagnostics raw.now) found.old found.new) }
 {

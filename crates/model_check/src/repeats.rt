@@ -4,11 +4,11 @@ ghost use Rattle.std.specs.Prelude.{◌≡◌, [], option_map, option_to_list, I
 ghost use Rattle.model_check.specs.Diagnostics.{noted};
 ghost use Rattle.model_check.specs.ModelDiagnostics.{repeated_diagnostics, shared_name, resource_name, names_in};
 ghost use Rattle.model_check.specs.NameGroups.{cell_name, group_name};
-ghost use Rattle.model_check.specs.Making.{AddsName, AddsNames};
+ghost use Rattle.model_check.specs.Making.{AddsNames};
 
-use crate::diagnostics::{Cause, Diagnostic, note};
-use crate::names::NameSet;
+use crate::causes::Cause;
 use aerie_base::OutOfMemory;
+use diagnostics::{Diagnostic, NameSet, note_repeated};
 use model_reader::{RawItem, RawName};
 use std::alloc::Global;
 
@@ -21,32 +21,24 @@ pub(crate) enum NameGroup {
     Shown,
 }
 
-/// Notes a name that is that of an earlier one, and adds it to them.
-fn note_repeated(
-    alloc: Global,
-    earlier: &mut NameSet,
-    name: &RawName,
-    found: &mut Option<Diagnostic>,
-) -> Result<(), OutOfMemory>
-    ensures { IfOk result (λ _. AddsName name.now earlier.old earlier.new found.old found.new) }
-{
-    if !earlier.add(alloc, &name.name)? {
-        note(found, name.at, Cause::Duplicate);
-    }
-    Ok(())
-}
-
 /// Notes names that are those of earlier ones.
 pub(crate) fn note_all_repeated(
     alloc: Global,
     names: &[RawName],
-    found: &mut Option<Diagnostic>,
+    found: &mut Option<Diagnostic<Cause>>,
 ) -> Result<(), OutOfMemory>
     ensures { IfOk result (λ _. found.new ≡ noted found.old (repeated_diagnostics [] names.now)) }
 {
     let mut earlier = NameSet::new(alloc);
     for name in names {
-        note_repeated(alloc, &mut earlier, name, found)?;
+        note_repeated(
+            alloc,
+            &mut earlier,
+            &name.name,
+            name.at,
+            Cause::Duplicate,
+            found,
+        )?;
     }
     Ok(())
 }
@@ -101,13 +93,13 @@ fn note_repeated_item(
     group: NameGroup,
     earlier: &mut NameSet,
     item: &RawItem,
-    found: &mut Option<Diagnostic>,
+    found: &mut Option<Diagnostic<Cause>>,
 ) -> Result<(), OutOfMemory>
     ensures { IfOk result (λ _. AddsNames (group_name group item.now) earlier.old earlier.new found.old found.new) }
 {
     match group_name(group, item) {
         None => Ok(()),
-        Some(name) => note_repeated(alloc, earlier, name, found),
+        Some(name) => note_repeated(alloc, earlier, &name.name, name.at, Cause::Duplicate, found),
     }
 }
 
@@ -116,7 +108,7 @@ pub(crate) fn note_repeated_items(
     alloc: Global,
     group: NameGroup,
     items: &[RawItem],
-    found: &mut Option<Diagnostic>,
+    found: &mut Option<Diagnostic<Cause>>,
 ) -> Result<(), OutOfMemory>
     ensures { IfOk result (λ _. found.new ≡ noted found.old (repeated_diagnostics [] (names_in (group_name group) items.now))) }
 {

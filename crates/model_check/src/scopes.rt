@@ -3,15 +3,16 @@
 ghost use Rattle.std.specs.Prelude.{◌≡◌, not, length, option_map, OnOk};
 ghost use Rattle.aerie_base.specs.models.Names.{is_name_among};
 ghost use Rattle.model_check.specs.BodyScopes.{empty_scope, next_slot, with_new_local, later_place, clash, enum_place, cell_place, local_diagnostics, let_diagnostics};
-ghost use Rattle.model_check.specs.Diagnostics.{noted, refused_unless};
-ghost use Rattle.model_check.specs.declared.diagnostics.Cause.TheVariants.{Duplicate};
+ghost use Rattle.diagnostics.specs.Diagnostics.{refused_unless};
+ghost use Rattle.model_check.specs.Diagnostics.{noted};
+ghost use Rattle.model_check.specs.declared.causes.Cause.TheVariants.{Duplicate};
 ghost use Rattle.model_check.specs.NameTables.{entry_in, first_entries};
 
-use crate::diagnostics::{Cause, Diagnostic, is_place_before, note};
-use crate::names::NameSet;
+use crate::causes::Cause;
 use crate::symbols::Symbols;
 use crate::tables::NameTable;
 use aerie_base::{Kind, Name, OutOfMemory, Place};
+use diagnostics::{Diagnostic, NameSet, is_place_before, note};
 use model_reader::RawName;
 use std::alloc::Global;
 
@@ -107,7 +108,7 @@ fn later_place(one: Place, other: Place) -> Place
 }
 
 /// Notes a name that is also that of something else.
-fn note_clash(found: &mut Option<Diagnostic>, at: Place, other: Option<Place>)
+fn note_clash(found: &mut Option<Diagnostic<Cause>>, at: Place, other: Option<Place>)
     ensures { found.new ≡ noted found.old (clash at other) }
 {
     if let Some(other) = other {
@@ -132,7 +133,7 @@ fn cell_place(symbols: &Symbols, name: &Name) -> Option<Place>
 }
 
 /// Notes the name of a local that is that of another local of its body.
-fn note_again(scope: &BodyScope, name: &RawName, found: &mut Option<Diagnostic>)
+fn note_again(scope: &BodyScope, name: &RawName, found: &mut Option<Diagnostic<Cause>>)
     ensures { found.new ≡ noted found.old (refused_unless (not (is_name_among name.now.name scope.now.names)) Duplicate name.now.at) }
 {
     if scope.names.has(&name.name) {
@@ -141,12 +142,12 @@ fn note_again(scope: &BodyScope, name: &RawName, found: &mut Option<Diagnostic>)
 }
 
 /// Notes what is wrong with the name of a new local.
-#[tactic(auto, using(crate::proofs::NotedInTurn::noted_appended))]
+#[tactic(auto, using(diagnostics::specs::NotedInTurn::noted_appended))]
 pub(crate) fn note_local(
     symbols: &Symbols,
     scope: &BodyScope,
     name: &RawName,
-    found: &mut Option<Diagnostic>,
+    found: &mut Option<Diagnostic<Cause>>,
 )
     ensures { found.new ≡ noted found.old (local_diagnostics symbols.now scope.now name.now) }
 {
@@ -156,7 +157,7 @@ pub(crate) fn note_local(
 }
 
 /// Notes a `let` that is one too many.
-pub(crate) fn note_let(at: Place, scope: &BodyScope, found: &mut Option<Diagnostic>)
+pub(crate) fn note_let(at: Place, scope: &BodyScope, found: &mut Option<Diagnostic<Cause>>)
     ensures { found.new ≡ noted found.old (let_diagnostics at scope.now) }
 {
     if LOCAL_LIMIT <= scope.count {

@@ -8,21 +8,26 @@ ghost use Rattle.model_check.specs.MadeStatements.{IsStatementAt, IsStatement, I
 ghost use Rattle.model_check.specs.Statements.{assigned_diagnostics, local_kind, local_slot, counter_sort, register_sort, register_sort_kind, return_diagnostics, returned_of};
 ghost use Rattle.model_check.specs.Making.{MakesFlow};
 
+use crate::causes::Cause;
 use crate::cell_reads::cell_number;
-use crate::diagnostics::{Cause, Diagnostic, note};
 use crate::expressions::{expression, raw_kind, typed, valued};
 use crate::invokes::{arguments, call_kind, invoked_number, note_result};
 use crate::scopes::{BodyScope, LocalSymbol, note_let, note_local};
 use crate::symbols::{CellSort, CellSymbol, ResultSymbol, Symbols};
 use crate::waits::wait;
 use aerie_base::{Emission, Expr, Kind, List, OutOfMemory, Place, Stmt};
+use diagnostics::{Diagnostic, note};
 use model_reader::{RawExpr, RawInvoke, RawName, RawStmt, RawStmtKind};
 use std::alloc::Global;
 
 // ---- what is assigned to
 
 /// Notes a name that is of no local, or of a parameter.
-fn note_assigned(found: &mut Option<Diagnostic>, at: Place, local: Option<(usize, LocalSymbol)>)
+fn note_assigned(
+    found: &mut Option<Diagnostic<Cause>>,
+    at: Place,
+    local: Option<(usize, LocalSymbol)>,
+)
     ensures { found.new ≡ noted found.old (assigned_diagnostics at local) }
 {
     match local {
@@ -56,7 +61,7 @@ fn local_slot(local: Option<(usize, LocalSymbol)>) -> u16
 }
 
 /// Notes a name that is of no counter.
-fn note_counter(found: &mut Option<Diagnostic>, at: Place, cell: Option<(usize, CellSymbol)>)
+fn note_counter(found: &mut Option<Diagnostic<Cause>>, at: Place, cell: Option<(usize, CellSymbol)>)
     ensures { found.new ≡ noted found.old (on_cell counter_sort at cell) }
 {
     match cell {
@@ -69,7 +74,11 @@ fn note_counter(found: &mut Option<Diagnostic>, at: Place, cell: Option<(usize, 
 }
 
 /// Notes a name that is of no register.
-fn note_register(found: &mut Option<Diagnostic>, at: Place, cell: Option<(usize, CellSymbol)>)
+fn note_register(
+    found: &mut Option<Diagnostic<Cause>>,
+    at: Place,
+    cell: Option<(usize, CellSymbol)>,
+)
     ensures { found.new ≡ noted found.old (on_cell register_sort at cell) }
 {
     match cell {
@@ -82,7 +91,11 @@ fn note_register(found: &mut Option<Diagnostic>, at: Place, cell: Option<(usize,
 }
 
 /// Notes a name that is of no accumulator.
-fn note_accumulator(found: &mut Option<Diagnostic>, at: Place, cell: Option<(usize, CellSymbol)>)
+fn note_accumulator(
+    found: &mut Option<Diagnostic<Cause>>,
+    at: Place,
+    cell: Option<(usize, CellSymbol)>,
+)
     ensures { found.new ≡ noted found.old (on_cell flow_sort at cell) }
 {
     match cell {
@@ -107,7 +120,7 @@ fn register_kind(cell: Option<(usize, CellSymbol)>) -> Option<Kind>
 // ---- locals
 
 /// A `let` with a value.
-#[tactic(auto, using(crate::proofs::NotedInTurn::noted_appended))]
+#[tactic(auto, using(diagnostics::specs::NotedInTurn::noted_appended))]
 fn let_value(
     alloc: Global,
     symbols: &Symbols,
@@ -115,7 +128,7 @@ fn let_value(
     name: &RawName,
     value: &RawExpr,
     scope: &mut BodyScope,
-    found: &mut Option<Diagnostic>,
+    found: &mut Option<Diagnostic<Cause>>,
 ) -> Result<Stmt, OutOfMemory>
     ensures { IfOk result (IsStatementAt symbols.now None at (RawLet name.now value.now) scope.old scope.new found.old found.new) }
 {
@@ -129,7 +142,7 @@ fn let_value(
 }
 
 /// A `let` that takes a result.
-#[tactic(auto, using(crate::proofs::NotedInTurn::noted_appended))]
+#[tactic(auto, using(diagnostics::specs::NotedInTurn::noted_appended))]
 fn let_call(
     alloc: Global,
     symbols: &Symbols,
@@ -137,7 +150,7 @@ fn let_call(
     name: &RawName,
     call: &RawInvoke,
     scope: &mut BodyScope,
-    found: &mut Option<Diagnostic>,
+    found: &mut Option<Diagnostic<Cause>>,
 ) -> Result<Stmt, OutOfMemory>
     ensures { IfOk result (IsStatementAt symbols.now None at (RawLetCall name.now call.now) scope.old scope.new found.old found.new) }
 {
@@ -155,7 +168,7 @@ fn let_call(
 }
 
 /// Another value of a local.
-#[tactic(auto, using(crate::proofs::NotedInTurn::noted_appended))]
+#[tactic(auto, using(diagnostics::specs::NotedInTurn::noted_appended))]
 fn assign(
     alloc: Global,
     symbols: &Symbols,
@@ -163,7 +176,7 @@ fn assign(
     scope: &BodyScope,
     name: &RawName,
     value: &RawExpr,
-    found: &mut Option<Diagnostic>,
+    found: &mut Option<Diagnostic<Cause>>,
 ) -> Result<Stmt, OutOfMemory>
     ensures { IfOk result (IsStatementAt symbols.now None at (RawAssign name.now value.now) scope.now scope.now found.old found.new) }
 {
@@ -179,7 +192,7 @@ fn assign(
 // ---- effects
 
 /// An effect on a counter.
-#[tactic(auto, using(crate::proofs::NotedInTurn::noted_appended))]
+#[tactic(auto, using(diagnostics::specs::NotedInTurn::noted_appended))]
 fn add(
     alloc: Global,
     symbols: &Symbols,
@@ -187,7 +200,7 @@ fn add(
     scope: &BodyScope,
     name: &RawName,
     value: &RawExpr,
-    found: &mut Option<Diagnostic>,
+    found: &mut Option<Diagnostic<Cause>>,
 ) -> Result<Stmt, OutOfMemory>
     ensures { IfOk result (IsStatementAt symbols.now None at (RawAdd name.now value.now) scope.now scope.now found.old found.new) }
 {
@@ -201,7 +214,7 @@ fn add(
 }
 
 /// An effect on a register.
-#[tactic(auto, using(crate::proofs::NotedInTurn::noted_appended))]
+#[tactic(auto, using(diagnostics::specs::NotedInTurn::noted_appended))]
 fn put(
     alloc: Global,
     symbols: &Symbols,
@@ -209,7 +222,7 @@ fn put(
     scope: &BodyScope,
     name: &RawName,
     value: &RawExpr,
-    found: &mut Option<Diagnostic>,
+    found: &mut Option<Diagnostic<Cause>>,
 ) -> Result<Stmt, OutOfMemory>
     ensures { IfOk result (IsStatementAt symbols.now None at (RawPut name.now value.now) scope.now scope.now found.old found.new) }
 {
@@ -223,14 +236,14 @@ fn put(
 }
 
 /// The cell and the value of an effect on a part of an accumulator.
-#[tactic(auto, using(crate::proofs::NotedInTurn::noted_appended))]
+#[tactic(auto, using(diagnostics::specs::NotedInTurn::noted_appended))]
 fn flow(
     alloc: Global,
     symbols: &Symbols,
     scope: &BodyScope,
     name: &RawName,
     value: &RawExpr,
-    found: &mut Option<Diagnostic>,
+    found: &mut Option<Diagnostic<Cause>>,
 ) -> Result<(u16, Expr), OutOfMemory>
     ensures { IfOk result (MakesFlow symbols.now scope.now name.now value.now found.old found.new) }
 {
@@ -248,7 +261,7 @@ fn add_volume(
     scope: &BodyScope,
     name: &RawName,
     value: &RawExpr,
-    found: &mut Option<Diagnostic>,
+    found: &mut Option<Diagnostic<Cause>>,
 ) -> Result<Stmt, OutOfMemory>
     ensures { IfOk result (IsStatementAt symbols.now None at (RawAddVolume name.now value.now) scope.now scope.now found.old found.new) }
 {
@@ -265,7 +278,7 @@ fn add_rate(
     scope: &BodyScope,
     name: &RawName,
     value: &RawExpr,
-    found: &mut Option<Diagnostic>,
+    found: &mut Option<Diagnostic<Cause>>,
 ) -> Result<Stmt, OutOfMemory>
     ensures { IfOk result (IsStatementAt symbols.now None at (RawAddRate name.now value.now) scope.now scope.now found.old found.new) }
 {
@@ -283,7 +296,7 @@ fn delay(
     at: Place,
     scope: &BodyScope,
     by: &RawExpr,
-    found: &mut Option<Diagnostic>,
+    found: &mut Option<Diagnostic<Cause>>,
 ) -> Result<Stmt, OutOfMemory>
     ensures { IfOk result (IsStatementAt symbols.now None at (RawDelay by.now) scope.now scope.now found.old found.new) }
 {
@@ -298,7 +311,7 @@ fn wait_until(
     at: Place,
     scope: &BodyScope,
     condition: &RawExpr,
-    found: &mut Option<Diagnostic>,
+    found: &mut Option<Diagnostic<Cause>>,
 ) -> Result<Stmt, OutOfMemory>
     ensures { IfOk result (IsStatementAt symbols.now None at (RawWaitUntil condition.now) scope.now scope.now found.old found.new) }
 {
@@ -313,7 +326,7 @@ fn spawn(
     at: Place,
     scope: &BodyScope,
     child: &RawInvoke,
-    found: &mut Option<Diagnostic>,
+    found: &mut Option<Diagnostic<Cause>>,
 ) -> Result<Stmt, OutOfMemory>
     ensures { IfOk result (IsStatementAt symbols.now None at (RawSpawn child.now) scope.now scope.now found.old found.new) }
 {
@@ -329,7 +342,7 @@ fn call(
     at: Place,
     scope: &BodyScope,
     child: &RawInvoke,
-    found: &mut Option<Diagnostic>,
+    found: &mut Option<Diagnostic<Cause>>,
 ) -> Result<Stmt, OutOfMemory>
     ensures { IfOk result (IsStatementAt symbols.now None at (RawCall child.now) scope.now scope.now found.old found.new) }
 {
@@ -345,7 +358,7 @@ fn call(
 // ---- results
 
 /// A `return`, by the result of the activity type.
-#[tactic(auto, using(crate::proofs::NotedInTurn::noted_appended))]
+#[tactic(auto, using(diagnostics::specs::NotedInTurn::noted_appended))]
 fn returned(
     alloc: Global,
     symbols: &Symbols,
@@ -353,7 +366,7 @@ fn returned(
     returns: Option<ResultSymbol>,
     at: Place,
     value: &Option<RawExpr>,
-    found: &mut Option<Diagnostic>,
+    found: &mut Option<Diagnostic<Cause>>,
 ) -> Result<Option<Expr>, OutOfMemory>
     ensures { IfOk result (Makes (returned_of symbols.now scope.now value.now) (return_diagnostics symbols.now scope.now returns at value.now) found.old found.new) }
 {
@@ -382,7 +395,7 @@ fn return_value(
     returns: Option<ResultSymbol>,
     at: Place,
     value: &Option<RawExpr>,
-    found: &mut Option<Diagnostic>,
+    found: &mut Option<Diagnostic<Cause>>,
 ) -> Result<Stmt, OutOfMemory>
     ensures { IfOk result (IsStatementAt symbols.now returns at (RawReturn value.now) scope.now scope.now found.old found.new) }
 {
@@ -400,7 +413,7 @@ fn statement(
     returns: Option<ResultSymbol>,
     raw: &RawStmt,
     scope: &mut BodyScope,
-    found: &mut Option<Diagnostic>,
+    found: &mut Option<Diagnostic<Cause>>,
 ) -> Result<Stmt, OutOfMemory>
     ensures { IfOk result (IsStatement symbols.now returns raw.now scope.old scope.new found.old found.new) }
 {
@@ -454,7 +467,7 @@ pub(crate) fn block(
     returns: Option<ResultSymbol>,
     raw: &List<RawStmt>,
     scope: &mut BodyScope,
-    found: &mut Option<Diagnostic>,
+    found: &mut Option<Diagnostic<Cause>>,
 ) -> Result<List<Stmt>, OutOfMemory>
     ensures { IfOk result (IsBlock symbols.now returns raw.now scope.old scope.new found.old found.new) }
 {

@@ -1,8 +1,8 @@
 //! What the names of a model stand for.
 
-use crate::names::NameSet;
 use crate::tables::NameTable;
 use aerie_base::{Kind, Place, Value};
+use diagnostics::NameSet;
 
 /// An enumeration.
 #[derive(Drop)]

@@ -4,8 +4,8 @@ ghost use Rattle.std.specs.Prelude.{◌≡◌, not, option_map, IfOk};
 ghost use Rattle.aerie_base.specs.models.Names.{is_name_among};
 ghost use Rattle.model_check.specs.NameTables.{no_entries, with_entry, entry_in, first_entries};
 
-use crate::names::NameSet;
 use aerie_base::{List, Name, OutOfMemory};
+use diagnostics::NameSet;
 use std::alloc::Global;
 
 /// Different names, each with a value, numbered in the order in which they were first seen.

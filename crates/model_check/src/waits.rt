@@ -2,13 +2,14 @@
 
 ghost use Rattle.std.specs.Prelude.{◌≡◌, true, false, IfOk};
 ghost use Rattle.aerie_base.specs.declared.conditions.Cond.{Literal};
-ghost use Rattle.model_check.specs.Diagnostics.{noted, at_place, refused_unless, Makes};
-ghost use Rattle.model_check.specs.declared.diagnostics.Cause.TheVariants.{NotLinear};
+ghost use Rattle.diagnostics.specs.Diagnostics.{at_place, refused_unless};
+ghost use Rattle.model_check.specs.Diagnostics.{noted, Makes};
+ghost use Rattle.model_check.specs.declared.causes.Cause.TheVariants.{NotLinear};
 ghost use Rattle.model_check.specs.Waits.{is_side_part, is_side, side_diagnostics, side_of, is_int, are_numbers, compares_forms, is_equal, forms_compared, is_truth, literal_truth, junction, joint_of, cond_of, cond_diagnostics, wait_diagnostics};
 ghost use Rattle.model_check.specs.Making.{MakesComparison, MakesCompared, MakesPlainOperator};
 
+use crate::causes::Cause;
 use crate::cell_reads::{raw_read_kind, read_operand};
-use crate::diagnostics::{Cause, Diagnostic, note};
 use crate::expressions::{expression, note_unless_wanted, raw_kind};
 use crate::forms::linear;
 use crate::leaves::FormUse;
@@ -16,6 +17,7 @@ use crate::literals::{literal_kind, literal_value};
 use crate::scopes::BodyScope;
 use crate::symbols::Symbols;
 use aerie_base::{Boxed, Comparison, Cond, Kind, Operator, OutOfMemory, Place, Simple, Value};
+use diagnostics::{Diagnostic, note};
 use model_reader::{RawExpr, RawExprKind, RawLiteralKind, RawPart};
 use std::alloc::Global;
 
@@ -45,7 +47,12 @@ fn is_side(symbols: &Symbols, scope: &BodyScope, raw: &RawExprKind) -> bool
 }
 
 /// Notes a side that is none.
-fn note_side(symbols: &Symbols, scope: &BodyScope, raw: &RawExpr, found: &mut Option<Diagnostic>)
+fn note_side(
+    symbols: &Symbols,
+    scope: &BodyScope,
+    raw: &RawExpr,
+    found: &mut Option<Diagnostic<Cause>>,
+)
     ensures { found.new ≡ noted found.old (side_diagnostics symbols.now scope.now raw.now) }
 {
     if !is_side(symbols, scope, &raw.what) {
@@ -113,7 +120,7 @@ fn is_equal(how: Comparison) -> bool
 }
 
 /// Makes a comparison of linear forms.
-#[tactic(auto, using(crate::proofs::NotedInTurn::noted_appended))]
+#[tactic(auto, using(diagnostics::specs::NotedInTurn::noted_appended))]
 fn forms(
     alloc: Global,
     symbols: &Symbols,
@@ -121,7 +128,7 @@ fn forms(
     how: Comparison,
     left: &RawExpr,
     right: &RawExpr,
-    found: &mut Option<Diagnostic>,
+    found: &mut Option<Diagnostic<Cause>>,
 ) -> Result<Cond, OutOfMemory>
     ensures { IfOk result (MakesComparison symbols.now scope.now how left.now right.now true found.old found.new) }
 {
@@ -131,14 +138,14 @@ fn forms(
 }
 
 /// Makes an equality of two sides.
-#[tactic(auto, using(crate::proofs::NotedInTurn::noted_appended))]
+#[tactic(auto, using(diagnostics::specs::NotedInTurn::noted_appended))]
 fn sides(
     symbols: &Symbols,
     scope: &BodyScope,
     how: Comparison,
     left: &RawExpr,
     right: &RawExpr,
-    found: &mut Option<Diagnostic>,
+    found: &mut Option<Diagnostic<Cause>>,
 ) -> Cond
     ensures { MakesComparison symbols.now scope.now how left.now right.now false found.old found.new result }
 {
@@ -174,7 +181,7 @@ fn comparison(
     how: Comparison,
     left: &RawExpr,
     right: &RawExpr,
-    found: &mut Option<Diagnostic>,
+    found: &mut Option<Diagnostic<Cause>>,
 ) -> Result<Cond, OutOfMemory>
     ensures { IfOk result (MakesCompared symbols.now scope.now how left.now right.now found.old found.new) }
 {
@@ -200,7 +207,7 @@ fn is_truth(kind: Option<Kind>) -> bool
 }
 
 /// Notes a part that is no truth.
-fn note_truth(kind: Option<Kind>, at: Place, found: &mut Option<Diagnostic>)
+fn note_truth(kind: Option<Kind>, at: Place, found: &mut Option<Diagnostic<Cause>>)
     ensures { found.new ≡ noted found.old (refused_unless (is_truth kind) NotLinear at) }
 {
     if !is_truth(kind) {
@@ -220,7 +227,7 @@ fn literal_truth(literal: &RawLiteralKind) -> bool
 // ---- conditions
 
 /// Notes an expression that is no part of a condition, which then means nothing.
-fn no_condition(at: Place, found: &mut Option<Diagnostic>) -> Cond
+fn no_condition(at: Place, found: &mut Option<Diagnostic<Cause>>) -> Cond
     ensures { Makes (Literal false) (at_place NotLinear at) found.old found.new result }
 {
     note(found, at, Cause::NotLinear);
@@ -265,7 +272,7 @@ fn no_junction(
     operator: Operator,
     left: &RawExpr,
     right: &RawExpr,
-    found: &mut Option<Diagnostic>,
+    found: &mut Option<Diagnostic<Cause>>,
 ) -> Result<Cond, OutOfMemory>
     ensures { IfOk result (MakesPlainOperator symbols.now scope.now at operator left.now right.now found.old found.new) }
 {
@@ -287,7 +294,7 @@ fn condition(
     symbols: &Symbols,
     scope: &BodyScope,
     raw: &RawExpr,
-    found: &mut Option<Diagnostic>,
+    found: &mut Option<Diagnostic<Cause>>,
 ) -> Result<Cond, OutOfMemory>
     ensures { IfOk result (Makes (cond_of symbols.now scope.now raw.now) (cond_diagnostics symbols.now scope.now raw.now) found.old found.new) }
 {
@@ -325,13 +332,13 @@ fn condition(
     }
 }
 /// Makes the condition of a `wait until`, and notes what is wrong with it.
-#[tactic(auto, using(crate::proofs::NotedInTurn::noted_appended))]
+#[tactic(auto, using(diagnostics::specs::NotedInTurn::noted_appended))]
 pub(crate) fn wait(
     alloc: Global,
     symbols: &Symbols,
     scope: &BodyScope,
     raw: &RawExpr,
-    found: &mut Option<Diagnostic>,
+    found: &mut Option<Diagnostic<Cause>>,
 ) -> Result<Cond, OutOfMemory>
     ensures { IfOk result (Makes (cond_of symbols.now scope.now raw.now) (wait_diagnostics symbols.now scope.now raw.now) found.old found.new) }
 {

@@ -1,13 +1,15 @@
 -- What a reader of a model in a row of tokens answers.
-use Rattle.std.specs.Prelude.{◌≡◌, ℕ, ◌-◌, List, [], ◌∷◌, ◌++◌, Result, Ok, Err, length, take, drop}
+use Rattle.std.specs.Prelude.{◌≡◌, ℕ, ◌-◌, List, Result, Ok, Err, length, take, drop}
 use Rattle.aerie_base.specs.declared.places.Place.{Place}
 use Rattle.readers.specs.Marks.{Mark}
 use Rattle.aerie_text.specs.declared.token.Token.{Token}
 use Rattle.readers.specs.Marks.{marks_of}
-use Rattle.aerie_text.specs.Places.{place_of}
-use Rattle.readers.specs.grammar.Readings.{IsRead, IsReadable, IsRefusedAt, IsRefusedAtEnd}
+use Rattle.readers.specs.grammar.Readings.{IsRead}
 use Rattle.readers.specs.Parsed.{Parsed, parsed, failed, over_limit}
+use Rattle.readers.specs.Places.{place_left, IsFirstRefusedBy, IsReadThroughBy}
 use Rattle.readers.specs.Words.{word_of}
+use Rattle.readers.specs.declared.refusal.Refusal.{Refusal}
+use Rattle.readers.specs.declared.refusal.Refusal.TheVariants as refusal
 use Rattle.model_reader.specs.declared.raw.models.RawModel.{RawModel}
 use Rattle.model_reader.specs.declared.read_error.ReadError.{ReadError}
 use Rattle.model_reader.specs.declared.read_error.ReadError.TheVariants.{Syntax, TooMany, OutOfMemory}
@@ -24,17 +26,22 @@ marks_from text tokens from = marks_of text (drop from tokens)
 abbrev pub marks_between : List ℕ → List Token → ℕ → ℕ → List Mark
 marks_between text tokens from to = take (to - from) (marks_from text tokens from)
 
--- the place of the first of the marks that are left; where none is, that behind the text
-abbrev pub place_left : List ℕ → List Mark → Place
-place_left text [] = place_of text (length text)
-place_left text (mark ∷ rest) = mark.at
+-- The answer of a reader of a text: what is made of a part and of the marks behind it; or the place of the first mark that is
+-- left, with the limit that is passed there.
+abbrev pub answer_by : {A B : Type 0} → List ℕ → (A → List Mark → B) → Parsed A → Result B ReadError
+answer_by text made (parsed part rest) = Ok (made part rest)
+answer_by text made (failed rest) = Err (Syntax (place_left text rest))
+answer_by text made (over_limit limit rest) = Err (TooMany (word_of limit) (place_left text rest))
 
--- The answer where so many tokens are counted: a model with the number of the token behind it, or the place of the first
--- mark that is left, with the limit that is passed there.
+-- the answer where so many tokens are counted: a model with the number of the token behind it
 abbrev pub answer_of : List ℕ → ℕ → Parsed RawModel → Result (RawModel × ℕ) ReadError
-answer_of text count (parsed model rest) = Ok (model, count - length rest)
-answer_of text count (failed rest) = Err (Syntax (place_left text rest))
-answer_of text count (over_limit limit rest) = Err (TooMany (word_of limit) (place_left text rest))
+answer_of text count reading = answer_by text (λ model rest. (model, count - length rest)) reading
+
+-- the error of a refusal with these marks left
+abbrev pub IsReadErrorOf : List ℕ → List Mark → Refusal → ReadError → Type 0
+IsReadErrorOf text rest refusal.Syntax error = error ≡ Syntax (place_left text rest)
+IsReadErrorOf text rest (refusal.TooMany limit) error = error ≡ TooMany (word_of limit) (place_left text rest)
+IsReadErrorOf text rest refusal.OutOfMemory error = error ≡ OutOfMemory
 
 -- the answer is this one, unless memory ran out
 abbrev pub UnlessOutOfMemory : {A : Type 0} → Result A ReadError → Result A ReadError → Type 0
@@ -47,20 +54,13 @@ UnlessOutOfMemory answer (Err OutOfMemory) = Unit {0}
 abbrev pub IsAnswer : List ℕ → List Token → ℕ → Result (RawModel × ℕ) ReadError → Type 0
 IsAnswer text tokens from result = UnlessOutOfMemory (answer_of text (length tokens) (model_at (marks_from text tokens from))) result
 
--- At the place stands the first of the marks that no reading of the grammar as it is written reads; or some reading reads
--- them all and none is a model, and the place is that behind the text.
-pub data IsFirstRefused (text : List ℕ) (marks : List Mark) (place : Place) : Type 0 where
-  at_mark : (front behind : List Mark) (mark : Mark) → marks ≡ front ++ (mark ∷ behind) → place ≡ mark.at → IsRefusedAt written model_rule marks (length front) → IsFirstRefused text marks place
-  at_end : place ≡ place_of text (length text) → IsRefusedAtEnd written model_rule marks → IsFirstRefused text marks place
+-- at the place stands the first of the marks that no reading of the grammar as it is written reads, or it is that of the end
+abbrev pub IsFirstRefused : List ℕ → List Mark → Place → Type 0
+IsFirstRefused text marks place = IsFirstRefusedBy written model_rule text marks place
 
 -- at the place stands a mark up to which, and with it, some reading of the grammar as it is written reads the marks
-pub record IsReadThrough (marks : List Mark) (place : Place) : Type 0 where
-  pub front : List Mark
-  pub mark : Mark
-  pub behind : List Mark
-  pub is : marks ≡ front ++ (mark ∷ behind)
-  pub stands : place ≡ mark.at
-  pub readable : IsReadable written model_rule (front ++ (mark ∷ []))
+abbrev pub IsReadThrough : List Mark → Place → Type 0
+IsReadThrough marks place = IsReadThroughBy written model_rule marks place
 
 -- what holds of the place where the answer is this place alone
 abbrev pub IfSyntax : {A : Type 0} → Result A ReadError → (Place → Type 0) → Type 0

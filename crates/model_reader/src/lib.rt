@@ -8,10 +8,13 @@ mod raw;
 mod read_error;
 mod reading;
 
-pub use model_answers::read_model;
+pub use model_answers::{error_of, read_model};
 pub use raw::{
     RawExpr, RawExprKind, RawInvoke, RawItem, RawLiteral, RawLiteralKind, RawModel, RawName,
     RawParameter, RawPart, RawRead, RawStmt, RawStmtKind, RawType,
 };
 pub use read_error::ReadError;
-pub use reading::model;
+pub use reading::{
+    OneName, amount, amount_literal, literal, model, negated, one_standing_for, optional_minus,
+    raw_name, truth_literal, with_minus,
+};

@@ -2,11 +2,12 @@
 
 ghost use Rattle.std.specs.Prelude.{◌≡◌, ◌≤◌, ◌<◌, ◌-◌, IfOk, length};
 ghost use Rattle.aerie_text.specs.Marks.{AreTokensWithin};
+ghost use Rattle.readers.specs.Places.{place_left};
 ghost use Rattle.readers.specs.Words.{word_of};
 ghost use Rattle.model_reader.specs.declared.read_error.ReadError.TheVariants.{TooMany};
 ghost use Rattle.model_reader.specs.Limits.{IsWithinLimits};
 ghost use Rattle.model_reader.specs.reading.Models.{model_at};
-ghost use Rattle.model_reader.specs.ModelAnswers.{marks_from, place_left, answer_of, UnlessOutOfMemory, IsFirstRefused, IsReadThrough, IsAnswer, IfSyntax, IfTooMany, AreModel, NoModelBegins};
+ghost use Rattle.model_reader.specs.ModelAnswers.{marks_from, answer_of, IsReadErrorOf, UnlessOutOfMemory, IsFirstRefused, IsReadThrough, IsAnswer, IfSyntax, IfTooMany, AreModel, NoModelBegins};
 
 use crate::laws::{models_are_within_limits, models_conform};
 use crate::raw::RawModel;
@@ -44,6 +45,7 @@ pub fn read_model(
 }
 
 /// Reads a model from the last ones of so many tokens.
+#[tactic(auto, using(crate::proofs::Answered::error_answers))]
 fn read_marks(
     alloc: Global,
     text: &str,
@@ -57,9 +59,24 @@ fn read_marks(
 {
     match model(alloc, reader) {
         Ok(model) => Ok((model, count - reader.left())),
-        Err(Refusal::Syntax) => Err(ReadError::Syntax(place_left(text, reader))),
-        Err(Refusal::TooMany(limit)) => Err(too_many(alloc, limit, place_left(text, reader))?),
-        Err(Refusal::OutOfMemory) => Err(ReadError::OutOfMemory),
+        Err(refusal) => Err(error_of(alloc, text, reader, refusal)?),
+    }
+}
+
+/// The error of a refusal by a reader of the text, with the place of the first token that is left, or of the end.
+pub fn error_of(
+    alloc: Global,
+    text: &str,
+    reader: &Reader,
+    refusal: Refusal,
+) -> Result<ReadError, OutOfMemory>
+    requires { length text.now < 4_294_967_295 }
+    ensures { IfOk result (λ error. IsReadErrorOf text.now reader.now refusal error) }
+{
+    match refusal {
+        Refusal::Syntax => Ok(ReadError::Syntax(place_left(text, reader))),
+        Refusal::TooMany(limit) => too_many(alloc, limit, place_left(text, reader)),
+        Refusal::OutOfMemory => Ok(ReadError::OutOfMemory),
     }
 }
 

@@ -17,5 +17,9 @@ mod with_height;
 pub use assignment_operator::AssignmentOperator;
 pub use body::Body;
 pub use declarations::Declarations;
+pub use literals::{
+    amount, amount_literal, literal, negated, optional_minus, truth_literal, with_minus,
+};
 pub use models::model;
+pub use names::{OneName, one_standing_for, raw_name};
 pub use with_height::WithHeight;

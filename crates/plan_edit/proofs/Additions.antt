@@ -13,16 +13,15 @@ use Rattle.aerie_base.specs.declared.plans.Directive.{Directive}
 use Rattle.aerie_base.specs.declared.plans.Plan.{Plan}
 use Rattle.aerie_base.specs.models.Signatures.{parameter_kinds}
 use Rattle.aerie_base.specs.models.ValidModel.{valid_model}
-use Rattle.aerie_base.specs.plans.OfModel.{directive_limit, rise_to, ids_of, are_values_of, takes, with_id, anchored_to, anchor_of, followed, is_there, is_directive_of, IsPlanOf}
-use Rattle.aerie_base.specs.plans.RisingIds.{rise_pushed, ids_pushed}
-use Rattle.plan_merge.proofs.Finds.{among}
-use Rattle.plan_merge.proofs.Renames.{both}
+use Rattle.aerie_base.specs.plans.OfModel.{directive_limit, rise_to, ids_of, are_values_of, takes, with_id, anchored_to, anchor_of, followed, is_there, is_directive_of, IsPlanOf, is_id_of, is_dangling}
+use Rattle.aerie_base.specs.plans.RisingIds.{all_pushed, and_too, both, ids_pushed, or_first, rise_pushed, there_more}
+use Rattle.aerie_base.specs.plans.FoundById.{among}
 use Rattle.plan_edit.specs.declared.errors.EditError.{EditError}
 use Rattle.plan_edit.specs.declared.arguments.Given.{Given}
 use Rattle.plan_edit.specs.Answers.{unless_refused, then_made_of}
 use Rattle.plan_edit.specs.Arguments.{arguments_of}
 use Rattle.plan_edit.specs.Requires.{first_unmet}
-use Rattle.plan_edit.specs.Editing.{unless_unmet, if_met, given_to, given_at_place, given_of, type_place, is_outside, is_full, is_loose, new_directive, with_added, directive_placed, directive_added}
+use Rattle.plan_edit.specs.Editing.{unless_unmet, if_met, given_to, given_at_position, given_of, type_position, is_outside, is_full, new_directive, with_added, directive_placed, directive_added}
 use Rattle.plan_edit.proofs.Given.{part_of, arguments_good}
 use Rattle.plan_edit.proofs.Types.{type_good}
 use Rattle.plan_edit.proofs.Trails.{IsAcyclic}
@@ -56,7 +55,7 @@ pub record IsPlaced (plan : Plan) (at : When) (given : Given) (directive : Direc
 
 pub placed_so : (plan : Plan) (at : When) (given : Given) (directive : Directive) → directive_placed plan at given ≡ Ok directive → IsPlaced plan at given directive
 placed_so plan at given directive h =
-    let none = none_of_three (is_outside plan at.start) (is_full plan) (is_loose plan at.anchor) _ _ _ (Ok (new_directive plan at given)) directive h in
+    let none = none_of_three (is_outside plan at.start) (is_full plan) (is_dangling (is_id_of plan.directives) at.anchor) _ _ _ (Ok (new_directive plan at given)) directive h in
     let room = neither (nat_lt (length plan.directives) directive_limit) (nat_lt plan.next_id 4_294_967_295) none.1.0 in
     let same : new_directive plan at given ≡ directive = cc in
     record {
@@ -91,21 +90,13 @@ module _ (model : Parts) (valid : IsTrue (valid_model model)) where
 
   pub given_good : (name : List ℕ) (arguments : List RawArgument) (given : Given) → given_of model name arguments ≡ Ok given →
       IsTrue (takes model.enums (slice_get model.activities given.kind) given.arguments)
-  given_good name arguments given h = go (type_place model name) h
+  given_good name arguments given h = go (type_position model name) h
     where
-      go : (place : Option ℕ) → given_at_place model arguments place ≡ Ok given → IsTrue (takes model.enums (slice_get model.activities given.kind) given.arguments)
+      go : (position : Option ℕ) → given_at_position model arguments position ≡ Ok given → IsTrue (takes model.enums (slice_get model.activities given.kind) given.arguments)
       go None h = absurd (cc)
       go (Some kind) h = takes_given kind arguments given (slice_get model.activities kind) refl h
 
 -- ---- anchors of a plan with a directive more
-
-and_too : (a b : Bool) → IsTrue a → IsTrue b → IsTrue (a && b)
-and_too true b h k = k
-and_too false b h k = absurd (true≢false (sym h))
-
-or_first : (a b : Bool) → a ≡ true → (a || b) ≡ true
-or_first true b h = refl
-or_first false b h = absurd (true≢false (sym h))
 
 -- the directive with an id, in front or behind
 front_found : (some : List Directive) (more : Directive) (id : ℕ) (found : Directive) → with_id some id ≡ Some found → with_id (some ++ more ∷ []) id ≡ Some found
@@ -151,7 +142,7 @@ module _ (some : List Directive) (more : Directive)
   leads_back id to h = go (with_id some id) refl
     where
       own : (t : Bool) → option_and_then anchored_to (if t then Some more else None) ≡ Some to → IsTrue (is_there some (Some to))
-      own true k = subst (λ (lead : Option ℕ). IsTrue (is_there some lead)) k anchor
+      own true k = subst (λ (anchor_id : Option ℕ). IsTrue (is_there some anchor_id)) k anchor
       own false k = absurd (none-some to k)
 
       go : (found : Option Directive) → with_id some id ≡ found → IsTrue (is_there some (Some to))
@@ -193,18 +184,6 @@ module _ (some : List Directive) (more : Directive)
 
 -- ---- the plan
 
-there_more : (some : List Directive) (more : Directive) (lead : Option ℕ) → IsTrue (is_there some lead) → IsTrue (is_there (some ++ more ∷ []) lead)
-there_more some more None h = refl
-there_more some more (Some id) h =
-    ap (list_any (nat_eq id)) (ids_pushed some more) ∙ list_any-append (nat_eq id) (ids_of some) (more.id ∷ [])
-    ∙ or_first (list_any (nat_eq id) (ids_of some)) (list_any (nat_eq id) (more.id ∷ [])) h
-
-all_pushed : (test : Directive → Bool) (some : List Directive) (more : Directive) → IsTrue (list_all test some) → IsTrue (test more) → IsTrue (list_all test (some ++ more ∷ []))
-all_pushed test [] more all one = and_too (test more) true one refl
-all_pushed test (first ∷ rest) more all one =
-    let parts = both (test first) (list_all test rest) all in
-    and_too (test first) (list_all test (rest ++ more ∷ [])) parts.0 (all_pushed test rest more parts.1 one)
-
 module _ (model : Parts) (valid : IsTrue (valid_model model)) (plan : Plan) (of : IsPlanOf model plan) where
   still_good : (more : Directive) (some : List Directive) → IsTrue (list_all (is_directive_of model plan) some) → IsTrue (list_all (is_directive_of model (with_added plan more)) some)
   still_good more [] all = refl
@@ -222,7 +201,7 @@ module _ (model : Parts) (valid : IsTrue (valid_model model)) (plan : Plan) (of 
       go : (found : Option Directive) → with_id plan.directives id ≡ found → option_and_then anchored_to found ≡ Some to → IsTrue (is_there plan.directives (Some to))
       go None is k = absurd (none-some to k)
       go (Some found) is k =
-          subst (λ (lead : Option ℕ). IsTrue (is_there plan.directives lead)) k
+          subst (λ (anchor_id : Option ℕ). IsTrue (is_there plan.directives anchor_id)) k
           (anchor_good model plan found (found_good (is_directive_of model plan) plan.directives id found of.directives is))
 
   pub with_one_more : (at : When) (given : Given) (more : Directive) → IsPlaced plan at given more → IsTrue (takes model.enums (slice_get model.activities given.kind) given.arguments) →

@@ -7,15 +7,10 @@ use Rattle.aerie_base.specs.declared.plans.Anchor.{Anchor}
 use Rattle.aerie_base.specs.declared.plans.Directive.{Directive}
 use Rattle.aerie_base.specs.declared.plans.Plan.{Plan}
 use Rattle.aerie_base.specs.plans.OfModel.{rise_to, ids_of, takes, with_id, anchored_to, anchor_of, is_there, is_directive_of, IsPlanOf, Rise}
-use Rattle.aerie_base.specs.plans.RisingIds.{above, found_by_id}
-use Rattle.plan_merge.proofs.Finds.{at_place, eq_back}
-use Rattle.plan_merge.proofs.Renames.{both, id_found}
+use Rattle.aerie_base.specs.plans.RisingIds.{above, and_too, both, found_by_id}
+use Rattle.aerie_base.specs.plans.FoundById.{at_place, eq_back, id_found}
 use Rattle.plan_edit.specs.Editing.{changed_where, with_changed}
 use Rattle.plan_edit.proofs.Trails.{IsAcyclic}
-
-pub and_too : (a b : Bool) → IsTrue a → IsTrue b → IsTrue (a && b)
-and_too true b h k = k
-and_too false b h k = absurd (true≢false (sym h))
 
 -- ---- one directive
 
@@ -31,7 +26,7 @@ module _ (change : Directive → Directive) where
       ap (λ (t : Bool). (if t then change first else first) ∷ map (changed_where id change) rest) (eq_back id first.id false (ne_eqb id first.id (ne_of_lt less)))
       ∙ ap (λ (ds : List Directive). first ∷ ds) (none_changed most first.id id rest parts.1 further)
 
-  -- changed at its place, or by its id
+  -- changed at its position, or by its id
   changed_at : (most before : ℕ) (directives : List Directive) (at : ℕ) (found : Directive) → IsTrue (rise_to most before (ids_of directives)) →
       slice_get directives at ≡ Some found → slice_set directives at (change found) ≡ map (changed_where found.id change) directives
   changed_at most before [] at found rise here = absurd (none-some found here)
@@ -49,7 +44,7 @@ module _ (change : Directive → Directive) where
       ap (λ (ds : List Directive). first ∷ ds) (changed_at most first.id rest at found parts.1 here)
       ∙ ap (λ (t : Bool). (if t then change first else first) ∷ map (changed_where found.id change) rest) (sym (ne_eqb first.id found.id (ne_of_lt less)))
 
-  -- what code does at the place that a search found
+  -- what code does at the position that a search found
   pub changed_so : (directives : List Directive) (at id : ℕ) (found : Directive) (made : List Directive) → Rise directives → slice_get directives at ≡ Some found → with_id directives id ≡ Some found →
       ((one : Directive) → slice_get directives at ≡ Some one → made ≡ slice_set directives at (change one)) → made ≡ map (changed_where id change) directives
   changed_so directives at id found made rise here by_id is =
@@ -81,7 +76,7 @@ length_same : (f : Directive → Directive) (directives : List Directive) → le
 length_same f [] = refl
 length_same f (first ∷ rest) = ap suc (length_same f rest)
 
-there_same : (some others : List Directive) → ids_of others ≡ ids_of some → (lead : Option ℕ) → is_there others lead ≡ is_there some lead
+there_same : (some others : List Directive) → ids_of others ≡ ids_of some → (anchor_id : Option ℕ) → is_there others anchor_id ≡ is_there some anchor_id
 there_same some others same None = refl
 there_same some others same (Some id) = ap (list_any (nat_eq id)) same
 
@@ -106,12 +101,12 @@ leads_same f same anchors directives id = ap (option_and_then anchored_to) (foun
     go None = refl
     go (Some d) = ap (option_map (λ (anchor : Anchor). anchor.to)) (anchors d)
 
-module _ (model other : Parts) (place : ℕ) (plan : Plan) (of : IsPlanOf model plan) (f : Directive → Directive) (same : (d : Directive) → (f d).id ≡ d.id) where
+module _ (model other : Parts) (position : ℕ) (plan : Plan) (of : IsPlanOf model plan) (f : Directive → Directive) (same : (d : Directive) → (f d).id ≡ d.id) where
   abbrev changed : Plan
-  changed = record plan { model = place; directives = map f plan.directives }
+  changed = record plan { model = position; directives = map f plan.directives }
 
   pub changed_plan : ((at : ℕ) (d : Directive) → slice_get plan.directives at ≡ Some d → IsTrue (is_directive_of model plan d) → IsTrue (is_directive_of other plan (f d))) →
-      IsAcyclic (map f plan.directives) → IsPlanOf other (record plan { model = place; directives = map f plan.directives })
+      IsAcyclic (map f plan.directives) → IsPlanOf other (record plan { model = position; directives = map f plan.directives })
   changed_plan each acyclic = record {
     duration = of.duration;
     count = omega (arith, of.count, length_same f plan.directives);

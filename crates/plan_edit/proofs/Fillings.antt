@@ -11,7 +11,7 @@ use Rattle.aerie_base.specs.models.Limits.{variant_limit, enum_limit}
 use Rattle.aerie_base.specs.models.Names.{are_distinct}
 use Rattle.aerie_base.specs.models.ValidModel.{valid_model, has_good_enums, is_enum}
 use Rattle.aerie_base.specs.models.ValidParts.{are_good}
-use Rattle.plan_merge.proofs.Renames.{both}
+use Rattle.aerie_base.specs.plans.RisingIds.{both}
 use Rattle.plan_edit.specs.declared.errors.EditError.{EditError}
 use Rattle.plan_edit.specs.declared.errors.EditError.TheVariants.{BadArgument}
 use Rattle.plan_edit.specs.Arguments.{values_filled, value_in_front, parameter_value}

@@ -22,8 +22,8 @@ use Rattle.aerie_base.specs.models.Names.{same_name}
 use Rattle.aerie_base.specs.models.Signatures.{parameter_kinds}
 use Rattle.aerie_base.specs.models.Values.{is_kind, is_value_of, variant_count, variants_of}
 use Rattle.aerie_base.specs.plans.OfModel.{with_id, are_values_of}
-use Rattle.plan_merge.proofs.Finds.{at_place}
-use Rattle.plan_merge.proofs.Renames.{both}
+use Rattle.aerie_base.specs.plans.FoundById.{at_place}
+use Rattle.aerie_base.specs.plans.RisingIds.{and_too, both}
 use Rattle.plan_edit.specs.declared.errors.EditError.{EditError}
 use Rattle.plan_edit.specs.declared.errors.EditError.TheVariants.{NoDirective, UnknownType, BadArgument, Invalid, OutsidePlan, TooMany, NotAPlan, OutOfMemory, NoAnchor, Cycle, Anchored}
 use Rattle.plan_edit.specs.declared.arguments.Given.{Given}
@@ -83,10 +83,6 @@ found_is directives (Some at) id same within =
 
 -- ---- values
 
-and_too : (a b : Bool) → IsTrue a → IsTrue b → IsTrue (a && b)
-and_too true b h k = k
-and_too false b h k = absurd (true≢false (sym h))
-
 itself : (kind : Kind) → IsTrue (same_kind kind kind)
 itself Int = refl
 itself Truth = refl
@@ -103,7 +99,7 @@ variant_good : (enums : List EnumType) (kind : ℕ) (word : List ℕ) (found : V
     option_map (value.Variant kind) (variant_written (slice_get enums kind) word) ≡ Some found → IsTrue (is_value_of enums (Enum kind) found)
 variant_good enums kind word found h = go (slice_get enums kind) refl h
   where
-    there : (enum : EnumType) → slice_get enums kind ≡ Some enum → (place : Option ℕ) → variant_written (Some enum) word ≡ place → option_map (value.Variant kind) place ≡ Some found →
+    there : (enum : EnumType) → slice_get enums kind ≡ Some enum → (position : Option ℕ) → variant_written (Some enum) word ≡ position → option_map (value.Variant kind) position ≡ Some found →
         IsTrue (is_value_of enums (Enum kind) found)
     there enum is None at h = absurd (none-some found h)
     there enum is (Some number) at h =

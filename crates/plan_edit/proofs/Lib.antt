@@ -12,6 +12,7 @@ mod Migrations
 mod WrittenForms
 mod Variants
 mod Rounds
-mod Places
-mod Anew
+mod Positions
+mod EachChanged
+mod InTurn
 mod Loads

@@ -7,33 +7,21 @@ use Rattle.aerie_base.specs.declared.plans.Anchor.{Anchor}
 use Rattle.aerie_base.specs.declared.plans.Directive.{Directive}
 use Rattle.aerie_base.specs.declared.plans.Plan.{Plan}
 use Rattle.aerie_base.specs.models.ValidModel.{valid_model}
-use Rattle.aerie_base.specs.plans.OfModel.{directive_limit, rise_to, ids_of, takes, anchored_to, is_there, is_directive_of, IsPlanOf, Rise}
-use Rattle.plan_merge.proofs.Renames.{both}
+use Rattle.aerie_base.specs.plans.OfModel.{directive_limit, rise_to, ids_of, takes, anchored_to, is_there, is_directive_of, IsPlanOf, Rise, is_none_or, is_dangling}
+use Rattle.aerie_base.specs.plans.RisingIds.{and_too, both, or_first}
 use Rattle.plan_edit.specs.declared.errors.EditError.{EditError}
 use Rattle.plan_edit.specs.declared.errors.EditError.TheVariants.{Cycle}
 use Rattle.plan_edit.specs.declared.forms.WrittenDirective.{WrittenDirective}
-use Rattle.plan_edit.specs.Answers.{IsMade}
+use Rattle.plan_edit.specs.Answers.{IsMade, put_in_front}
 use Rattle.plan_edit.specs.Editing.{given_of, is_outside}
-use Rattle.plan_edit.specs.Loading.{place_of_id, is_past_room, is_tied, loaded_directive, load_placed, load_one, put_loaded, load_all, anchor_anew, directive_anew, has_cycle, unless_cycle, load_written, with_loaded}
+use Rattle.plan_edit.specs.Loading.{position_in_text, is_past_room, is_id_of_one, loaded_directive, load_placed, load_one, load_all, anchor_to_new_id, anchored_to_new_id, has_cycle, unless_cycle, load_written, with_loaded}
 use Rattle.plan_edit.proofs.Additions.{none_of_three, denied, neither, given_good}
-use Rattle.plan_edit.proofs.Changes.{and_too, ids_same}
+use Rattle.plan_edit.proofs.Changes.{ids_same}
 use Rattle.plan_edit.proofs.Fillings.{cut}
+pub use Rattle.plan_edit.proofs.InTurn.{joined_on, joined_none, joined_more}
 use Rattle.plan_edit.proofs.Given.{part_of}
-use Rattle.plan_edit.proofs.Places.{place_within}
+use Rattle.plan_edit.proofs.Positions.{position_within}
 use Rattle.plan_edit.proofs.Rounds.{no_cycle}
-
--- one behind another
-abbrev pub joined_loaded : List Directive → Result (List Directive) EditError → Result (List Directive) EditError
-joined_loaded all (Ok rest) = Ok (all ++ rest)
-joined_loaded all (Err refusal) = Err refusal
-
-pub joined_none_loaded : (rest : Result (List Directive) EditError) → rest ≡ joined_loaded [] rest
-joined_none_loaded (Ok rest) = refl
-joined_none_loaded (Err refusal) = refl
-
-joined_more_loaded : (all : List Directive) (one : Directive) (rest : Result (List Directive) EditError) → joined_loaded all (put_loaded (Ok one) rest) ≡ joined_loaded (all ++ one ∷ []) rest
-joined_more_loaded all one (Ok rest) = ap Ok (sym (append_assoc all (one ∷ []) rest))
-joined_more_loaded all one (Err refusal) = refl
 
 longer_by_one : (all : List Directive) (one : Directive) → length all + 1 ≡ length (all ++ one ∷ [])
 longer_by_one [] one = refl
@@ -43,19 +31,19 @@ module _ (model : Parts) (plan : Plan) (all : List WrittenDirective) where
   -- a directive more, with the number of those before it
   pub one_loaded_on : (directives : List Directive) (some : List WrittenDirective) (at : ℕ) (written : WrittenDirective) (made : Directive) → at < length some → written ≡ get_or some at written →
       load_one model plan all (length directives) written ≡ Ok made →
-      joined_loaded directives (load_all model plan all (length directives) (drop at some))
-      ≡ joined_loaded (directives ++ made ∷ []) (load_all model plan all (length (directives ++ made ∷ [])) (drop (at + 1) some))
+      joined_on directives (load_all model plan all (length directives) (drop at some))
+      ≡ joined_on (directives ++ made ∷ []) (load_all model plan all (length (directives ++ made ∷ [])) (drop (at + 1) some))
   one_loaded_on directives some at written made within is h =
-      ap (λ (left : List WrittenDirective). joined_loaded directives (load_all model plan all (length directives) left)) (cut some at written within is)
-      ∙ ap (λ (m : Result Directive EditError). joined_loaded directives (put_loaded m (load_all model plan all (length directives + 1) (drop (at + 1) some)))) h
-      ∙ joined_more_loaded directives made (load_all model plan all (length directives + 1) (drop (at + 1) some))
-      ∙ ap (λ (n : ℕ). joined_loaded (directives ++ made ∷ []) (load_all model plan all n (drop (at + 1) some))) (longer_by_one directives made)
+      ap (λ (left : List WrittenDirective). joined_on directives (load_all model plan all (length directives) left)) (cut some at written within is)
+      ∙ ap (λ (m : Result Directive EditError). joined_on directives (put_in_front m (load_all model plan all (length directives + 1) (drop (at + 1) some)))) h
+      ∙ joined_more directives made (load_all model plan all (length directives + 1) (drop (at + 1) some))
+      ∙ ap (λ (n : ℕ). joined_on (directives ++ made ∷ []) (load_all model plan all n (drop (at + 1) some))) (longer_by_one directives made)
 
   pub load_stops : (directives : List Directive) (some : List WrittenDirective) (at : ℕ) (written : WrittenDirective) (refusal : EditError) → at < length some → written ≡ get_or some at written →
-      load_one model plan all (length directives) written ≡ Err refusal → joined_loaded directives (load_all model plan all (length directives) (drop at some)) ≡ Err refusal
+      load_one model plan all (length directives) written ≡ Err refusal → joined_on directives (load_all model plan all (length directives) (drop at some)) ≡ Err refusal
   load_stops directives some at written refusal within is h =
-      ap (λ (left : List WrittenDirective). joined_loaded directives (load_all model plan all (length directives) left)) (cut some at written within is)
-      ∙ ap (λ (m : Result Directive EditError). joined_loaded directives (put_loaded m (load_all model plan all (length directives + 1) (drop (at + 1) some)))) h
+      ap (λ (left : List WrittenDirective). joined_on directives (load_all model plan all (length directives) left)) (cut some at written within is)
+      ∙ ap (λ (m : Result Directive EditError). joined_on directives (put_in_front m (load_all model plan all (length directives + 1) (drop (at + 1) some)))) h
 
 kept : (tied : Bool) → not tied ≡ false → tied ≡ true
 kept = denied
@@ -64,7 +52,7 @@ module _ (model : Parts) (valid : IsTrue (valid_model model)) (plan : Plan) (all
   -- what is known of a directive as it is loaded
   abbrev good_so_far : Directive → Bool
   good_so_far directive =
-      takes model.enums (slice_get model.activities directive.kind) directive.arguments && nat_lt directive.start plan.duration && is_tied all directive.anchor
+      takes model.enums (slice_get model.activities directive.kind) directive.arguments && nat_lt directive.start plan.duration && is_none_or (is_id_of_one all) (anchored_to directive)
 
   record IsLoaded (number : ℕ) (directive : Directive) : Type 0 where
     id : directive.id ≡ plan.next_id + number
@@ -75,15 +63,15 @@ module _ (model : Parts) (valid : IsTrue (valid_model model)) (plan : Plan) (all
   one_loaded : (number : ℕ) (written : WrittenDirective) (directive : Directive) → load_one model plan all number written ≡ Ok directive → IsLoaded number directive
   one_loaded number written directive h =
       let part = part_of (load_placed plan all written number) (given_of model written.kind written.arguments) directive h in
-      let none = none_of_three (is_outside plan written.start) (is_past_room plan number) (not (is_tied all written.anchor)) _ _ _ (Ok (loaded_directive plan written number part.0)) directive part.1.1 in
+      let none = none_of_three (is_outside plan written.start) (is_past_room plan number) (is_dangling (is_id_of_one all) written.anchor) _ _ _ (Ok (loaded_directive plan written number part.0)) directive part.1.1 in
       let room = neither (nat_lt number directive_limit) (nat_lt (plan.next_id + number) 4_294_967_295) none.1.0 in
       let same : loaded_directive plan written number part.0 ≡ directive = cc none.1.1.1 in
       subst (IsLoaded number) same (record {
         id = refl;
-        good = and_too (takes model.enums (slice_get model.activities part.0.kind) part.0.arguments && nat_lt written.start plan.duration) (is_tied all written.anchor)
+        good = and_too (takes model.enums (slice_get model.activities part.0.kind) part.0.arguments && nat_lt written.start plan.duration) (is_none_or (is_id_of_one all) (option_map (λ anchor. anchor.to) written.anchor))
             (and_too (takes model.enums (slice_get model.activities part.0.kind) part.0.arguments) (nat_lt written.start plan.duration)
             (given_good model valid written.kind written.arguments part.0 part.1.0) (denied (nat_lt written.start plan.duration) none.0))
-            (kept (is_tied all written.anchor) none.1.1.0);
+            (kept (is_none_or (is_id_of_one all) (option_map (λ anchor. anchor.to) written.anchor)) none.1.1.0);
         room = ltb-true number directive_limit room.0;
         next = ltb-true (plan.next_id + number) 4_294_967_295 room.1;
       })
@@ -94,15 +82,11 @@ module _ (model : Parts) (valid : IsTrue (valid_model model)) (plan : Plan) (all
     pub room : 0 < length directives → number + length directives ≤ directive_limit
     pub next : 0 < length directives → plan.next_id + (number + length directives) ≤ 4_294_967_295
     pub rise : (before : ℕ) → before < plan.next_id + number → IsTrue (rise_to (plan.next_id + (number + length directives)) before (ids_of directives))
-    pub there : (place : ℕ) → place < length directives → list_any (nat_eq (plan.next_id + (number + place))) (ids_of directives) ≡ true
+    pub there : (position : ℕ) → position < length directives → list_any (nat_eq (plan.next_id + (number + position))) (ids_of directives) ≡ true
 
   or_last : (a b : Bool) → b ≡ true → (a || b) ≡ true
   or_last true b h = refl
   or_last false b h = h
-
-  or_first : (a b : Bool) → a ≡ true → (a || b) ≡ true
-  or_first true b h = refl
-  or_first false b h = absurd (true≢false (sym h))
 
   no_more : (number : ℕ) → AreLoaded number []
   no_more number = record {
@@ -110,7 +94,7 @@ module _ (model : Parts) (valid : IsTrue (valid_model model)) (plan : Plan) (all
     room = λ some. absurd (omega (arith, some));
     next = λ some. absurd (omega (arith, some));
     rise = λ before less. lt-ltb before (plan.next_id + (number + 0)) (omega (arith, less));
-    there = λ place less. absurd (omega (arith, less));
+    there = λ position less. absurd (omega (arith, less));
   }
 
   one_more : (number : ℕ) (first : Directive) (rest : List Directive) → IsLoaded number first → AreLoaded (number + 1) rest → AreLoaded number (first ∷ rest)
@@ -141,15 +125,15 @@ module _ (model : Parts) (valid : IsTrue (valid_model model)) (plan : Plan) (all
       at_first : (next number id : ℕ) → id ≡ next + number → next + (number + 0) ≡ id
       at_first next number id is = omega (arith, is)
 
-      further : (next number place : ℕ) → next + (number + suc place) ≡ next + (number + 1 + place)
-      further next number place = omega arith
+      further : (next number position : ℕ) → next + (number + suc position) ≡ next + (number + 1 + position)
+      further next number position = omega arith
 
-      found : (place : ℕ) → place < suc (length rest) → (nat_eq (plan.next_id + (number + place)) first.id || list_any (nat_eq (plan.next_id + (number + place))) (ids_of rest)) ≡ true
+      found : (position : ℕ) → position < suc (length rest) → (nat_eq (plan.next_id + (number + position)) first.id || list_any (nat_eq (plan.next_id + (number + position))) (ids_of rest)) ≡ true
       found zero less =
           or_first (nat_eq (plan.next_id + (number + 0)) first.id) (list_any (nat_eq (plan.next_id + (number + 0))) (ids_of rest)) (eq-eqb (plan.next_id + (number + 0)) first.id (at_first plan.next_id number first.id one.id))
-      found (suc place) less =
-          or_last (nat_eq (plan.next_id + (number + suc place)) first.id) (list_any (nat_eq (plan.next_id + (number + suc place))) (ids_of rest))
-          (ap (λ (n : ℕ). list_any (nat_eq n) (ids_of rest)) (further plan.next_id number place) ∙ others.there place (omega (arith, less)))
+      found (suc position) less =
+          or_last (nat_eq (plan.next_id + (number + suc position)) first.id) (list_any (nat_eq (plan.next_id + (number + suc position))) (ids_of rest))
+          (ap (λ (n : ℕ). list_any (nat_eq n) (ids_of rest)) (further plan.next_id number position) ∙ others.there position (omega (arith, less)))
 
   pub all_loaded : (number : ℕ) (written : List WrittenDirective) (directives : List Directive) → load_all model plan all number written ≡ Ok directives → AreLoaded number directives × (length directives ≡ length written)
   all_loaded number [] directives h =
@@ -160,7 +144,7 @@ module _ (model : Parts) (valid : IsTrue (valid_model model)) (plan : Plan) (all
     where
       go : (one : Result Directive EditError) → load_one model plan all number first ≡ one → (others : Result (List Directive) EditError) → load_all model plan all (number + 1) rest ≡ others →
           ((ds : List Directive) → load_all model plan all (number + 1) rest ≡ Ok ds → AreLoaded (number + 1) ds × (length ds ≡ length rest)) →
-          put_loaded one others ≡ Ok directives → AreLoaded number directives × (length directives ≡ suc (length rest))
+          put_in_front one others ≡ Ok directives → AreLoaded number directives × (length directives ≡ suc (length rest))
       go (Err refusal) e others f more h = absurd (cc)
       go (Ok made) e (Err refusal) f more h = absurd (cc)
       go (Ok made) e (Ok last) f more h =
@@ -171,18 +155,18 @@ module _ (model : Parts) (valid : IsTrue (valid_model model)) (plan : Plan) (all
 
   -- ---- anchors to the new ids
 
-  length_same : (directives : List Directive) → length (map (directive_anew plan.next_id all) directives) ≡ length directives
+  length_same : (directives : List Directive) → length (map (anchored_to_new_id plan.next_id all) directives) ≡ length directives
   length_same [] = refl
   length_same (first ∷ rest) = ap suc (length_same rest)
 
-  tied_there : (directives : List Directive) → ((place : ℕ) → place < length all → list_any (nat_eq (plan.next_id + place)) (ids_of directives) ≡ true) → (anchor : Option Anchor) → IsTrue (is_tied all anchor) →
-      IsTrue (is_there directives (option_map (λ anchor. anchor.to) (option_map (anchor_anew plan.next_id all) anchor)))
+  tied_there : (directives : List Directive) → ((position : ℕ) → position < length all → list_any (nat_eq (plan.next_id + position)) (ids_of directives) ≡ true) → (anchor : Option Anchor) → IsTrue (is_none_or (is_id_of_one all) (option_map (λ anchor. anchor.to) anchor)) →
+      IsTrue (is_there directives (option_map (λ anchor. anchor.to) (option_map (anchor_to_new_id plan.next_id all) anchor)))
   tied_there directives there None tied = refl
-  tied_there directives there (Some anchor) tied = go (place_of_id all anchor.to) refl tied
+  tied_there directives there (Some anchor) tied = go (position_in_text all anchor.to) refl tied
     where
-      go : (place : Option ℕ) → place_of_id all anchor.to ≡ place → is_some place ≡ true → list_any (nat_eq (plan.next_id + unwrap_or place 0)) (ids_of directives) ≡ true
+      go : (position : Option ℕ) → position_in_text all anchor.to ≡ position → is_some position ≡ true → list_any (nat_eq (plan.next_id + unwrap_or position 0)) (ids_of directives) ≡ true
       go None is some = absurd (true≢false (sym some))
-      go (Some place) is some = there place (place_within all anchor.to place is)
+      go (Some position) is some = there position (position_within all anchor.to position is)
 
   few : (count : ℕ) → (0 < count → 0 + count ≤ directive_limit) → count ≤ directive_limit
   few zero h = omega arith
@@ -197,24 +181,24 @@ module _ (model : Parts) (valid : IsTrue (valid_model model)) (plan : Plan) (all
         let sum = are.0.next some in
         omega (arith, sum, are.1)
 
-    pub as_few : length (map (directive_anew plan.next_id all) directives) < 2 ^ 32
+    pub as_few : length (map (anchored_to_new_id plan.next_id all) directives) < 2 ^ 32
     as_few =
         let are = all_loaded 0 all directives loaded in
         let count = few (length directives) are.0.room in
         omega (arith, count, length_same directives)
 
-    pub anew_rise : 1 ≤ plan.next_id → Rise (map (directive_anew plan.next_id all) directives)
-    anew_rise some =
+    pub new_ids_rise : 1 ≤ plan.next_id → Rise (map (anchored_to_new_id plan.next_id all) directives)
+    new_ids_rise some =
         let are = all_loaded 0 all directives loaded in
-        let ids = ids_same (directive_anew plan.next_id all) (λ d. refl) directives in
+        let ids = ids_same (anchored_to_new_id plan.next_id all) (λ d. refl) directives in
         (plan.next_id + (0 + length directives), subst (λ (is : List ℕ). IsTrue (rise_to (plan.next_id + (0 + length directives)) 0 is)) (sym ids) (are.0.rise 0 (omega (arith, some))))
 
-  module _ (of : IsPlanOf model plan) (directives : List Directive) (loaded : load_all model plan all 0 all ≡ Ok directives) (none : has_cycle (map (directive_anew plan.next_id all) directives) ≡ false) where
-    abbrev anew : List Directive
-    anew = map (directive_anew plan.next_id all) directives
+  module _ (of : IsPlanOf model plan) (directives : List Directive) (loaded : load_all model plan all 0 all ≡ Ok directives) (none : has_cycle (map (anchored_to_new_id plan.next_id all) directives) ≡ false) where
+    abbrev anchored : List Directive
+    anchored = map (anchored_to_new_id plan.next_id all) directives
 
-    ids : ids_of (map (directive_anew plan.next_id all) directives) ≡ ids_of directives
-    ids = ids_same (directive_anew plan.next_id all) (λ d. refl) directives
+    ids : ids_of (map (anchored_to_new_id plan.next_id all) directives) ≡ ids_of directives
+    ids = ids_same (anchored_to_new_id plan.next_id all) (λ d. refl) directives
 
     are : AreLoaded 0 directives
     are = (all_loaded 0 all directives loaded).0
@@ -222,36 +206,36 @@ module _ (model : Parts) (valid : IsTrue (valid_model model)) (plan : Plan) (all
     count : length directives ≡ length all
     count = (all_loaded 0 all directives loaded).1
 
-    there : (place : ℕ) → place < length all → list_any (nat_eq (plan.next_id + place)) (ids_of (map (directive_anew plan.next_id all) directives)) ≡ true
-    there place less =
-        ap (list_any (nat_eq (plan.next_id + place))) ids ∙ ap (λ (n : ℕ). list_any (nat_eq n) (ids_of directives)) (at plan.next_id place)
-        ∙ are.there place (omega (arith, less, count))
+    there : (position : ℕ) → position < length all → list_any (nat_eq (plan.next_id + position)) (ids_of (map (anchored_to_new_id plan.next_id all) directives)) ≡ true
+    there position less =
+        ap (list_any (nat_eq (plan.next_id + position))) ids ∙ ap (λ (n : ℕ). list_any (nat_eq n) (ids_of directives)) (at plan.next_id position)
+        ∙ are.there position (omega (arith, less, count))
       where
-        at : (next place : ℕ) → next + place ≡ next + (0 + place)
-        at next place = omega arith
+        at : (next position : ℕ) → next + position ≡ next + (0 + position)
+        at next position = omega arith
 
-    all_good : (some : List Directive) → IsTrue (list_all good_so_far some) → IsTrue (list_all (is_directive_of model (with_loaded plan (map (directive_anew plan.next_id all) directives))) (map (directive_anew plan.next_id all) some))
+    all_good : (some : List Directive) → IsTrue (list_all good_so_far some) → IsTrue (list_all (is_directive_of model (with_loaded plan (map (anchored_to_new_id plan.next_id all) directives))) (map (anchored_to_new_id plan.next_id all) some))
     all_good [] good = refl
     all_good (first ∷ rest) good =
         let parts = both (good_so_far first) (list_all good_so_far rest) good in
-        let own = both (takes model.enums (slice_get model.activities first.kind) first.arguments && nat_lt first.start plan.duration) (is_tied all first.anchor) parts.0 in
-        and_too (is_directive_of model (with_loaded plan (map (directive_anew plan.next_id all) directives)) (directive_anew plan.next_id all first))
-        (list_all (is_directive_of model (with_loaded plan (map (directive_anew plan.next_id all) directives))) (map (directive_anew plan.next_id all) rest))
+        let own = both (takes model.enums (slice_get model.activities first.kind) first.arguments && nat_lt first.start plan.duration) (is_none_or (is_id_of_one all) (anchored_to first)) parts.0 in
+        and_too (is_directive_of model (with_loaded plan (map (anchored_to_new_id plan.next_id all) directives)) (anchored_to_new_id plan.next_id all first))
+        (list_all (is_directive_of model (with_loaded plan (map (anchored_to_new_id plan.next_id all) directives))) (map (anchored_to_new_id plan.next_id all) rest))
         (and_too (takes model.enums (slice_get model.activities first.kind) first.arguments && nat_lt first.start plan.duration)
-        (is_there (map (directive_anew plan.next_id all) directives) (anchored_to (directive_anew plan.next_id all first))) own.0
-        (tied_there (map (directive_anew plan.next_id all) directives) there first.anchor own.1))
+        (is_there (map (anchored_to_new_id plan.next_id all) directives) (anchored_to (anchored_to_new_id plan.next_id all first))) own.0
+        (tied_there (map (anchored_to_new_id plan.next_id all) directives) there first.anchor own.1))
         (all_good rest parts.1)
 
-    pub loaded_plan : IsPlanOf model (with_loaded plan (map (directive_anew plan.next_id all) directives))
+    pub loaded_plan : IsPlanOf model (with_loaded plan (map (anchored_to_new_id plan.next_id all) directives))
     loaded_plan = record {
       duration = of.duration;
       count = let few_are = few (length directives) are.room in omega (arith, few_are, length_same directives);
       next_id = omega (arith, of.next_id);
-      ids = subst (λ (is : List ℕ). IsTrue (rise_to (plan.next_id + length (map (directive_anew plan.next_id all) directives)) 0 is)) (sym ids)
-          (subst (λ (n : ℕ). IsTrue (rise_to n 0 (ids_of directives))) (end plan.next_id (length directives) (length (map (directive_anew plan.next_id all) directives)) (length_same directives))
+      ids = subst (λ (is : List ℕ). IsTrue (rise_to (plan.next_id + length (map (anchored_to_new_id plan.next_id all) directives)) 0 is)) (sym ids)
+          (subst (λ (n : ℕ). IsTrue (rise_to n 0 (ids_of directives))) (end plan.next_id (length directives) (length (map (anchored_to_new_id plan.next_id all) directives)) (length_same directives))
           (are.rise 0 (omega (arith, of.next_id))));
       directives = all_good directives are.good;
-      anchors = no_cycle (map (directive_anew plan.next_id all) directives) none;
+      anchors = no_cycle (map (anchored_to_new_id plan.next_id all) directives) none;
     }
       where
         end : (next count same : ℕ) → same ≡ count → next + (0 + count) ≡ next + same
@@ -266,16 +250,16 @@ module _ (model : Parts) (valid : IsTrue (valid_model model)) (plan : Plan) (all
   module _ (of : IsPlanOf model plan) (made : List Directive) (loaded : load_written model plan all ≡ Ok made) where
     pub written_plan : IsPlanOf model (with_loaded plan made)
     written_plan =
-        let part = part_of (λ directives. unless_cycle (map (directive_anew plan.next_id all) directives)) (load_all model plan all 0 all) made loaded in
-        let anew = unless_none (has_cycle (map (directive_anew plan.next_id all) part.0)) (map (directive_anew plan.next_id all) part.0) made part.1.1 in
-        subst (λ (ds : List Directive). IsPlanOf model (with_loaded plan ds)) anew.1 (loaded_plan of part.0 part.1.0 anew.0)
+        let part = part_of (λ directives. unless_cycle (map (anchored_to_new_id plan.next_id all) directives)) (load_all model plan all 0 all) made loaded in
+        let anchored = unless_none (has_cycle (map (anchored_to_new_id plan.next_id all) part.0)) (map (anchored_to_new_id plan.next_id all) part.0) made part.1.1 in
+        subst (λ (ds : List Directive). IsPlanOf model (with_loaded plan ds)) anchored.1 (loaded_plan of part.0 part.1.0 anchored.0)
 
     pub written_fit : 0 < length made → plan.next_id + length made ≤ 4_294_967_295
     written_fit some =
-        let part = part_of (λ directives. unless_cycle (map (directive_anew plan.next_id all) directives)) (load_all model plan all 0 all) made loaded in
-        let anew = unless_none (has_cycle (map (directive_anew plan.next_id all) part.0)) (map (directive_anew plan.next_id all) part.0) made part.1.1 in
+        let part = part_of (λ directives. unless_cycle (map (anchored_to_new_id plan.next_id all) directives)) (load_all model plan all 0 all) made loaded in
+        let anchored = unless_none (has_cycle (map (anchored_to_new_id plan.next_id all) part.0)) (map (anchored_to_new_id plan.next_id all) part.0) made part.1.1 in
         let are = all_loaded 0 all part.0 part.1.0 in
-        let same = ap length anew.1 in
+        let same = ap length anchored.1 in
         let many = length_same part.0 in
         let sum = are.0.next (omega (arith, some, same, many)) in
         omega (arith, sum, same, many)

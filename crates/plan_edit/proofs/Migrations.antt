@@ -18,33 +18,23 @@ use Rattle.aerie_base.specs.models.Names.{same_name}
 use Rattle.aerie_base.specs.models.Signatures.{parameter_kinds}
 use Rattle.aerie_base.specs.models.Values.{is_value_of, variant_count, variants_of}
 use Rattle.aerie_base.specs.plans.OfModel.{are_values_of, takes, anchored_to, is_there, is_directive_of, IsPlanOf}
-use Rattle.plan_merge.proofs.Renames.{both}
+use Rattle.aerie_base.specs.plans.RisingIds.{and_too, both}
+use Rattle.std.proofs.lemmas.List.{length-map}
 use Rattle.plan_edit.specs.declared.errors.MigrateError.{MigrateError}
 use Rattle.plan_edit.specs.declared.mappings.Feed.{Feed}
 use Rattle.plan_edit.specs.declared.mappings.Feed.TheVariants.{Old, Fixed}
 use Rattle.plan_edit.specs.declared.mappings.TypeRule.{TypeRule}
 use Rattle.plan_edit.specs.declared.mappings.Mapping.{Mapping}
 use Rattle.plan_edit.specs.Mappings.{same_variants, may_feed, feeds_from, is_feed, are_feeds, is_rule_for, is_type_rule, IsMappingOf}
-use Rattle.plan_edit.specs.Migrating.{retyped, fed, all_fed, rule_of, retyped_directive, unless_misfit, requires_of, parameter_kinds_of, ruled, by_rule, migrated, one_more_migrated, all_migrated, with_migrated, migrate_of, is_feed_within}
-use Rattle.plan_merge.proofs.Steps.{length_map}
+use Rattle.plan_edit.specs.Migrating.{retyped, mapped_argument, mapped_arguments, rule_of, retyped_directive, unless_misfit, requires_of, parameter_kinds_of, ruled, by_rule, migrated, all_migrated, with_migrated, migrate_of, is_feed_within}
+use Rattle.plan_edit.specs.Answers.{put_in_front}
 use Rattle.plan_edit.specs.Requires.{first_unmet}
-use Rattle.plan_edit.proofs.Changes.{and_too, changed_plan, leads_same}
+use Rattle.plan_edit.proofs.Changes.{changed_plan, leads_same}
 use Rattle.plan_edit.proofs.Fillings.{cut}
+pub use Rattle.plan_edit.proofs.InTurn.{joined_on, joined_none, joined_more}
 use Rattle.plan_edit.proofs.Trails.{acyclic_still}
 
 -- ---- one behind another
-
-abbrev pub joined_on : List Directive → Result (List Directive) MigrateError → Result (List Directive) MigrateError
-joined_on all (Ok rest) = Ok (all ++ rest)
-joined_on all (Err refusal) = Err refusal
-
-pub joined_none : (rest : Result (List Directive) MigrateError) → rest ≡ joined_on [] rest
-joined_none (Ok rest) = refl
-joined_none (Err refusal) = refl
-
-joined_more : (all : List Directive) (one : Directive) (rest : Result (List Directive) MigrateError) → joined_on all (one_more_migrated (Ok one) rest) ≡ joined_on (all ++ one ∷ []) rest
-joined_more all one (Ok rest) = ap Ok (sym (append_assoc all (one ∷ []) rest))
-joined_more all one (Err refusal) = refl
 
 module _ (new : Parts) (mapping : Mapping) where
   pub one_on : (all : List Directive) (directives : List Directive) (at : ℕ) (directive made : Directive) → at < length directives → directive ≡ get_or directives at directive →
@@ -52,14 +42,14 @@ module _ (new : Parts) (mapping : Mapping) where
       joined_on all (all_migrated new mapping (drop at directives)) ≡ joined_on (all ++ made ∷ []) (all_migrated new mapping (drop (at + 1) directives))
   one_on all directives at directive made within is h =
       ap (λ (left : List Directive). joined_on all (all_migrated new mapping left)) (cut directives at directive within is)
-      ∙ ap (λ (m : Result Directive MigrateError). joined_on all (one_more_migrated m (all_migrated new mapping (drop (at + 1) directives)))) h
+      ∙ ap (λ (m : Result Directive MigrateError). joined_on all (put_in_front m (all_migrated new mapping (drop (at + 1) directives)))) h
       ∙ joined_more all made (all_migrated new mapping (drop (at + 1) directives))
 
   pub stops_here : (all : List Directive) (directives : List Directive) (at : ℕ) (directive : Directive) (refusal : MigrateError) → at < length directives → directive ≡ get_or directives at directive →
       migrated new mapping directive ≡ Err refusal → joined_on all (all_migrated new mapping (drop at directives)) ≡ Err refusal
   stops_here all directives at directive refusal within is h =
       ap (λ (left : List Directive). joined_on all (all_migrated new mapping left)) (cut directives at directive within is)
-      ∙ ap (λ (m : Result Directive MigrateError). joined_on all (one_more_migrated m (all_migrated new mapping (drop (at + 1) directives)))) h
+      ∙ ap (λ (m : Result Directive MigrateError). joined_on all (put_in_front m (all_migrated new mapping (drop (at + 1) directives)))) h
 
 -- ---- the rule for a type
 
@@ -94,64 +84,64 @@ module _ (old new : List EnumType) where
   wrong false b e h = absurd (true≢false (sym h))
 
   -- a value of the one type is a value of the other
-  fed_good : (from to : Kind) (value : Value) → IsTrue (may_feed old new from to) → IsTrue (is_value_of old from value) → IsTrue (is_value_of new to (retyped to value))
-  fed_good kind.Int kind.Int (Int number) may good = good
-  fed_good kind.Int kind.Int (Truth truth) may good = absurd (true≢false (sym good))
-  fed_good kind.Int kind.Int (Variant of number) may good = absurd (true≢false (sym good))
-  fed_good kind.Int kind.Truth value may good = absurd (true≢false (sym may))
-  fed_good kind.Int (kind.Enum to) value may good = absurd (true≢false (sym may))
-  fed_good kind.Truth kind.Int value may good = absurd (true≢false (sym may))
-  fed_good kind.Truth kind.Truth (Int number) may good = absurd (true≢false (sym good))
-  fed_good kind.Truth kind.Truth (Truth truth) may good = refl
-  fed_good kind.Truth kind.Truth (Variant of number) may good = absurd (true≢false (sym good))
-  fed_good kind.Truth (kind.Enum to) value may good = absurd (true≢false (sym may))
-  fed_good (kind.Enum from) kind.Int value may good = absurd (true≢false (sym may))
-  fed_good (kind.Enum from) kind.Truth value may good = absurd (true≢false (sym may))
-  fed_good (kind.Enum from) (kind.Enum to) (Int number) may good = absurd (true≢false (sym good))
-  fed_good (kind.Enum from) (kind.Enum to) (Truth truth) may good = absurd (true≢false (sym good))
-  fed_good (kind.Enum from) (kind.Enum to) (Variant of number) may good =
+  feed_value_good : (from to : Kind) (value : Value) → IsTrue (may_feed old new from to) → IsTrue (is_value_of old from value) → IsTrue (is_value_of new to (retyped to value))
+  feed_value_good kind.Int kind.Int (Int number) may good = good
+  feed_value_good kind.Int kind.Int (Truth truth) may good = absurd (true≢false (sym good))
+  feed_value_good kind.Int kind.Int (Variant of number) may good = absurd (true≢false (sym good))
+  feed_value_good kind.Int kind.Truth value may good = absurd (true≢false (sym may))
+  feed_value_good kind.Int (kind.Enum to) value may good = absurd (true≢false (sym may))
+  feed_value_good kind.Truth kind.Int value may good = absurd (true≢false (sym may))
+  feed_value_good kind.Truth kind.Truth (Int number) may good = absurd (true≢false (sym good))
+  feed_value_good kind.Truth kind.Truth (Truth truth) may good = refl
+  feed_value_good kind.Truth kind.Truth (Variant of number) may good = absurd (true≢false (sym good))
+  feed_value_good kind.Truth (kind.Enum to) value may good = absurd (true≢false (sym may))
+  feed_value_good (kind.Enum from) kind.Int value may good = absurd (true≢false (sym may))
+  feed_value_good (kind.Enum from) kind.Truth value may good = absurd (true≢false (sym may))
+  feed_value_good (kind.Enum from) (kind.Enum to) (Int number) may good = absurd (true≢false (sym good))
+  feed_value_good (kind.Enum from) (kind.Enum to) (Truth truth) may good = absurd (true≢false (sym good))
+  feed_value_good (kind.Enum from) (kind.Enum to) (Variant of number) may good =
       let parts = both (nat_eq of from) (nat_lt number (variant_count old of)) good in
       let same : variant_count old of ≡ variant_count new to = ap (variant_count old) (eqb-true of from parts.0) ∙ as_many_variants (slice_get old from) (slice_get new to) may in
       and_too (nat_eq to to) (nat_lt number (variant_count new to)) (eq-eqb to to refl) (subst (λ (count : ℕ). IsTrue (nat_lt number count)) same parts.1)
 
-  -- the argument at the place of a parameter is of its type
-  value_at : (kinds : List Kind) (values : List Value) (place : ℕ) (kind : Kind) (other : Value) → IsTrue (are_values_of old kinds values) → slice_get kinds place ≡ Some kind →
-      IsTrue (is_value_of old kind (slice_index_or values place other)) × (place < length values)
-  value_at [] values place kind other good here = absurd (none-some kind here)
-  value_at (first ∷ kinds) [] place kind other good here = absurd (true≢false (sym good))
+  -- the argument at the position of a parameter is of its type
+  value_at : (kinds : List Kind) (values : List Value) (position : ℕ) (kind : Kind) (other : Value) → IsTrue (are_values_of old kinds values) → slice_get kinds position ≡ Some kind →
+      IsTrue (is_value_of old kind (slice_index_or values position other)) × (position < length values)
+  value_at [] values position kind other good here = absurd (none-some kind here)
+  value_at (first ∷ kinds) [] position kind other good here = absurd (true≢false (sym good))
   value_at (first ∷ kinds) (value ∷ values) zero kind other good here =
       let parts = both (is_value_of old first value) (are_values_of old kinds values) good in
       (subst (λ (k : Kind). IsTrue (is_value_of old k value)) (same_Some first kind here) parts.0, omega arith)
-  value_at (first ∷ kinds) (value ∷ values) (suc place) kind other good here =
+  value_at (first ∷ kinds) (value ∷ values) (suc position) kind other good here =
       let parts = both (is_value_of old first value) (are_values_of old kinds values) good in
-      let one = value_at kinds values place kind other parts.1 here in
+      let one = value_at kinds values position kind other parts.1 here in
       (one.0, omega (arith, one.1))
 
   module _ (from : List Kind) (arguments : List Value) (good : IsTrue (are_values_of old from arguments)) where
-    one_fed : (to : Kind) (feed : Feed) → IsTrue (is_feed old new from to feed) → IsTrue (is_value_of new to (fed arguments to feed)) × IsTrue (is_feed_within (length arguments) feed)
-    one_fed to (Fixed value) is = (is, refl)
-    one_fed to (Old place) is = go (slice_get from place) refl is
+    one_mapped : (to : Kind) (feed : Feed) → IsTrue (is_feed old new from to feed) → IsTrue (is_value_of new to (mapped_argument arguments to feed)) × IsTrue (is_feed_within (length arguments) feed)
+    one_mapped to (Fixed value) is = (is, refl)
+    one_mapped to (Old position) is = go (slice_get from position) refl is
       where
-        go : (found : Option Kind) → slice_get from place ≡ found → IsTrue (feeds_from old new found to) → IsTrue (is_value_of new to (fed arguments to (Old place))) × IsTrue (is_feed_within (length arguments) (Old place))
+        go : (found : Option Kind) → slice_get from position ≡ found → IsTrue (feeds_from old new found to) → IsTrue (is_value_of new to (mapped_argument arguments to (Old position))) × IsTrue (is_feed_within (length arguments) (Old position))
         go None here is = absurd (true≢false (sym is))
         go (Some kind) here is =
-            let one = value_at from arguments place kind (Int (pos 0)) good here in
-            (fed_good kind to (slice_index_or arguments place (Int (pos 0))) is one.0, lt-ltb place (length arguments) one.1)
+            let one = value_at from arguments position kind (Int (pos 0)) good here in
+            (feed_value_good kind to (slice_index_or arguments position (Int (pos 0))) is one.0, lt-ltb position (length arguments) one.1)
 
-    pub all_good : (to : List Kind) (feeds : List Feed) → IsTrue (are_feeds old new from to feeds) → IsTrue (are_values_of new to (all_fed arguments to feeds))
+    pub all_good : (to : List Kind) (feeds : List Feed) → IsTrue (are_feeds old new from to feeds) → IsTrue (are_values_of new to (mapped_arguments arguments to feeds))
     all_good [] [] are = refl
     all_good [] (feed ∷ feeds) are = refl
     all_good (kind ∷ kinds) [] are = absurd (true≢false (sym are))
     all_good (kind ∷ kinds) (feed ∷ feeds) are =
         let parts = both (is_feed old new from kind feed) (are_feeds old new from kinds feeds) are in
-        and_too (is_value_of new kind (fed arguments kind feed)) (are_values_of new kinds (all_fed arguments kinds feeds)) (one_fed kind feed parts.0).0 (all_good kinds feeds parts.1)
+        and_too (is_value_of new kind (mapped_argument arguments kind feed)) (are_values_of new kinds (mapped_arguments arguments kinds feeds)) (one_mapped kind feed parts.0).0 (all_good kinds feeds parts.1)
 
     pub all_within : (to : List Kind) (feeds : List Feed) → IsTrue (are_feeds old new from to feeds) → IsTrue (list_all (is_feed_within (length arguments)) feeds)
     all_within to [] are = refl
     all_within [] (feed ∷ feeds) are = absurd (true≢false (sym are))
     all_within (kind ∷ kinds) (feed ∷ feeds) are =
         let parts = both (is_feed old new from kind feed) (are_feeds old new from kinds feeds) are in
-        and_too (is_feed_within (length arguments) feed) (list_all (is_feed_within (length arguments)) feeds) (one_fed kind feed parts.0).1 (all_within kinds feeds parts.1)
+        and_too (is_feed_within (length arguments) feed) (list_all (is_feed_within (length arguments)) feeds) (one_mapped kind feed parts.0).1 (all_within kinds feeds parts.1)
 
   pub as_many_feeds : (from to : List Kind) (feeds : List Feed) → IsTrue (are_feeds old new from to feeds) → length feeds ≡ length to
   as_many_feeds from [] [] are = refl
@@ -180,14 +170,14 @@ are_ruled old new rule arguments is good = go (slice_get old.activities rule.old
 pub record IsReady (new : Parts) (rule : TypeRule) (arguments : List Value) (activity : Activity) : Type 0 where
   pub count : length rule.feeds ≡ length activity.parameters
   pub within : IsTrue (list_all (is_feed_within (length arguments)) rule.feeds)
-  pub good : IsTrue (are_values_of new.enums (parameter_kinds activity) (all_fed arguments (parameter_kinds activity) rule.feeds))
+  pub good : IsTrue (are_values_of new.enums (parameter_kinds activity) (mapped_arguments arguments (parameter_kinds activity) rule.feeds))
 
 pub is_ready : (old new : Parts) (rule : TypeRule) (kind : ℕ) (arguments : List Value) (activity : Activity) → IsTrue (is_type_rule old new rule) → rule.old ≡ kind →
     IsTrue (takes old.enums (slice_get old.activities kind) arguments) → slice_get new.activities rule.new ≡ Some activity → IsReady new rule arguments activity
 is_ready old new rule kind arguments activity is of taken here =
     let all = are_ruled old new rule arguments is (subst (λ (k : ℕ). IsTrue (takes old.enums (slice_get old.activities k) arguments)) (sym of) taken) in
     subst (IsReady new rule arguments) (same_Some all.to activity (sym all.there ∙ here)) (record {
-      count = as_many_feeds old.enums new.enums (parameter_kinds all.from) (parameter_kinds all.to) rule.feeds all.feeds ∙ length_map (λ (parameter : Parameter). parameter.kind) all.to.parameters;
+      count = as_many_feeds old.enums new.enums (parameter_kinds all.from) (parameter_kinds all.to) rule.feeds all.feeds ∙ length-map all.to.parameters (λ (parameter : Parameter). parameter.kind);
       within = all_within old.enums new.enums (parameter_kinds all.from) arguments all.good (parameter_kinds all.to) rule.feeds all.feeds;
       good = all_good old.enums new.enums (parameter_kinds all.from) arguments all.good (parameter_kinds all.to) rule.feeds all.feeds;
     })
@@ -195,17 +185,17 @@ is_ready old new rule kind arguments activity is of taken here =
 -- the new type that was read
 pub ready_there : (old new : Parts) (rule : TypeRule) (kind : ℕ) (arguments : List Value) (items : List Activity) (at : ℕ) (activity : Activity) → IsTrue (is_type_rule old new rule) → rule.old ≡ kind →
     IsTrue (takes old.enums (slice_get old.activities kind) arguments) → items ≡ new.activities → at ≡ rule.new → activity ≡ get_or items at activity → slice_get new.activities rule.new ≡ Some activity
-ready_there old new rule kind arguments items at activity is of taken same place here =
+ready_there old new rule kind arguments items at activity is of taken same position here =
     let all = are_ruled old new rule arguments is (subst (λ (k : ℕ). IsTrue (takes old.enums (slice_get old.activities k) arguments)) (sym of) taken) in
-    all.there ∙ ap Some (sym (here ∙ ap (λ (xs : List Activity). get_or xs at activity) same ∙ ap (λ (n : ℕ). get_or new.activities n activity) place
+    all.there ∙ ap Some (sym (here ∙ ap (λ (xs : List Activity). get_or xs at activity) same ∙ ap (λ (n : ℕ). get_or new.activities n activity) position
     ∙ get_or_from_slice_get new.activities rule.new all.to activity all.there))
 
 -- what a rule makes, by the values that were made
 pub by_values : (new : Parts) (directive : Directive) (rule : TypeRule) (activity : Activity) (values : List Value) → slice_get new.activities rule.new ≡ Some activity →
-    values ≡ all_fed directive.arguments (parameter_kinds activity) rule.feeds →
+    values ≡ mapped_arguments directive.arguments (parameter_kinds activity) rule.feeds →
     by_rule new directive (Some rule) ≡ unless_misfit directive.id (first_unmet 0 values activity.requires_) (retyped_directive directive rule.new values)
 by_values new directive rule activity values here are =
-    ap (λ (found : Option Activity). ruled directive rule.new found (all_fed directive.arguments (parameter_kinds_of found) rule.feeds)) here
+    ap (λ (found : Option Activity). ruled directive rule.new found (mapped_arguments directive.arguments (parameter_kinds_of found) rule.feeds)) here
     ∙ ap (λ (vs : List Value). unless_misfit directive.id (first_unmet 0 vs activity.requires_) (retyped_directive directive rule.new vs)) (sym are)
 
 -- ---- what directives become
@@ -233,15 +223,15 @@ module _ (new : Parts) (mapping : Mapping) where
           × (((made_or directive (by_rule new directive rule)).start ≡ directive.start) × ((made_or directive (by_rule new directive rule)).anchor ≡ directive.anchor))
       go None = (refl, (refl, refl))
       go (Some rule) =
-          met rule.new (all_fed directive.arguments (parameter_kinds_of (slice_get new.activities rule.new)) rule.feeds)
-          (requires_of (slice_get new.activities rule.new) (all_fed directive.arguments (parameter_kinds_of (slice_get new.activities rule.new)) rule.feeds))
+          met rule.new (mapped_arguments directive.arguments (parameter_kinds_of (slice_get new.activities rule.new)) rule.feeds)
+          (requires_of (slice_get new.activities rule.new) (mapped_arguments directive.arguments (parameter_kinds_of (slice_get new.activities rule.new)) rule.feeds))
 
   all_become : (directives all : List Directive) → all_migrated new mapping directives ≡ Ok all → all ≡ map become directives
   all_become [] all h = cc
   all_become (first ∷ rest) all h = go (migrated new mapping first) (all_migrated new mapping rest) refl (all_become rest) h
     where
       go : (one : Result Directive MigrateError) (others : Result (List Directive) MigrateError) → all_migrated new mapping rest ≡ others →
-          ((more : List Directive) → all_migrated new mapping rest ≡ Ok more → more ≡ map become rest) → one_more_migrated one others ≡ Ok all → all ≡ made_or first one ∷ map become rest
+          ((more : List Directive) → all_migrated new mapping rest ≡ Ok more → more ≡ map become rest) → put_in_front one others ≡ Ok all → all ≡ made_or first one ∷ map become rest
       go (Err refusal) others is more h = absurd (cc)
       go (Ok made) (Err refusal) is more h = absurd (cc)
       go (Ok made) (Ok last) is more h =
@@ -255,7 +245,7 @@ module _ (new : Parts) (mapping : Mapping) where
     where
       go : (one : Result Directive MigrateError) → migrated new mapping first ≡ one → (others : Result (List Directive) MigrateError) → all_migrated new mapping rest ≡ others →
           ((more : List Directive) → all_migrated new mapping rest ≡ Ok more → (at : ℕ) (d : Directive) → slice_get rest at ≡ Some d → migrated new mapping d ≡ Ok (become d)) →
-          one_more_migrated one others ≡ Ok all → (at : ℕ) → slice_get (first ∷ rest) at ≡ Some directive → migrated new mapping directive ≡ Ok (become directive)
+          put_in_front one others ≡ Ok all → (at : ℕ) → slice_get (first ∷ rest) at ≡ Some directive → migrated new mapping directive ≡ Ok (become directive)
       go (Err refusal) e others is more h at here = absurd (cc)
       go (Ok made) e (Err refusal) is more h at here = absurd (cc)
       go (Ok made) e (Ok last) is more h zero here =
@@ -273,13 +263,13 @@ module _ (old new : Parts) (mapping : Mapping) (good : IsMappingOf old new mappi
           let one = rule_is old new mapping.rules directive.kind rule good is in
           let both_are = are_ruled old new rule directive.arguments one.0 (subst (λ (k : ℕ). IsTrue (takes old.enums (slice_get old.activities k) directive.arguments)) (sym one.1) taken) in
           subst (λ (d : Directive). IsTrue (takes new.enums (slice_get new.activities d.kind) d.arguments))
-          (met_so (requires_of (slice_get new.activities rule.new) (all_fed directive.arguments (parameter_kinds_of (slice_get new.activities rule.new)) rule.feeds)) h)
-          (subst (λ (found : Option Activity). IsTrue (takes new.enums found (all_fed directive.arguments (parameter_kinds_of found) rule.feeds))) (sym both_are.there)
+          (met_so (requires_of (slice_get new.activities rule.new) (mapped_arguments directive.arguments (parameter_kinds_of (slice_get new.activities rule.new)) rule.feeds)) h)
+          (subst (λ (found : Option Activity). IsTrue (takes new.enums found (mapped_arguments directive.arguments (parameter_kinds_of found) rule.feeds))) (sym both_are.there)
           (all_good old.enums new.enums (parameter_kinds both_are.from) directive.arguments both_are.good (parameter_kinds both_are.to) rule.feeds both_are.feeds))
         where
           met_so : (unmet : Option ℕ) →
-              unless_misfit directive.id unmet (retyped_directive directive rule.new (all_fed directive.arguments (parameter_kinds_of (slice_get new.activities rule.new)) rule.feeds)) ≡ Ok made →
-              retyped_directive directive rule.new (all_fed directive.arguments (parameter_kinds_of (slice_get new.activities rule.new)) rule.feeds) ≡ made
+              unless_misfit directive.id unmet (retyped_directive directive rule.new (mapped_arguments directive.arguments (parameter_kinds_of (slice_get new.activities rule.new)) rule.feeds)) ≡ Ok made →
+              retyped_directive directive rule.new (mapped_arguments directive.arguments (parameter_kinds_of (slice_get new.activities rule.new)) rule.feeds) ≡ made
           met_so None h = cc
           met_so (Some number) h = absurd (cc)
 

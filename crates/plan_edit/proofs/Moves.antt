@@ -6,16 +6,17 @@ use Rattle.aerie_base.specs.declared.plans.Anchor.{Anchor}
 use Rattle.aerie_base.specs.declared.plans.When.{When}
 use Rattle.aerie_base.specs.declared.plans.Directive.{Directive}
 use Rattle.aerie_base.specs.declared.plans.Plan.{Plan}
-use Rattle.aerie_base.specs.plans.OfModel.{takes, with_id, anchored_to, anchor_of, followed, is_there, is_directive_of, IsPlanOf, Rise}
-use Rattle.plan_merge.proofs.Doubled.{followed_on}
-use Rattle.plan_merge.proofs.Loops.{far_round}
-use Rattle.plan_merge.proofs.Renames.{both, id_found}
+use Rattle.aerie_base.specs.plans.OfModel.{takes, with_id, anchored_to, anchor_of, followed, is_there, is_directive_of, IsPlanOf, Rise, is_id_of, is_dangling}
+use Rattle.aerie_base.specs.plans.FollowedAnchors.{followed_on}
+use Rattle.aerie_base.specs.plans.FoundById.{id_found}
+use Rattle.aerie_base.specs.plans.RisingIds.{and_too, both}
+use Rattle.plan_merge.specs.CycleLaws.{far_round}
 use Rattle.plan_edit.specs.declared.errors.EditError.{EditError}
 use Rattle.plan_edit.specs.declared.errors.EditError.TheVariants.{OutsidePlan, NoAnchor, Cycle}
 use Rattle.plan_edit.specs.Answers.{unless_refused}
-use Rattle.plan_edit.specs.Editing.{on_next, reaches_within, leads_to, moved_directive, changed_where, with_changed, is_outside, is_loose, of_directive, move_of}
+use Rattle.plan_edit.specs.Editing.{on_next, reaches_within, leads_to, moved_directive, changed_where, with_changed, is_outside, of_directive, move_of}
 use Rattle.plan_edit.proofs.Additions.{denied, found_good}
-use Rattle.plan_edit.proofs.Changes.{found_changed, found_there, changed_so, one_changed, and_too}
+use Rattle.plan_edit.proofs.Changes.{found_changed, found_there, changed_so, one_changed}
 use Rattle.plan_edit.proofs.Trails.{IsAcyclic}
 
 -- ---- following anchors, as a test
@@ -155,8 +156,8 @@ module _ (directives : List Directive) (id : ℕ) (to : When) where
         whole some steps less = omega (arith, less)
 
         -- once round, from the moved one
-        turned : (some : ℕ) → some < suc steps → followed (map (changed_where id (moved_directive to)) directives) some from ≡ Some id → followed (map (changed_where id (moved_directive to)) directives) (suc steps) id ≡ Some id
-        turned some less there =
+        swapped : (some : ℕ) → some < suc steps → followed (map (changed_where id (moved_directive to)) directives) some from ≡ Some id → followed (map (changed_where id (moved_directive to)) directives) (suc steps) id ≡ Some id
+        swapped some less there =
             let behind : followed (map (changed_where id (moved_directive to)) directives) (suc (steps - some)) id ≡ Some from =
             sym (ap (option_and_then (followed (map (changed_where id (moved_directive to)) directives) (suc (steps - some)))) there)
             ∙ sym (followed_on (map (changed_where id (moved_directive to)) directives) some (suc (steps - some)) from)
@@ -166,7 +167,7 @@ module _ (directives : List Directive) (id : ℕ) (to : When) where
             ∙ ap (option_and_then (followed (map (changed_where id (moved_directive to)) directives) some)) behind ∙ there
 
         go : ((some : ℕ) × ((some < suc steps) × ((followed (map (changed_where id (moved_directive to)) directives) some from ≡ Some id) × (followed directives some from ≡ Some id)))) ⊎ (followed directives (suc steps) from ≡ Some from) → ⊥
-        go (inl passed) = no_round steps (turned passed.0 passed.1.0 passed.1.1.0)
+        go (inl passed) = no_round steps (swapped passed.0 passed.1.0 passed.1.1.0)
         go (inr same) = acyclic from steps same
 
 -- ---- what `move_to` does
@@ -176,7 +177,7 @@ apart_of plan id None h anchor is = absurd (none-some anchor is)
 apart_of plan id (Some own) h anchor is = subst (λ (a : Anchor). reaches_within plan.directives id (length plan.directives) a.to ≡ false) (same_Some own anchor is) h
 
 module _ (plan : Plan) (at id : ℕ) (to : When) (rise : Rise plan.directives) (within : at < length plan.directives) (same : slice_get plan.directives at ≡ with_id plan.directives id)
-    (inside : is_outside plan to.start ≡ false) (tied : is_loose plan to.anchor ≡ false) (open_ : leads_to plan id to.anchor ≡ false) (made : List Directive)
+    (inside : is_outside plan to.start ≡ false) (tied : is_dangling (is_id_of plan.directives) to.anchor ≡ false) (open_ : leads_to plan id to.anchor ≡ false) (made : List Directive)
     (is : (one : Directive) → slice_get plan.directives at ≡ Some one → made ≡ slice_set plan.directives at (moved_directive to one)) where
   changed_is : made ≡ map (changed_where id (moved_directive to)) plan.directives
   changed_is =
@@ -192,9 +193,9 @@ module _ (plan : Plan) (at id : ℕ) (to : When) (rise : Rise plan.directives) (
   pub moved_so : move_of plan id to ≡ Ok (record plan { directives = made })
   moved_so =
       let one = found_there plan.directives at id within same in
-      ap (of_directive (λ directive. unless_refused ((is_outside plan to.start, OutsidePlan) ∷ (is_loose plan to.anchor, NoAnchor) ∷ (leads_to plan id to.anchor, Cycle) ∷ [])
+      ap (of_directive (λ directive. unless_refused ((is_outside plan to.start, OutsidePlan) ∷ (is_dangling (is_id_of plan.directives) to.anchor, NoAnchor) ∷ (leads_to plan id to.anchor, Cycle) ∷ [])
       (Ok (with_changed plan id (moved_directive to))))) one.1.1
-      ∙ none_applies (is_outside plan to.start) (is_loose plan to.anchor) (leads_to plan id to.anchor) (Ok (with_changed plan id (moved_directive to))) inside tied open_
+      ∙ none_applies (is_outside plan to.start) (is_dangling (is_id_of plan.directives) to.anchor) (leads_to plan id to.anchor) (Ok (with_changed plan id (moved_directive to))) inside tied open_
       ∙ ap (λ (ds : List Directive). Ok (record plan { directives = ds })) (sym changed_is)
 
   pub moved_plan : (model : Parts) → IsPlanOf model plan → IsPlanOf model (record plan { directives = made })

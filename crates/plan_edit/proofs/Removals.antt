@@ -6,10 +6,9 @@ use Rattle.aerie_base.specs.declared.models.model.Parts.{Parts}
 use Rattle.aerie_base.specs.declared.plans.Directive.{Directive}
 use Rattle.aerie_base.specs.declared.plans.Plan.{Plan}
 use Rattle.aerie_base.specs.plans.OfModel.{with_id, anchor_of, anchored_to, ids_of, rise_to, is_there, takes, is_directive_of, IsPlanOf, Rise}
-use Rattle.aerie_base.specs.plans.RisingIds.{above}
+use Rattle.aerie_base.specs.plans.RisingIds.{above, and_too, both}
+use Rattle.aerie_base.specs.plans.FoundById.{at_place, eq_back}
 use Rattle.plan_merge.specs.Merging.{is_at}
-use Rattle.plan_merge.proofs.Finds.{eq_back, at_place}
-use Rattle.plan_merge.proofs.Renames.{both}
 use Rattle.plan_edit.specs.Editing.{is_another, is_anchored_to, without, remove_of, of_directive, unless_anchored}
 use Rattle.plan_edit.proofs.Trails.{LeadNoFurther, acyclic_still}
 
@@ -30,7 +29,7 @@ all_stay most before id (first ∷ rest) rise low =
     ap (λ (t : Bool). cond (not t) (first ∷ filter (is_another id) rest) (filter (is_another id) rest)) (eq_back id first.id false (ne_eqb id first.id (ne_of_lt less)))
     ∙ ap (λ (ds : List Directive). first ∷ ds) (all_stay most first.id id rest parts.1 further)
 
--- taken out at its place, or by its id
+-- taken out at its position, or by its id
 pub removed_by_id : (most before : ℕ) (directives : List Directive) (at : ℕ) (found : Directive) → IsTrue (rise_to most before (ids_of directives)) →
     slice_get directives at ≡ Some found → filter (is_another found.id) directives ≡ remove directives at
 removed_by_id most before [] at found rise here = absurd (none-some found here)
@@ -105,13 +104,9 @@ module _ (id : ℕ) where
           ap (λ (t : Bool). list_any (nat_eq to) (ids_of (cond (not t) (first ∷ filter (is_another id) rest) (filter (is_another id) rest)))) e
           ∙ ap (λ (t : Bool). nat_eq to first.id || t) others
 
-  there_still : (directives : List Directive) (lead : Option ℕ) → is_at id lead ≡ false → is_there (filter (is_another id) directives) lead ≡ is_there directives lead
+  there_still : (directives : List Directive) (anchor_id : Option ℕ) → is_at id anchor_id ≡ false → is_there (filter (is_another id) directives) anchor_id ≡ is_there directives anchor_id
   there_still directives None apart = refl
   there_still directives (Some to) apart = any_still to directives apart
-
-  and_too : (a b : Bool) → IsTrue a → IsTrue b → IsTrue (a && b)
-  and_too true b h k = k
-  and_too false b h k = absurd (true≢false (sym h))
 
   lower : (most before higher : ℕ) (ids : List ℕ) → before < higher → IsTrue (rise_to most higher ids) → IsTrue (rise_to most before ids)
   lower most before higher [] less rise = lt-ltb before most (lt_trans less (ltb-true higher most rise))

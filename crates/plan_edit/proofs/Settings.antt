@@ -13,13 +13,13 @@ use Rattle.aerie_base.specs.declared.plans.Plan.{Plan}
 use Rattle.aerie_base.specs.models.Signatures.{parameter_kinds}
 use Rattle.aerie_base.specs.models.Values.{is_value_of}
 use Rattle.aerie_base.specs.plans.OfModel.{are_values_of, takes, with_id, anchored_to, is_there, is_directive_of, IsPlanOf}
-use Rattle.plan_merge.proofs.Renames.{both}
+use Rattle.aerie_base.specs.plans.RisingIds.{and_too, both}
 use Rattle.plan_edit.specs.Answers.{then_made_of}
-use Rattle.plan_edit.specs.Arguments.{value_for_parameter, value_for, parameter_place}
+use Rattle.plan_edit.specs.Arguments.{value_for_parameter, value_for, parameter_position}
 use Rattle.plan_edit.specs.Editing.{argument_set, arguments_set, with_arguments, changed_where, with_changed, of_directive, set_of}
 use Rattle.plan_edit.proofs.Given.{value_good}
 use Rattle.plan_edit.proofs.Additions.{met_is, found_good}
-use Rattle.plan_edit.proofs.Changes.{and_too, leads_same, changed_so, one_changed}
+use Rattle.plan_edit.proofs.Changes.{leads_same, changed_so, one_changed}
 use Rattle.plan_edit.proofs.Trails.{acyclic_still}
 
 module _ (enums : List EnumType) where
@@ -29,57 +29,57 @@ module _ (enums : List EnumType) where
   as_many (kind ∷ kinds) [] good = absurd (true≢false (sym good))
   as_many (kind ∷ kinds) (value ∷ values) good = ap suc (as_many kinds values (both (is_value_of enums kind value) (are_values_of enums kinds values) good).1)
 
-  -- another value of the type at a place
-  pub set_good : (kinds : List Kind) (values : List Value) (place : ℕ) (kind : Kind) (value : Value) → IsTrue (are_values_of enums kinds values) → slice_get kinds place ≡ Some kind →
-      IsTrue (is_value_of enums kind value) → IsTrue (are_values_of enums kinds (slice_set values place value))
-  set_good [] values place kind value good here is = absurd (none-some kind here)
-  set_good (first ∷ kinds) [] place kind value good here is = absurd (true≢false (sym good))
+  -- another value of the type at a position
+  pub set_good : (kinds : List Kind) (values : List Value) (position : ℕ) (kind : Kind) (value : Value) → IsTrue (are_values_of enums kinds values) → slice_get kinds position ≡ Some kind →
+      IsTrue (is_value_of enums kind value) → IsTrue (are_values_of enums kinds (slice_set values position value))
+  set_good [] values position kind value good here is = absurd (none-some kind here)
+  set_good (first ∷ kinds) [] position kind value good here is = absurd (true≢false (sym good))
   set_good (first ∷ kinds) (old ∷ values) zero kind value good here is =
       let parts = both (is_value_of enums first old) (are_values_of enums kinds values) good in
       and_too (is_value_of enums first value) (are_values_of enums kinds values) (subst (λ (k : Kind). IsTrue (is_value_of enums k value)) (sym (same_Some first kind here)) is) parts.1
-  set_good (first ∷ kinds) (old ∷ values) (suc place) kind value good here is =
+  set_good (first ∷ kinds) (old ∷ values) (suc position) kind value good here is =
       let parts = both (is_value_of enums first old) (are_values_of enums kinds values) good in
-      and_too (is_value_of enums first old) (are_values_of enums kinds (slice_set values place value)) parts.0 (set_good kinds values place kind value parts.1 here is)
+      and_too (is_value_of enums first old) (are_values_of enums kinds (slice_set values position value)) parts.0 (set_good kinds values position kind value parts.1 here is)
 
-  -- the value that is given for the parameter at a place is of its type
-  given_there : (parameters : List Parameter) (place : ℕ) (given : RawValue) (value : Value) → value_for_parameter enums (slice_get parameters place) given ≡ Some value →
-      (kind : Kind) × ((slice_get (map (λ (parameter : Parameter). parameter.kind) parameters) place ≡ Some kind) × IsTrue (is_value_of enums kind value))
-  given_there parameters place given value h = go (slice_get parameters place) refl h
+  -- the value that is given for the parameter at a position is of its type
+  given_there : (parameters : List Parameter) (position : ℕ) (given : RawValue) (value : Value) → value_for_parameter enums (slice_get parameters position) given ≡ Some value →
+      (kind : Kind) × ((slice_get (map (λ (parameter : Parameter). parameter.kind) parameters) position ≡ Some kind) × IsTrue (is_value_of enums kind value))
+  given_there parameters position given value h = go (slice_get parameters position) refl h
     where
-      go : (parameter : Option Parameter) → slice_get parameters place ≡ parameter → value_for_parameter enums parameter given ≡ Some value →
-          (kind : Kind) × ((slice_get (map (λ (parameter : Parameter). parameter.kind) parameters) place ≡ Some kind) × IsTrue (is_value_of enums kind value))
+      go : (parameter : Option Parameter) → slice_get parameters position ≡ parameter → value_for_parameter enums parameter given ≡ Some value →
+          (kind : Kind) × ((slice_get (map (λ (parameter : Parameter). parameter.kind) parameters) position ≡ Some kind) × IsTrue (is_value_of enums kind value))
       go None is k = absurd (none-some value k)
       go (Some parameter) is k = (
         parameter.kind,
         (
-          slice_get-map (λ (parameter : Parameter). parameter.kind) parameters place ∙ ap (option_map (λ (parameter : Parameter). parameter.kind)) is,
+          slice_get-map (λ (parameter : Parameter). parameter.kind) parameters position ∙ ap (option_map (λ (parameter : Parameter). parameter.kind)) is,
           value_good enums parameter.kind given value k,
         ),
       )
 
   -- with it, the values are still values of the parameters
-  pub values_set : (activity : Activity) (arguments : List Value) (name : List ℕ) (given : RawValue) (place : ℕ) (value : Value) → IsTrue (are_values_of enums (parameter_kinds activity) arguments) →
-      parameter_place activity.parameters name ≡ Some place → value_for enums activity.parameters name given ≡ Some value →
-      IsTrue (are_values_of enums (parameter_kinds activity) (slice_set arguments place value))
-  values_set activity arguments name given place value good is found =
-      let one = given_there activity.parameters place given value
+  pub values_set : (activity : Activity) (arguments : List Value) (name : List ℕ) (given : RawValue) (position : ℕ) (value : Value) → IsTrue (are_values_of enums (parameter_kinds activity) arguments) →
+      parameter_position activity.parameters name ≡ Some position → value_for enums activity.parameters name given ≡ Some value →
+      IsTrue (are_values_of enums (parameter_kinds activity) (slice_set arguments position value))
+  values_set activity arguments name given position value good is found =
+      let one = given_there activity.parameters position given value
       (sym (ap (λ (o : Option ℕ). value_for_parameter enums (option_and_then (slice_get activity.parameters) o) given) is) ∙ found) in
-      set_good (parameter_kinds activity) arguments place one.0 value good one.1.0 one.1.1
+      set_good (parameter_kinds activity) arguments position one.0 value good one.1.0 one.1.1
 
 module _ (model : Parts) where
   pub set_takes : (found : Option Activity) (arguments : List Value) (name : List ℕ) (given : RawValue) (values : List Value) → IsTrue (takes model.enums found arguments) →
       arguments_set model arguments name given found ≡ Ok values → IsTrue (takes model.enums found values)
   set_takes None arguments name given values good h = absurd (cc)
   set_takes (Some activity) arguments name given values good h =
-      go (parameter_place activity.parameters name) refl (value_for model.enums activity.parameters name given) refl h
+      go (parameter_position activity.parameters name) refl (value_for model.enums activity.parameters name given) refl h
     where
-      go : (place : Option ℕ) → parameter_place activity.parameters name ≡ place → (value : Option Value) → value_for model.enums activity.parameters name given ≡ value →
-          argument_set activity arguments name place value ≡ Ok values → IsTrue (are_values_of model.enums (parameter_kinds activity) values)
+      go : (position : Option ℕ) → parameter_position activity.parameters name ≡ position → (value : Option Value) → value_for model.enums activity.parameters name given ≡ value →
+          argument_set activity arguments name position value ≡ Ok values → IsTrue (are_values_of model.enums (parameter_kinds activity) values)
       go None is value found k = absurd (cc)
-      go (Some place) is None found k = absurd (cc)
-      go (Some place) is (Some value) found k =
-          subst (λ (vs : List Value). IsTrue (are_values_of model.enums (parameter_kinds activity) vs)) (met_is activity (slice_set arguments place value) values k)
-          (values_set model.enums activity arguments name given place value good is found)
+      go (Some position) is None found k = absurd (cc)
+      go (Some position) is (Some value) found k =
+          subst (λ (vs : List Value). IsTrue (are_values_of model.enums (parameter_kinds activity) vs)) (met_is activity (slice_set arguments position value) values k)
+          (values_set model.enums activity arguments name given position value good is found)
 
   -- ---- what `set_argument` does
 

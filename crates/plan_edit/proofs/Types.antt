@@ -22,7 +22,7 @@ use Rattle.aerie_base.specs.models.Values.{is_value_of, is_value}
 use Rattle.aerie_base.specs.models.ValidModel.{valid_model, has_good_activities, enum_names, cell_names}
 use Rattle.aerie_base.specs.models.ValidParts.{are_good}
 use Rattle.aerie_base.specs.plans.OfModel.{are_values_of}
-use Rattle.plan_merge.proofs.Renames.{both}
+use Rattle.aerie_base.specs.plans.RisingIds.{and_too, both}
 use Rattle.plan_edit.specs.Requires.{no_kinds, is_typed_for}
 
 -- what holds of each holds of one
@@ -104,10 +104,6 @@ module _ (model : Parts) (activity : Activity) (values : List Value) (good : IsT
   one_typed expr is =
       let of = typed_kind model.enums (slice_get (parameter_kinds activity)) expr Truth (kind_is (typed model.enums (slice_get (parameter_kinds activity)) no_kinds expr) Truth is) in
       ap is_some (more_known expr (slice_get (parameter_kinds activity)) (slot_kinds values) no_kinds no_kinds Truth (within model.enums (parameter_kinds activity) values good) (λ what of h. h) of)
-
-  and_too : (a b : Bool) → IsTrue a → IsTrue b → IsTrue (a && b)
-  and_too true b h k = k
-  and_too false b h k = absurd (true≢false (sym h))
 
   all_typed : (requires_ : List Expr) → IsTrue (list_all (is_require model.enums activity) requires_) → IsTrue (list_all (is_typed_for values) requires_)
   all_typed [] are = refl

@@ -17,6 +17,12 @@ abbrev pub then_made_of : {A B : Type 0} → (A → Result B EditError) → Resu
 then_made_of make (Ok part) = make part
 then_made_of make (Err refusal) = Err refusal
 
+-- one in front of others, or the first refusal
+abbrev pub put_in_front : {A E : Type 0} → Result A E → Result (List A) E → Result (List A) E
+put_in_front (Err refusal) rest = Err refusal
+put_in_front (Ok one) (Err refusal) = Err refusal
+put_in_front (Ok one) (Ok rest) = Ok (one ∷ rest)
+
 -- this is why nothing is made: the refusal, or want of memory
 abbrev pub IsRefusal : {A : Type 0} → Result A EditError → EditError → Type 0
 IsRefusal made OutOfMemory = Unit {0}

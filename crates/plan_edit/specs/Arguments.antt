@@ -40,9 +40,9 @@ value_given enums (Enum kind) (raw.Word word) = option_map (value.Variant kind) 
 
 -- ---- the parameter of an argument
 
--- the place of the parameter with a name
-abbrev pub parameter_place : List Parameter → List ℕ → Option ℕ
-parameter_place parameters name = position (λ parameter. same_name parameter.name name) parameters
+-- the position of the parameter with a name
+abbrev pub parameter_position : List Parameter → List ℕ → Option ℕ
+parameter_position parameters name = position (λ parameter. same_name parameter.name name) parameters
 
 -- a value for the parameter, where there is one and the value is of its type
 abbrev pub value_for_parameter : List EnumType → Option Parameter → RawValue → Option Value
@@ -52,7 +52,7 @@ value_for_parameter enums (Some parameter) given = value_given enums parameter.k
 -- the value that is given for the parameter with a name, where there is one and the value is of its type
 abbrev pub value_for : List EnumType → List Parameter → List ℕ → RawValue → Option Value
 value_for enums parameters name given =
-    value_for_parameter enums (option_and_then (slice_get parameters) (parameter_place parameters name)) given
+    value_for_parameter enums (option_and_then (slice_get parameters) (parameter_position parameters name)) given
 
 -- ---- the first bad argument
 

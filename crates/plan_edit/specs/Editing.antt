@@ -1,5 +1,5 @@
 -- The edits of a plan: each gives the edited plan, or the refusal with the smallest number of those that apply.
-use Rattle.std.specs.Prelude.{◌≡◌, ℕ, suc, zero, ◌+◌, ◌||◌, not, Bool, false, List, [], ◌∷◌, ◌++◌, map, filter, find, length, nat_eq, nat_lt, position, slice_get, slice_set, Option, Some, None, option_map, Result, Ok, Err, if◌then◌else◌}
+use Rattle.std.specs.Prelude.{◌≡◌, ℕ, suc, zero, ◌+◌, ◌||◌, not, Bool, false, List, [], ◌∷◌, ◌++◌, map, filter, find, length, nat_eq, nat_lt, position, slice_get, slice_set, Option, Some, None, Result, Ok, Err, if◌then◌else◌}
 use Rattle.aerie_base.specs.declared.values.Value.{Value}
 use Rattle.aerie_base.specs.declared.arguments.RawValue.{RawValue}
 use Rattle.aerie_base.specs.declared.arguments.RawArgument.{RawArgument}
@@ -10,20 +10,20 @@ use Rattle.aerie_base.specs.declared.plans.When.{When}
 use Rattle.aerie_base.specs.declared.plans.Directive.{Directive}
 use Rattle.aerie_base.specs.declared.plans.Plan.{Plan}
 use Rattle.aerie_base.specs.models.Names.{same_name}
-use Rattle.aerie_base.specs.plans.OfModel.{directive_limit, with_id, anchored_to, anchor_of, is_there}
+use Rattle.aerie_base.specs.plans.OfModel.{directive_limit, with_id, anchored_to, anchor_of, is_id_of, is_dangling}
 use Rattle.plan_merge.specs.Merging.{is_at}
 use Rattle.plan_edit.specs.declared.errors.EditError.{EditError}
 use Rattle.plan_edit.specs.declared.errors.EditError.TheVariants.{NoDirective, UnknownType, BadArgument, Invalid, OutsidePlan, TooMany, NoAnchor, Cycle, Anchored}
 use Rattle.plan_edit.specs.declared.arguments.Given.{Given}
 use Rattle.plan_edit.specs.Answers.{unless_refused, then_made_of}
-use Rattle.plan_edit.specs.Arguments.{arguments_of, parameter_place, value_for}
+use Rattle.plan_edit.specs.Arguments.{arguments_of, parameter_position, value_for}
 use Rattle.plan_edit.specs.Requires.{first_unmet}
 
 -- ---- a type and its arguments
 
--- the place of the activity type with a name
-abbrev pub type_place : Parts → List ℕ → Option ℕ
-type_place model name = position (λ activity. same_name activity.name name) model.activities
+-- the position of the activity type with a name
+abbrev pub type_position : Parts → List ℕ → Option ℕ
+type_position model name = position (λ activity. same_name activity.name name) model.activities
 
 -- values, unless a `require` is not true of them: the first such
 abbrev pub unless_unmet : Option ℕ → List Value → Result (List Value) EditError
@@ -41,13 +41,13 @@ given_to model kind arguments (Some activity) =
     then_made_of (λ values. Ok (record { kind = kind; arguments = values }))
     (then_made_of (if_met activity) (arguments_of model.enums activity.parameters arguments))
 
-abbrev pub given_at_place : Parts → List RawArgument → Option ℕ → Result Given EditError
-given_at_place model arguments None = Err UnknownType
-given_at_place model arguments (Some kind) = given_to model kind arguments (slice_get model.activities kind)
+abbrev pub given_at_position : Parts → List RawArgument → Option ℕ → Result Given EditError
+given_at_position model arguments None = Err UnknownType
+given_at_position model arguments (Some kind) = given_to model kind arguments (slice_get model.activities kind)
 
 -- the type with a name and the values of its arguments, or UnknownType, BadArgument or Invalid
 abbrev pub given_of : Parts → List ℕ → List RawArgument → Result Given EditError
-given_of model name arguments = given_at_place model arguments (type_place model name)
+given_of model name arguments = given_at_position model arguments (type_position model name)
 
 -- ---- where a directive may stand
 
@@ -58,10 +58,6 @@ is_outside plan start = not (nat_lt start plan.duration)
 -- whether the plan can have no directive more: for their number, or for want of a next id
 abbrev pub is_full : Plan → Bool
 is_full plan = not (nat_lt (length plan.directives) directive_limit) || not (nat_lt plan.next_id 4_294_967_295)
-
--- whether an anchor is to no directive of the plan
-abbrev pub is_loose : Plan → Option Anchor → Bool
-is_loose plan anchor = not (is_there plan.directives (option_map (λ anchor. anchor.to) anchor))
 
 -- ---- add
 
@@ -76,7 +72,7 @@ with_added plan directive = record plan { next_id = plan.next_id + 1; directives
 abbrev pub directive_placed : Plan → When → Given → Result Directive EditError
 directive_placed plan at given =
     unless_refused
-    ((is_outside plan at.start, OutsidePlan) ∷ (is_full plan, TooMany) ∷ (is_loose plan at.anchor, NoAnchor) ∷ [])
+    ((is_outside plan at.start, OutsidePlan) ∷ (is_full plan, TooMany) ∷ (is_dangling (is_id_of plan.directives) at.anchor, NoAnchor) ∷ [])
     (Ok (new_directive plan at given))
 
 -- the directive that an `add` adds
@@ -102,7 +98,7 @@ changed_where id change directive = if nat_eq directive.id id then change direct
 abbrev pub with_changed : Plan → ℕ → (Directive → Directive) → Plan
 with_changed plan id change = record plan { directives = map (changed_where id change) plan.directives }
 
--- the directive at a place, where there is one, is changed so, and every other one is as it was
+-- the directive at a position, where there is one, is changed so, and every other one is as it was
 abbrev pub ChangesAt : ℕ → (Directive → Directive) → List Directive → List Directive → Type 0
 ChangesAt at change before after =
     (directive : Directive) → slice_get before at ≡ Some directive → after ≡ slice_set before at (change directive)
@@ -158,7 +154,7 @@ abbrev pub move_of : Plan → ℕ → When → Result Plan EditError
 move_of plan id to =
     of_directive
     (λ directive. unless_refused
-    ((is_outside plan to.start, OutsidePlan) ∷ (is_loose plan to.anchor, NoAnchor) ∷ (leads_to plan id to.anchor, Cycle) ∷ [])
+    ((is_outside plan to.start, OutsidePlan) ∷ (is_dangling (is_id_of plan.directives) to.anchor, NoAnchor) ∷ (leads_to plan id to.anchor, Cycle) ∷ [])
     (Ok (with_changed plan id (moved_directive to))))
     (with_id plan.directives id)
 
@@ -167,16 +163,16 @@ move_of plan id to =
 abbrev pub with_arguments : List Value → Directive → Directive
 with_arguments values directive = record directive { arguments = values }
 
--- the arguments with another value at a place
+-- the arguments with another value at a position
 abbrev pub argument_set : Activity → List Value → List ℕ → Option ℕ → Option Value → Result (List Value) EditError
 argument_set activity arguments name None value = Err (BadArgument name)
-argument_set activity arguments name (Some place) None = Err (BadArgument name)
-argument_set activity arguments name (Some place) (Some value) = if_met activity (slice_set arguments place value)
+argument_set activity arguments name (Some at) None = Err (BadArgument name)
+argument_set activity arguments name (Some at) (Some value) = if_met activity (slice_set arguments at value)
 
 abbrev pub arguments_set : Parts → List Value → List ℕ → RawValue → Option Activity → Result (List Value) EditError
 arguments_set model arguments name value None = Err UnknownType
 arguments_set model arguments name value (Some activity) =
-    argument_set activity arguments name (parameter_place activity.parameters name) (value_for model.enums activity.parameters name value)
+    argument_set activity arguments name (parameter_position activity.parameters name) (value_for model.enums activity.parameters name value)
 
 abbrev pub arguments_set_for : Parts → List Value → List ℕ → RawValue → ℕ → Result (List Value) EditError
 arguments_set_for model arguments name value kind =

@@ -1,28 +1,27 @@
 -- A plan whose directives are replaced by those of a text.
-use Rattle.std.specs.Prelude.{◌≡◌, ℕ, suc, ◌+◌, ◌≤◌, ◌||◌, not, Bool, true, List, [], ◌∷◌, map, length, nat_lt, Option, Some, None, is_some, option_map, unwrap_or, Result, Ok, Err, if◌then◌else◌}
+use Rattle.std.specs.Prelude.{◌≡◌, ℕ, ◌+◌, ◌||◌, not, Bool, List, [], ◌∷◌, map, length, nat_lt, Option, Some, None, is_some, option_map, unwrap_or, Result, Ok, Err, if◌then◌else◌}
 use Rattle.std.specs.List.{list_any}
 use Rattle.serde_json.specs.Data.{Data}
 use Rattle.aerie_base.specs.declared.models.model.Parts.{Parts}
 use Rattle.aerie_base.specs.declared.plans.Anchor.{Anchor}
 use Rattle.aerie_base.specs.declared.plans.Directive.{Directive}
 use Rattle.aerie_base.specs.declared.plans.Plan.{Plan}
-use Rattle.aerie_base.specs.plans.OfModel.{directive_limit}
-use Rattle.plan_merge.specs.Leads.{leads_after}
+use Rattle.aerie_base.specs.plans.OfModel.{directive_limit, is_dangling}
 use Rattle.plan_merge.specs.Merging.{is_at, is_on_cycle}
 use Rattle.plan_edit.specs.declared.arguments.Given.{Given}
 use Rattle.plan_edit.specs.declared.errors.EditError.{EditError}
 use Rattle.plan_edit.specs.declared.errors.EditError.TheVariants.{OutsidePlan, TooMany, NoAnchor, Cycle}
 use Rattle.plan_edit.specs.declared.forms.WrittenDirective.{WrittenDirective}
-use Rattle.plan_edit.specs.Answers.{unless_refused, then_made_of}
+use Rattle.plan_edit.specs.Answers.{unless_refused, then_made_of, put_in_front}
 use Rattle.plan_edit.specs.Editing.{given_of, is_outside}
 use Rattle.plan_edit.specs.PlanForm.{if_formed, plan_of_json, plan_text}
 
 -- ---- the ids that stand in the text
 
--- the places of the directives with an id, counted from a number
-abbrev pub places_of : ℕ → ℕ → List WrittenDirective → List ℕ
-places_of id place [] = []
-places_of id place (written ∷ rest) = if is_at id written.id then place ∷ places_of id (place + 1) rest else places_of id (place + 1) rest
+-- the positions of the directives with an id, counted from a number
+abbrev pub positions_of : ℕ → ℕ → List WrittenDirective → List ℕ
+positions_of id position [] = []
+positions_of id position (written ∷ rest) = if is_at id written.id then position ∷ positions_of id (position + 1) rest else positions_of id (position + 1) rest
 
 -- the one of a list of one
 abbrev pub the_only : List ℕ → Option ℕ
@@ -30,9 +29,9 @@ the_only [] = None
 the_only (one ∷ []) = Some one
 the_only (one ∷ another ∷ rest) = None
 
--- the place of the one directive with an id
-abbrev pub place_of_id : List WrittenDirective → ℕ → Option ℕ
-place_of_id all id = the_only (places_of id 0 all)
+-- the position of the one directive with an id
+abbrev pub position_in_text : List WrittenDirective → ℕ → Option ℕ
+position_in_text all id = the_only (positions_of id 0 all)
 
 -- ---- the first step: each directive, its anchor as it is written
 
@@ -40,10 +39,9 @@ place_of_id all id = the_only (places_of id 0 all)
 abbrev pub is_past_room : Plan → ℕ → Bool
 is_past_room plan number = not (nat_lt number directive_limit) || not (nat_lt (plan.next_id + number) 4_294_967_295)
 
--- whether an anchor names one directive
-abbrev pub is_tied : List WrittenDirective → Option Anchor → Bool
-is_tied all None = true
-is_tied all (Some anchor) = is_some (place_of_id all anchor.to)
+-- whether an id is that of one directive
+abbrev pub is_id_of_one : List WrittenDirective → ℕ → Bool
+is_id_of_one all id = is_some (position_in_text all id)
 
 abbrev pub loaded_directive : Plan → WrittenDirective → ℕ → Given → Directive
 loaded_directive plan written number given =
@@ -52,31 +50,26 @@ loaded_directive plan written number given =
 abbrev pub load_placed : Plan → List WrittenDirective → WrittenDirective → ℕ → Given → Result Directive EditError
 load_placed plan all written number given =
     unless_refused
-    ((is_outside plan written.start, OutsidePlan) ∷ (is_past_room plan number, TooMany) ∷ (not (is_tied all written.anchor), NoAnchor) ∷ [])
+    ((is_outside plan written.start, OutsidePlan) ∷ (is_past_room plan number, TooMany) ∷ (is_dangling (is_id_of_one all) written.anchor, NoAnchor) ∷ [])
     (Ok (loaded_directive plan written number given))
 
 -- a directive under its new id, or the smallest refusal that applies to it
 abbrev pub load_one : Parts → Plan → List WrittenDirective → ℕ → WrittenDirective → Result Directive EditError
 load_one model plan all number written = then_made_of (load_placed plan all written number) (given_of model written.kind written.arguments)
 
-abbrev pub put_loaded : Result Directive EditError → Result (List Directive) EditError → Result (List Directive) EditError
-put_loaded (Err refusal) rest = Err refusal
-put_loaded (Ok directive) (Err refusal) = Err refusal
-put_loaded (Ok directive) (Ok rest) = Ok (directive ∷ rest)
-
 -- the directives from a number on, or the refusal of the first to which one applies
 abbrev pub load_all : Parts → Plan → List WrittenDirective → ℕ → List WrittenDirective → Result (List Directive) EditError
 load_all model plan all number [] = Ok []
-load_all model plan all number (written ∷ rest) = put_loaded (load_one model plan all number written) (load_all model plan all (number + 1) rest)
+load_all model plan all number (written ∷ rest) = put_in_front (load_one model plan all number written) (load_all model plan all (number + 1) rest)
 
 -- ---- the second step: anchors to the new ids, without cycles
 
 -- an anchor to the new id of the directive that it names
-abbrev pub anchor_anew : ℕ → List WrittenDirective → Anchor → Anchor
-anchor_anew first all anchor = record anchor { to = first + unwrap_or (place_of_id all anchor.to) 0 }
+abbrev pub anchor_to_new_id : ℕ → List WrittenDirective → Anchor → Anchor
+anchor_to_new_id first all anchor = record anchor { to = first + unwrap_or (position_in_text all anchor.to) 0 }
 
-abbrev pub directive_anew : ℕ → List WrittenDirective → Directive → Directive
-directive_anew first all directive = record directive { anchor = option_map (anchor_anew first all) directive.anchor }
+abbrev pub anchored_to_new_id : ℕ → List WrittenDirective → Directive → Directive
+anchored_to_new_id first all directive = record directive { anchor = option_map (anchor_to_new_id first all) directive.anchor }
 
 abbrev pub has_cycle : List Directive → Bool
 has_cycle directives = list_any (is_on_cycle directives) directives
@@ -87,7 +80,7 @@ unless_cycle directives = if has_cycle directives then Err Cycle else Ok directi
 -- the directives that are written, under their new ids
 abbrev pub load_written : Parts → Plan → List WrittenDirective → Result (List Directive) EditError
 load_written model plan all =
-    then_made_of (λ directives. unless_cycle (map (directive_anew plan.next_id all) directives)) (load_all model plan all 0 all)
+    then_made_of (λ directives. unless_cycle (map (anchored_to_new_id plan.next_id all) directives)) (load_all model plan all 0 all)
 
 -- ---- the plan
 
@@ -112,7 +105,7 @@ load_of model plan text = loaded_form model plan (plan_text text)
 abbrev pub load_of_value : Parts → Plan → Data → Result Plan EditError
 load_of_value model plan value = loaded_form model plan (plan_of_json value)
 
--- ---- an index of places by id
+-- ---- an index of positions by id
 
 -- what an index says of an id: nothing, its one place, or that it has several
 abbrev pub noted_as : List ℕ → Option (Option ℕ)
@@ -122,29 +115,22 @@ noted_as (one ∷ another ∷ rest) = Some None
 
 -- with one place more
 abbrev pub also_noted : ℕ → Option (Option ℕ) → Option (Option ℕ)
-also_noted place None = Some (Some place)
-also_noted place (Some noted) = Some None
+also_noted position None = Some (Some position)
+also_noted position (Some noted) = Some None
 
 -- the one place that an index says
-abbrev pub place_noted : Option (Option ℕ) → Option ℕ
-place_noted None = None
-place_noted (Some place) = place
+abbrev pub position_noted : Option (Option ℕ) → Option ℕ
+position_noted None = None
+position_noted (Some position) = position
 
--- an index says of each id the places of the directives that have it in the text
+-- an index says of each id the positions of the directives that have it in the text
 abbrev pub IsIndexOf : (ℕ → Option (Option ℕ)) → List WrittenDirective → Type 0
-IsIndexOf noted all = (id : ℕ) → noted id ≡ noted_as (places_of id 0 all)
+IsIndexOf noted all = (id : ℕ) → noted id ≡ noted_as (positions_of id 0 all)
 
--- what is noted of an id with the place of a directive more, which has this id or none
+-- what is noted of an id with the position of a directive more, which has this id or none
 abbrev pub noted_with : ℕ → ℕ → Option ℕ → Option (Option ℕ) → Option (Option ℕ)
-noted_with other place id noted = if is_at other id then also_noted place noted else noted
+noted_with other position id noted = if is_at other id then also_noted position noted else noted
 
--- an index with the place of a directive more
+-- an index with the position of a directive more
 abbrev pub NotesOneMore : ℕ → Option ℕ → (ℕ → Option (Option ℕ)) → (ℕ → Option (Option ℕ)) → Type 0
-NotesOneMore place id before after = (other : ℕ) → after other ≡ noted_with other place id (before other)
-
--- ---- how far anchors lead
-
--- where at least one anchor more than there are directives leads from each of them
-abbrev pub AreFarLeads : List Directive → List (Option ℕ) → Type 0
-AreFarLeads directives leads =
-    (steps : ℕ) × ((length directives ≤ steps) × (leads ≡ leads_after directives (suc steps)))
+NotesOneMore position id before after = (other : ℕ) → after other ≡ noted_with other position id (before other)

@@ -39,7 +39,7 @@ feeds_from old new (Some from) kind = may_feed old new from kind
 
 -- whether this may feed a parameter of a type, by the types of the old parameters
 abbrev pub is_feed : List EnumType → List EnumType → List Kind → Kind → Feed → Bool
-is_feed old new kinds kind (Old place) = feeds_from old new (slice_get kinds place) kind
+is_feed old new kinds kind (Old position) = feeds_from old new (slice_get kinds position) kind
 is_feed old new kinds kind (Fixed value) = is_value_of new kind value
 
 -- whether there is a feed for each parameter

@@ -19,6 +19,7 @@ use Rattle.plan_edit.specs.declared.mappings.Feed.TheVariants.{Old, Fixed}
 use Rattle.plan_edit.specs.declared.mappings.TypeRule.{TypeRule}
 use Rattle.plan_edit.specs.declared.mappings.Mapping.{Mapping}
 use Rattle.plan_edit.specs.Requires.{first_unmet}
+use Rattle.plan_edit.specs.Answers.{put_in_front}
 
 -- ---- values
 
@@ -31,15 +32,15 @@ retyped (kind.Enum to) (Truth truth) = Truth truth
 retyped (kind.Enum to) (Variant from number) = Variant to number
 
 -- what a parameter of a type gets from the old arguments
-abbrev pub fed : List Value → Kind → Feed → Value
-fed arguments kind (Old place) = retyped kind (slice_index_or arguments place (Int (pos 0)))
-fed arguments kind (Fixed value) = value
+abbrev pub mapped_argument : List Value → Kind → Feed → Value
+mapped_argument arguments kind (Old position) = retyped kind (slice_index_or arguments position (Int (pos 0)))
+mapped_argument arguments kind (Fixed value) = value
 
 -- what the parameters get, one for each feed
-abbrev pub all_fed : List Value → List Kind → List Feed → List Value
-all_fed arguments [] feeds = []
-all_fed arguments (kind ∷ kinds) [] = []
-all_fed arguments (kind ∷ kinds) (feed ∷ feeds) = fed arguments kind feed ∷ all_fed arguments kinds feeds
+abbrev pub mapped_arguments : List Value → List Kind → List Feed → List Value
+mapped_arguments arguments [] feeds = []
+mapped_arguments arguments (kind ∷ kinds) [] = []
+mapped_arguments arguments (kind ∷ kinds) (feed ∷ feeds) = mapped_argument arguments kind feed ∷ mapped_arguments arguments kinds feeds
 
 abbrev pub kinds_of_parameters : List Parameter → List Kind
 kinds_of_parameters parameters = map (λ parameter. parameter.kind) parameters
@@ -82,7 +83,7 @@ abbrev pub by_rule : Parts → Directive → Option TypeRule → Result Directiv
 by_rule new directive None = Err (Unmapped directive.id)
 by_rule new directive (Some rule) =
     ruled directive rule.new (slice_get new.activities rule.new)
-    (all_fed directive.arguments (parameter_kinds_of (slice_get new.activities rule.new)) rule.feeds)
+    (mapped_arguments directive.arguments (parameter_kinds_of (slice_get new.activities rule.new)) rule.feeds)
 
 -- what becomes of a directive
 abbrev pub migrated : Parts → Mapping → Directive → Result Directive MigrateError
@@ -90,15 +91,10 @@ migrated new mapping directive = by_rule new directive (rule_of mapping.rules di
 
 -- ---- plans
 
-abbrev pub one_more_migrated : Result Directive MigrateError → Result (List Directive) MigrateError → Result (List Directive) MigrateError
-one_more_migrated (Err refusal) rest = Err refusal
-one_more_migrated (Ok directive) (Err refusal) = Err refusal
-one_more_migrated (Ok directive) (Ok rest) = Ok (directive ∷ rest)
-
 -- what becomes of directives, or why nothing: for the first for which there is a cause
 abbrev pub all_migrated : Parts → Mapping → List Directive → Result (List Directive) MigrateError
 all_migrated new mapping [] = Ok []
-all_migrated new mapping (directive ∷ rest) = one_more_migrated (migrated new mapping directive) (all_migrated new mapping rest)
+all_migrated new mapping (directive ∷ rest) = put_in_front (migrated new mapping directive) (all_migrated new mapping rest)
 
 abbrev pub with_migrated : Plan → ℕ → Result (List Directive) MigrateError → Result Plan MigrateError
 with_migrated plan model (Ok directives) = Ok (record plan { model = model; directives = directives })
@@ -121,12 +117,12 @@ IsMigrated made (Err refusal) = IsMigrateRefusal made refusal
 
 -- ---- a table of rules by old type
 
--- at the place of each type stands the place of the first rule for it, where there is one
+-- at the position of each type stands the position of the first rule for it, where there is one
 abbrev pub IsRuleTable : List TypeRule → List (Option ℕ) → Type 0
 IsRuleTable rules table =
     (kind : ℕ) → kind < length table → option_and_then (slice_get rules) (slice_index_or table kind None) ≡ rule_of rules kind
 
 -- whether a feed is of one of so many old parameters, where it is of one
 abbrev pub is_feed_within : ℕ → Feed → Bool
-is_feed_within count (Old place) = nat_lt place count
+is_feed_within count (Old position) = nat_lt position count
 is_feed_within count (Fixed value) = true

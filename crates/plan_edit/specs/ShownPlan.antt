@@ -13,7 +13,7 @@ use Rattle.aerie_base.specs.declared.plans.Edge.{Edge}
 use Rattle.aerie_base.specs.declared.plans.Edge.TheVariants.{Start, End}
 use Rattle.aerie_base.specs.declared.plans.Directive.{Directive}
 use Rattle.aerie_base.specs.declared.plans.Plan.{Plan}
-use Rattle.aerie_text.specs.Json.{object_of}
+use Rattle.json_line.specs.Json.{object_of}
 use Rattle.plan_edit.specs.Arguments.{written_variant}
 
 -- the name and the value of each member of an object

@@ -6,12 +6,12 @@ ghost use Rattle.aerie_base.specs.models.Limits.{require_limit};
 ghost use Rattle.aerie_base.specs.models.ValidModel.{valid_model};
 ghost use Rattle.aerie_base.specs.plans.OfModel.{IsPlanOf, Rise};
 ghost use Rattle.plan_edit.specs.Answers.{IsMade, IsRefusal};
-ghost use Rattle.plan_edit.specs.Editing.{add_of, directive_added, given_of as given_by, given_to as given_to_by, if_met as if_met_by, directive_placed as placed_by, type_place as type_place_by, with_added};
+ghost use Rattle.plan_edit.specs.Editing.{add_of, directive_added, given_of as given_by, given_to as given_to_by, if_met as if_met_by, directive_placed as placed_by, type_position as type_position_by, with_added};
 ghost use Rattle.plan_edit.specs.Requires.{is_typed_for};
 
 use crate::arguments::{Given, arguments_of};
 use crate::errors::EditError;
-use crate::placing::{is_full, is_loose, is_outside};
+use crate::placing::{is_dangling, is_full, is_outside};
 use crate::unmet::first_unmet;
 use aerie_base::{
     Activity, Directive, List, Model, Name, OutOfMemory, Plan, RawArgument, Value, When,
@@ -81,7 +81,7 @@ fn placed(plan: &Plan, at: When, given: Given) -> Result<Directive, EditError>
     if is_full(plan) {
         return Err(EditError::TooMany);
     }
-    if is_loose(plan, at.anchor) {
+    if is_dangling(plan, at.anchor) {
         return Err(EditError::NoAnchor);
     }
     Ok(Directive {
@@ -103,15 +103,15 @@ pub fn given_of(
     ensures made { IsMade (given_by model.now name.now arguments.now) result }
     ensures valid { IsTrue (valid_model model.now) }
 {
-    match type_place(model, name) {
+    match type_position(model, name) {
         Some(kind) => given_to(alloc, model, kind, arguments),
         None => Err(EditError::UnknownType),
     }
 }
 
-/// The place of the activity type with a name.
-fn type_place(model: &Model, name: &Name) -> Option<usize>
-    ensures place { result ≡ type_place_by model.now name.now }
+/// The position of the activity type with a name.
+fn type_position(model: &Model, name: &Name) -> Option<usize>
+    ensures position { result ≡ type_position_by model.now name.now }
     ensures within { IfSome result (λ kind. kind < length model.now.activities) }
     ensures valid { IsTrue (valid_model model.now) }
 {

@@ -6,7 +6,7 @@ ghost use Rattle.aerie_base.specs.declared.values.Value.TheVariants.{Int, Varian
 ghost use Rattle.aerie_base.specs.models.Limits.{variant_limit};
 ghost use Rattle.aerie_base.specs.models.Names.{same_name};
 ghost use Rattle.plan_edit.specs.Answers.{IsMade};
-ghost use Rattle.plan_edit.specs.Arguments.{arguments_of as arguments_by, values_filled as filled_by, first_bad as first_bad_by, is_bad as is_bad_by, parameter_place as place_by, parameter_value as parameter_value_by, value_for as value_for_by, value_given as value_by, is_given as is_given_by, variant_written};
+ghost use Rattle.plan_edit.specs.Arguments.{arguments_of as arguments_by, values_filled as filled_by, first_bad as first_bad_by, is_bad as is_bad_by, parameter_position as position_by, parameter_value as parameter_value_by, value_for as value_for_by, value_given as value_by, is_given as is_given_by, variant_written};
 
 use crate::errors::EditError;
 use crate::items::item_at;
@@ -88,19 +88,19 @@ fn variant_of(kind: u16, enumeration: &EnumType, word: &str) -> Option<Value>
     requires { length enumeration.now.variants ≤ variant_limit }
     ensures { result ≡ option_map (Variant kind) (variant_written (Some enumeration.now) word.now) }
 {
-    match variant_place(enumeration, word) {
-        Some(place) => Some(Value::Variant {
+    match variant_position(enumeration, word) {
+        Some(position) => Some(Value::Variant {
             kind,
-            number: place as u16,
+            number: position as u16,
         }),
         None => None,
     }
 }
 
-/// The place of the variant that a word writes.
-fn variant_place(enumeration: &EnumType, word: &str) -> Option<usize>
-    ensures place { result ≡ variant_written (Some enumeration.now) word.now }
-    ensures within { IfSome result (λ place. place < length enumeration.now.variants) }
+/// The position of the variant that a word writes.
+fn variant_position(enumeration: &EnumType, word: &str) -> Option<usize>
+    ensures position { result ≡ variant_written (Some enumeration.now) word.now }
+    ensures within { IfSome result (λ position. position < length enumeration.now.variants) }
 {
     enumeration
         .variants
@@ -109,10 +109,10 @@ fn variant_place(enumeration: &EnumType, word: &str) -> Option<usize>
         .position(|variant| writes(word, &enumeration.name, variant))
 }
 
-/// The place of the parameter with a name.
-pub fn parameter_place(parameters: &[Parameter], name: &Name) -> Option<usize>
-    ensures place { result ≡ place_by parameters.now name.now }
-    ensures within { IfSome result (λ place. place < length parameters.now) }
+/// The position of the parameter with a name.
+pub fn parameter_position(parameters: &[Parameter], name: &Name) -> Option<usize>
+    ensures position { result ≡ position_by parameters.now name.now }
+    ensures within { IfSome result (λ position. position < length parameters.now) }
 {
     parameters
         .iter()
@@ -128,8 +128,8 @@ pub fn value_for(
 ) -> Option<Value>
     ensures { result ≡ value_for_by model.now.enums parameters.now name.now given.now }
 {
-    let place = parameter_place(parameters, name)?;
-    value_given(model, parameters[place].kind, given)
+    let position = parameter_position(parameters, name)?;
+    value_given(model, parameters[position].kind, given)
 }
 
 /// Whether an argument is given before, names no parameter or is not of the parameter's type.

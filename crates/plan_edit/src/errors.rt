@@ -87,6 +87,14 @@ impl From<OutOfMemory> for EditError {
     }
 }
 
+impl From<OutOfMemory> for MigrateError {
+    ghost from_gives = { λ _ e. e ≡ NoMemoryToMigrate };
+
+    fn from(_error: OutOfMemory) -> MigrateError {
+        MigrateError::OutOfMemory
+    }
+}
+
 /// Why a plan is not taken to another model: for the directive with the least id for which there is a cause.
 #[derive(Clone, Copy, Debug, PartialEq, Eq, Drop, Error)]
 pub enum MigrateError {
@@ -107,12 +115,4 @@ pub enum MigrateError {
     /// Memory was wanted.
     #[error("out of memory")]
     OutOfMemory,
-}
-
-impl From<OutOfMemory> for MigrateError {
-    ghost from_gives = { λ _ e. e ≡ NoMemoryToMigrate };
-
-    fn from(_error: OutOfMemory) -> MigrateError {
-        MigrateError::OutOfMemory
-    }
 }

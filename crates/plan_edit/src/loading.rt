@@ -4,10 +4,10 @@ ghost use Rattle.std.specs.Prelude.{◌≡◌, ◌<◌, ◌≤◌, ◌+◌, IsTr
 ghost use Rattle.std.specs.Ordering.{nat_cmp};
 ghost use Rattle.std.specs.BTreeMap.{get as noted_at};
 ghost use Rattle.aerie_base.specs.models.ValidModel.{valid_model};
-ghost use Rattle.aerie_base.specs.plans.OfModel.{IsPlanOf};
+ghost use Rattle.aerie_base.specs.plans.OfModel.{is_dangling, IsPlanOf};
 ghost use Rattle.plan_edit.specs.Answers.{IsMade, IsRefusal};
 ghost use Rattle.plan_edit.specs.Editing.{ChangesAt};
-ghost use Rattle.plan_edit.specs.Loading.{anchor_anew as anchor_anew_by, directive_anew, directives_of_text as directives_by_text, is_past_room as is_past_by, is_tied as is_tied_by, load_all as load_all_by, load_of, load_one as load_one_by, load_placed as load_placed_by, load_written as load_written_by, place_noted, with_loaded, IsIndexOf, NotesOneMore};
+ghost use Rattle.plan_edit.specs.Loading.{anchor_to_new_id as anchor_to_new_id_by, anchored_to_new_id, directives_of_text as directives_by_text, is_id_of_one, is_past_room as is_past_by, load_all as load_all_by, load_of, load_one as load_one_by, load_placed as load_placed_by, load_written as load_written_by, position_noted, with_loaded, IsIndexOf, NotesOneMore};
 ghost use Rattle.plan_edit.specs.PlanForm.{if_formed, plan_text};
 
 use crate::adding::given_of;
@@ -95,14 +95,14 @@ fn load_written(
     let _types = model.activities();
     let index = index_of(alloc, all)?;
     let mut directives = load_all(alloc, model, plan, &index, all)?;
-    anew(&mut directives, plan.next_id, &index, all);
+    anchor_to_new_ids(&mut directives, plan.next_id, &index, all);
     if has_cycle(alloc, directives.as_slice())? {
         return Err(EditError::Cycle);
     }
     Ok(directives)
 }
 
-/// The places of directives by the ids that stand in the text.
+/// The positions of directives by the ids that stand in the text.
 fn index_of(
     alloc: Global,
     all: &[WrittenDirective],
@@ -110,23 +110,23 @@ fn index_of(
     ensures { IfOk result (λ index. IsIndexOf (noted_at nat_cmp index) all.now) }
 {
     let mut index = BTreeMap::new(alloc);
-    for place in 0..all.len() {
-        let written = &all[place];
-        note(&mut index, written.id, place)?;
+    for position in 0..all.len() {
+        let written = &all[position];
+        note(&mut index, written.id, position)?;
     }
     Ok(index)
 }
 
-/// Notes the place of a directive for its id, where it has one.
+/// Notes the position of a directive for its id, where it has one.
 fn note(
     index: &mut BTreeMap<u32, Option<usize>>,
     id: Option<u32>,
-    place: usize,
+    position: usize,
 ) -> Result<(), OutOfMemory>
-    ensures { OnOk result (NotesOneMore place id (noted_at nat_cmp index.old) (noted_at nat_cmp index.new)) }
+    ensures { OnOk result (NotesOneMore position id (noted_at nat_cmp index.old) (noted_at nat_cmp index.new)) }
 {
     match id {
-        Some(id) => note_id(index, id, place),
+        Some(id) => note_id(index, id, position),
         None => Ok(()),
     }
 }
@@ -135,21 +135,21 @@ fn note(
 fn note_id(
     index: &mut BTreeMap<u32, Option<usize>>,
     id: u32,
-    place: usize,
+    position: usize,
 ) -> Result<(), OutOfMemory>
-    ensures { OnOk result (NotesOneMore place (Some id) (noted_at nat_cmp index.old) (noted_at nat_cmp index.new)) }
+    ensures { OnOk result (NotesOneMore position (Some id) (noted_at nat_cmp index.old) (noted_at nat_cmp index.new)) }
 {
     let noted = match index.get(&id) {
         Some(_) => None,
-        None => Some(place),
+        None => Some(position),
     };
     index.insert(id, noted)?;
     Ok(())
 }
 
-/// The place of the one directive with an id.
-fn place_of(index: &BTreeMap<u32, Option<usize>>, id: u32) -> Option<usize>
-    ensures { result ≡ place_noted (noted_at nat_cmp index.now id) }
+/// The position of the one directive with an id.
+fn position_of(index: &BTreeMap<u32, Option<usize>>, id: u32) -> Option<usize>
+    ensures { result ≡ position_noted (noted_at nat_cmp index.now id) }
 {
     match index.get(&id) {
         Some(noted) => *noted,
@@ -157,18 +157,18 @@ fn place_of(index: &BTreeMap<u32, Option<usize>>, id: u32) -> Option<usize>
     }
 }
 
-/// Whether an anchor names one directive.
-fn is_tied(
+/// Whether an anchor is to no directive of the text, or to several.
+fn is_dangling(
     index: &BTreeMap<u32, Option<usize>>,
     all: &[WrittenDirective],
     anchor: Option<Anchor>,
 ) -> bool
     requires index { IsIndexOf (noted_at nat_cmp index.now) all.now }
-    ensures { result ≡ is_tied_by all.now anchor }
+    ensures { result ≡ is_dangling (is_id_of_one all.now) anchor }
 {
     match anchor {
-        Some(anchor) => place_of(index, anchor.to).is_some(),
-        None => true,
+        Some(anchor) => position_of(index, anchor.to).is_none(),
+        None => false,
     }
 }
 
@@ -234,7 +234,7 @@ fn load_placed(
     if is_past_room(plan, number) {
         return Err(EditError::TooMany);
     }
-    if !is_tied(index, all, written.anchor) {
+    if is_dangling(index, all, written.anchor) {
         return Err(EditError::NoAnchor);
     }
     Ok(Directive {
@@ -247,7 +247,7 @@ fn load_placed(
 }
 
 /// Anchors the directives to the new ids of those that they name.
-fn anew(
+fn anchor_to_new_ids(
     directives: &mut List<Directive>,
     first: u32,
     index: &BTreeMap<u32, Option<usize>>,
@@ -255,15 +255,15 @@ fn anew(
 )
     requires index { IsIndexOf (noted_at nat_cmp index.now) all.now }
     requires few { 0 < length directives.old → first + length all.now < 4_294_967_296 }
-    ensures { directives.new ≡ map (directive_anew first all.now) directives.old }
+    ensures { directives.new ≡ map (anchored_to_new_id first all.now) directives.old }
 {
     for at in 0..directives.len() {
-        put_anew(directives, at, first, index, all);
+        put_new_anchor(directives, at, first, index, all);
     }
 }
 
 /// Anchors a directive to the new id of the one that it names.
-fn put_anew(
+fn put_new_anchor(
     directives: &mut List<Directive>,
     at: usize,
     first: u32,
@@ -273,14 +273,14 @@ fn put_anew(
     requires within { at < length directives.old }
     requires index { IsIndexOf (noted_at nat_cmp index.now) all.now }
     requires few { first + length all.now < 4_294_967_296 }
-    ensures { ChangesAt at (directive_anew first all.now) directives.old directives.new }
+    ensures { ChangesAt at (anchored_to_new_id first all.now) directives.old directives.new }
 {
     let directive = &mut directives.items[at];
-    directive.anchor = anchor_anew(directive.anchor, first, index, all);
+    directive.anchor = anchor_to_new_id(directive.anchor, first, index, all);
 }
 
 /// An anchor to the new id of the directive that it names.
-fn anchor_anew(
+fn anchor_to_new_id(
     anchor: Option<Anchor>,
     first: u32,
     index: &BTreeMap<u32, Option<usize>>,
@@ -288,11 +288,11 @@ fn anchor_anew(
 ) -> Option<Anchor>
     requires index { IsIndexOf (noted_at nat_cmp index.now) all.now }
     requires few { first + length all.now < 4_294_967_296 }
-    ensures { result ≡ option_map (anchor_anew_by first all.now) anchor }
+    ensures { result ≡ option_map (anchor_to_new_id_by first all.now) anchor }
 {
     match anchor {
         Some(anchor) => Some(Anchor {
-            to: first + place_of(index, anchor.to).unwrap_or(0) as u32,
+            to: first + position_of(index, anchor.to).unwrap_or(0) as u32,
             edge: anchor.edge,
         }),
         None => None,

@@ -28,9 +28,9 @@ pub struct TypeRule {
 /// How the plans of one model become plans of another.
 #[derive(Debug, Drop)]
 pub struct Mapping {
-    /// The place of the old model among the models of the session, from 0.
+    /// The position of the old model among the models of the session, from 0.
     pub from: u16,
-    /// The place of the new model among them.
+    /// The position of the new model among them.
     pub to: u16,
     /// The rules, at most one for each type of the old model.
     pub rules: List<TypeRule>,

@@ -4,7 +4,7 @@ ghost use Rattle.std.specs.Prelude.{◌≡◌, ◌<◌, IsTrue, Some, Ok, IfOk, 
 ghost use Rattle.std.specs.List.{list_all};
 ghost use Rattle.aerie_base.specs.plans.OfModel.{IsPlanOf};
 ghost use Rattle.plan_edit.specs.Mappings.{IsMappingOf, is_type_rule};
-ghost use Rattle.plan_edit.specs.Migrating.{takes_arguments, kinds_of_parameters, all_fed as all_fed_by, all_migrated as all_migrated_by, by_rule as made_by_rule, fed as fed_by, is_feed_within, migrate_of, migrated as migrated_by, retyped as retyped_by, rule_of, AreDirectivesOf, IsMigrated, IsMigrateRefusal, IsRuleTable};
+ghost use Rattle.plan_edit.specs.Migrating.{takes_arguments, kinds_of_parameters, mapped_arguments as mapped_arguments_by, all_migrated as all_migrated_by, by_rule as made_by_rule, mapped_argument as mapped_argument_by, is_feed_within, migrate_of, migrated as migrated_by, retyped as retyped_by, rule_of, AreDirectivesOf, IsMigrated, IsMigrateRefusal, IsRuleTable};
 
 use crate::errors::MigrateError;
 use crate::items::item_at;
@@ -37,7 +37,7 @@ pub fn migrate(
     Ok(())
 }
 
-/// The place of the first rule for each of so many types.
+/// The position of the first rule for each of so many types.
 fn rule_table(
     alloc: Global,
     rules: &[TypeRule],
@@ -48,18 +48,18 @@ fn rule_table(
 {
     let mut table = Vec::with_capacity(alloc, types)?;
     for kind in 0..types {
-        table.push(rule_place(rules, kind))?;
+        table.push(rule_position(rules, kind))?;
     }
     Ok(table)
 }
 
-/// The place of the first rule for a type.
-fn rule_place(rules: &[TypeRule], kind: usize) -> Option<usize>
+/// The position of the first rule for a type.
+fn rule_position(rules: &[TypeRule], kind: usize) -> Option<usize>
     ensures { option_and_then (slice_get rules.now) result ≡ rule_of rules.now kind }
 {
-    for place in 0..rules.len() {
-        if usize::from(rules[place].old) == kind {
-            return Some(place);
+    for position in 0..rules.len() {
+        if usize::from(rules[position].old) == kind {
+            return Some(position);
         }
     }
     None
@@ -72,7 +72,7 @@ fn rule_for<'a>(rules: &'a [TypeRule], table: &[Option<usize>], kind: u16) -> Op
     ensures { option_copied result ≡ rule_of rules.now kind }
 {
     match table[usize::from(kind)] {
-        Some(place) => item_at(rules, place),
+        Some(position) => item_at(rules, position),
         None => None,
     }
 }
@@ -134,7 +134,7 @@ fn by_rule(
     ensures { IsMigrated (made_by_rule new.now directive.now (Some rule.now)) result }
 {
     let activity = &new.activities()[usize::from(rule.new)];
-    let values = all_fed(
+    let values = mapped_arguments(
         alloc,
         activity.parameters.as_slice(),
         rule.feeds.as_slice(),
@@ -156,7 +156,7 @@ fn by_rule(
 }
 
 /// What the parameters get of the old arguments.
-fn all_fed(
+fn mapped_arguments(
     alloc: Global,
     parameters: &[Parameter],
     feeds: &[Feed],
@@ -164,22 +164,23 @@ fn all_fed(
 ) -> Result<List<Value>, OutOfMemory>
     requires count { length feeds.now ≡ length parameters.now }
     requires within { IsTrue (list_all (is_feed_within (length arguments.now)) feeds.now) }
-    ensures { IfOk result (λ values. values ≡ all_fed_by arguments.now (kinds_of_parameters parameters.now) feeds.now) }
+    ensures { IfOk result (λ values.
+        values ≡ mapped_arguments_by arguments.now (kinds_of_parameters parameters.now) feeds.now) }
 {
     let mut values = List::with_capacity(alloc, parameters.len())?;
-    for place in 0..parameters.len() {
-        values.push(fed(arguments, parameters[place].kind, &feeds[place]))?;
+    for position in 0..parameters.len() {
+        values.push(mapped_argument(arguments, parameters[position].kind, &feeds[position]))?;
     }
     Ok(values)
 }
 
 /// What a parameter of a type gets of the old arguments.
-fn fed(arguments: &[Value], kind: Kind, feed: &Feed) -> Value
+fn mapped_argument(arguments: &[Value], kind: Kind, feed: &Feed) -> Value
     requires { IsTrue (is_feed_within (length arguments.now) feed.now) }
-    ensures { result ≡ fed_by arguments.now kind feed.now }
+    ensures { result ≡ mapped_argument_by arguments.now kind feed.now }
 {
     match feed {
-        Feed::Old(place) => retyped(kind, arguments[usize::from(*place)]),
+        Feed::Old(position) => retyped(kind, arguments[usize::from(*position)]),
         Feed::Fixed(value) => *value,
     }
 }

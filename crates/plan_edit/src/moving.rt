@@ -7,8 +7,8 @@ ghost use Rattle.plan_edit.specs.Editing.{leads_to as leads_to_by, move_of, reac
 
 use crate::changing::put_when;
 use crate::errors::EditError;
-use crate::placing::{is_loose, is_outside};
-use aerie_base::{Anchor, Directive, Plan, When, position_of_id};
+use crate::placing::{is_dangling, is_outside};
+use aerie_base::{Anchor, Directive, Plan, When, position_in_plan};
 
 /// Gives the directive with an id another start. It refuses with `NoDirective`, `OutsidePlan`, `NoAnchor` or `Cycle`,
 /// whichever comes first in this order. It takes no memory, and a search by halves for each anchor that it follows.
@@ -19,14 +19,14 @@ pub fn move_to(plan: &mut Plan, id: u32, to: When) -> Result<(), EditError>
     ensures unchanged { OnErr result (plan.new ≡ plan.old) }
     ensures stays { (model : Parts) → IsPlanOf model plan.old → IsPlanOf model plan.new }
 {
-    let at = match position_of_id(plan.directives.as_slice(), id) {
+    let at = match position_in_plan(plan.directives.as_slice(), id) {
         Some(at) => at,
         None => return Err(EditError::NoDirective),
     };
     if is_outside(plan, to.start) {
         return Err(EditError::OutsidePlan);
     }
-    if is_loose(plan, to.anchor) {
+    if is_dangling(plan, to.anchor) {
         return Err(EditError::NoAnchor);
     }
     if leads_to(plan, id, to.anchor) {
@@ -70,14 +70,14 @@ fn anchor_of(directives: &[Directive], id: u32) -> Option<u32>
     requires rising { Rise directives.now }
     ensures { result ≡ anchor_by directives.now id }
 {
-    match position_of_id(directives, id) {
-        Some(at) => lead_of(&directives[at]),
+    match position_in_plan(directives, id) {
+        Some(at) => anchored_to(&directives[at]),
         None => None,
     }
 }
 
 /// The id to which a directive is anchored.
-pub fn lead_of(directive: &Directive) -> Option<u32>
+fn anchored_to(directive: &Directive) -> Option<u32>
     ensures { result ≡ anchored_to directive.now }
 {
     match directive.anchor {

@@ -1,10 +1,10 @@
 //! Where a directive may stand.
 
 ghost use Rattle.std.specs.Prelude.{◌≡◌, Some};
-ghost use Rattle.aerie_base.specs.plans.OfModel.{is_there as is_there_by, Rise};
-ghost use Rattle.plan_edit.specs.Editing.{is_full as is_full_by, is_loose as is_loose_by, is_outside as is_outside_by};
+ghost use Rattle.aerie_base.specs.plans.OfModel.{is_dangling as is_dangling_by, is_id_of, is_there as is_there_by, Rise};
+ghost use Rattle.plan_edit.specs.Editing.{is_full as is_full_by, is_outside as is_outside_by};
 
-use aerie_base::{Anchor, Plan, Time, position_of_id};
+use aerie_base::{Anchor, Plan, Time, position_in_plan};
 
 /// The most directives of a plan.
 const MOST_DIRECTIVES: usize = 65_536;
@@ -27,9 +27,9 @@ pub fn is_full(plan: &Plan) -> bool
 }
 
 /// Whether an anchor is to no directive of the plan.
-pub fn is_loose(plan: &Plan, anchor: Option<Anchor>) -> bool
+pub fn is_dangling(plan: &Plan, anchor: Option<Anchor>) -> bool
     requires rising { Rise plan.now.directives }
-    ensures { result ≡ is_loose_by plan.now anchor }
+    ensures { result ≡ is_dangling_by (is_id_of plan.now.directives) anchor }
 {
     match anchor {
         Some(anchor) => !is_there(plan, anchor.to),
@@ -42,5 +42,5 @@ fn is_there(plan: &Plan, id: u32) -> bool
     requires rising { Rise plan.now.directives }
     ensures { result ≡ is_there_by plan.now.directives (Some id) }
 {
-    position_of_id(plan.directives.as_slice(), id).is_some()
+    position_in_plan(plan.directives.as_slice(), id).is_some()
 }

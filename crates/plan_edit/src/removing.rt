@@ -7,7 +7,7 @@ ghost use Rattle.aerie_base.specs.plans.OfModel.{IsPlanOf, Rise};
 ghost use Rattle.plan_edit.specs.Editing.{is_anchored_to as is_anchored, remove_of};
 
 use crate::errors::EditError;
-use aerie_base::{Directive, Plan, position_of_id};
+use aerie_base::{Directive, Plan, position_in_plan};
 
 /// Removes the directive with an id. It refuses with `NoDirective` where there is none, and with `Anchored` where another
 /// directive is anchored to it. It takes no memory, and one pass over the directives.
@@ -18,7 +18,7 @@ pub fn remove(plan: &mut Plan, id: u32) -> Result<(), EditError>
     ensures unchanged { OnErr result (plan.new ≡ plan.old) }
     ensures stays { (model : Parts) → IsPlanOf model plan.old → IsPlanOf model plan.new }
 {
-    let at = match position_of_id(plan.directives.as_slice(), id) {
+    let at = match position_in_plan(plan.directives.as_slice(), id) {
         Some(at) => at,
         None => return Err(EditError::NoDirective),
     };

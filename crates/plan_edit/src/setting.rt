@@ -7,11 +7,11 @@ ghost use Rattle.plan_edit.specs.Answers.{IsMade, IsRefusal};
 ghost use Rattle.plan_edit.specs.Editing.{arguments_set_for as arguments_set_by, set_of};
 
 use crate::adding::if_met;
-use crate::arguments::{parameter_place, value_for};
+use crate::arguments::{parameter_position, value_for};
 use crate::changing::put_arguments;
 use crate::errors::EditError;
 use crate::items::item_at;
-use aerie_base::{List, Model, Name, Plan, RawValue, Value, copy_list, position_of_id};
+use aerie_base::{List, Model, Name, Plan, RawValue, Value, copy_list, position_in_plan};
 use std::alloc::Global;
 
 /// Gives the directive with an id another value of one argument. It refuses with `NoDirective`, `BadArgument` or
@@ -30,7 +30,7 @@ pub fn set_argument(
     ensures unchanged { OnErr result (plan.new ≡ plan.old) }
     ensures plan { IsPlanOf model.now plan.new }
 {
-    let at = match position_of_id(plan.directives.as_slice(), id) {
+    let at = match position_in_plan(plan.directives.as_slice(), id) {
         Some(at) => at,
         None => return Err(EditError::NoDirective),
     };
@@ -66,12 +66,12 @@ fn arguments_set(
     };
     let parameters = activity.parameters.as_slice();
     match (
-        parameter_place(parameters, parameter),
+        parameter_position(parameters, parameter),
         value_for(model, parameters, parameter, value),
     ) {
-        (Some(place), Some(value)) => {
+        (Some(position), Some(value)) => {
             let values = copy_list(alloc, arguments)?;
-            if_met(activity, with_value(values, place, value))
+            if_met(activity, with_value(values, position, value))
         }
         _ => Err(EditError::BadArgument {
             parameter: parameter.copy(alloc)?,
@@ -79,12 +79,12 @@ fn arguments_set(
     }
 }
 
-/// Values with another one at a place.
-fn with_value(values: List<Value>, place: usize, value: Value) -> List<Value>
-    requires { place < length values }
-    ensures { result ≡ slice_set values place value }
+/// Values with another one at a position.
+fn with_value(values: List<Value>, position: usize, value: Value) -> List<Value>
+    requires { position < length values }
+    ensures { result ≡ slice_set values position value }
 {
     let mut values = values;
-    values.items[place] = value;
+    values.items[position] = value;
     values
 }

@@ -1,61 +1,36 @@
 -- What is found by an id among directives whose ids rise.
-use Rattle.std.proofs.Common.{◌≡◌, ℕ, zero, suc, ◌<◌, ◌||◌, Bool, true, false, IsTrue, List, [], ◌∷◌, Option, Some, None, is_some, map, length, get_or, slice_get, slice_set, slice_index_or, nat_eq, nat_lt, refl, sym, ap, ◌∙◌, eq-eqb, ne_eqb, eqb-true, ne_of_lt, ltb-true, if◌then◌else◌, true≢false, arith}
-use Rattle.std.specs.List.{list_any}
+use Rattle.std.proofs.Common.{◌≡◌, ℕ, zero, suc, ◌<◌, ◌||◌, Bool, true, false, IsTrue, List, [], ◌∷◌, Option, Some, None, map, length, get_or, slice_get, slice_set, slice_index_or, nat_eq, nat_lt, refl, sym, ap, ◌∙◌, eq-eqb, ne_eqb, ne_of_lt, ltb-true, if◌then◌else◌, arith}
 use Rattle.std.proofs.lemmas.Option.{none-some, same_Some, slice_get_read}
 use Rattle.aerie_base.specs.declared.plans.Directive.{Directive}
 use Rattle.aerie_base.specs.plans.OfModel.{rise_to, ids_of, with_id}
-use Rattle.aerie_base.specs.plans.RisingIds.{above, found_by_id}
-use Rattle.plan_merge.specs.Renaming.{has}
-use Rattle.plan_merge.specs.Leads.{lead_at}
-use Rattle.plan_merge.proofs.Renames.{both, id_found, none_within}
+use Rattle.aerie_base.specs.plans.FoundById.{at_place, eq_back}
+use Rattle.aerie_base.specs.plans.RisingIds.{above, both, found_by_id}
+use Rattle.plan_merge.specs.Reached.{reached_from_id}
 
--- a test of equality, either way round
-pub eq_back : (a b : ℕ) (t : Bool) → nat_eq a b ≡ t → nat_eq b a ≡ t
-eq_back a b true h = eq-eqb b a (sym (eqb-true a b h))
-eq_back a b false h = go (nat_eq b a) refl
+-- ---- what is reached
+
+pub none_reached : (directives : List Directive) (reached : List (Option ℕ)) (id : ℕ) → with_id directives id ≡ None → reached_from_id directives reached id ≡ None
+none_reached [] reached id none = refl
+none_reached (first ∷ rest) [] id none = refl
+none_reached (first ∷ rest) (reached_one ∷ reached) id none = go (none_reached rest reached id) (nat_eq first.id id) refl none
   where
-    go : (t : Bool) → nat_eq b a ≡ t → nat_eq b a ≡ false
-    go true k = absurd (true≢false (sym (eq-eqb a b (sym (eqb-true b a k))) ∙ h))
-    go false k = k
-
--- one of the ids is this one exactly where a directive has it
-pub among : (directives : List Directive) (id : ℕ) → has directives id ≡ list_any (nat_eq id) (ids_of directives)
-among [] id = refl
-among (first ∷ rest) id = go (among rest id) (nat_eq first.id id) refl
-  where
-    go : has rest id ≡ list_any (nat_eq id) (ids_of rest) → (t : Bool) → nat_eq first.id id ≡ t →
-        is_some (if nat_eq first.id id then Some first else with_id rest id) ≡ (nat_eq id first.id || list_any (nat_eq id) (ids_of rest))
-    go others true h =
-        ap (λ (t : Bool). is_some (if t then Some first else with_id rest id)) h
-        ∙ sym (ap (λ (t : Bool). t || list_any (nat_eq id) (ids_of rest)) (eq_back first.id id true h))
-    go others false h =
-        ap (λ (t : Bool). is_some (if t then Some first else with_id rest id)) h ∙ others
-        ∙ sym (ap (λ (t : Bool). t || list_any (nat_eq id) (ids_of rest)) (eq_back first.id id false h))
-
--- ---- leads
-
-pub no_lead : (directives : List Directive) (leads : List (Option ℕ)) (id : ℕ) → with_id directives id ≡ None → lead_at directives leads id ≡ None
-no_lead [] leads id none = refl
-no_lead (first ∷ rest) [] id none = refl
-no_lead (first ∷ rest) (lead ∷ leads) id none = go (no_lead rest leads id) (nat_eq first.id id) refl none
-  where
-    go : (with_id rest id ≡ None → lead_at rest leads id ≡ None) → (t : Bool) → nat_eq first.id id ≡ t →
-        (if t then Some first else with_id rest id) ≡ None → (if nat_eq first.id id then lead else lead_at rest leads id) ≡ None
+    go : (with_id rest id ≡ None → reached_from_id rest reached id ≡ None) → (t : Bool) → nat_eq first.id id ≡ t →
+        (if t then Some first else with_id rest id) ≡ None → (if nat_eq first.id id then reached_one else reached_from_id rest reached id) ≡ None
     go others true h none = absurd (none-some first (sym none))
-    go others false h none = ap (λ (t : Bool). if t then lead else lead_at rest leads id) h ∙ others none
+    go others false h none = ap (λ (t : Bool). if t then reached_one else reached_from_id rest reached id) h ∙ others none
 
 module _ (most : ℕ) where
-  lead_there : (before : ℕ) (directives : List Directive) (leads : List (Option ℕ)) (at : ℕ) (found : Directive) → IsTrue (rise_to most before (ids_of directives)) →
-      length leads ≡ length directives → slice_get directives at ≡ Some found → slice_index_or leads at None ≡ lead_at directives leads found.id
-  lead_there before [] leads at found rise count here = absurd (none-some found here)
-  lead_there before (first ∷ rest) [] at found rise count here = absurd (omega (arith, count))
-  lead_there before (first ∷ rest) (lead ∷ leads) zero found rise count here =
-      sym (ap (λ (t : Bool). if t then lead else lead_at rest leads found.id) (eq-eqb first.id found.id (ap (λ (d : Directive). d.id) (same_Some first found here))))
-  lead_there before (first ∷ rest) (lead ∷ leads) (suc at) found rise count here =
+  reached_there : (before : ℕ) (directives : List Directive) (reached : List (Option ℕ)) (at : ℕ) (found : Directive) → IsTrue (rise_to most before (ids_of directives)) →
+      length reached ≡ length directives → slice_get directives at ≡ Some found → slice_index_or reached at None ≡ reached_from_id directives reached found.id
+  reached_there before [] reached at found rise count here = absurd (none-some found here)
+  reached_there before (first ∷ rest) [] at found rise count here = absurd (omega (arith, count))
+  reached_there before (first ∷ rest) (reached_one ∷ reached) zero found rise count here =
+      sym (ap (λ (t : Bool). if t then reached_one else reached_from_id rest reached found.id) (eq-eqb first.id found.id (ap (λ (d : Directive). d.id) (same_Some first found here))))
+  reached_there before (first ∷ rest) (reached_one ∷ reached) (suc at) found rise count here =
       let parts = both (nat_lt before first.id) (rise_to most first.id (ids_of rest)) rise in
-      let more : length leads ≡ length rest = omega (arith, count) in
-      lead_there first.id rest leads at found parts.1 more here
-      ∙ sym (ap (λ (t : Bool). if t then lead else lead_at rest leads found.id) (ne_eqb first.id found.id (ne_of_lt (above most first.id rest at found parts.1 here))))
+      let more : length reached ≡ length rest = omega (arith, count) in
+      reached_there first.id rest reached at found parts.1 more here
+      ∙ sym (ap (λ (t : Bool). if t then reached_one else reached_from_id rest reached found.id) (ne_eqb first.id found.id (ne_of_lt (above most first.id rest at found parts.1 here))))
 
   -- ---- marks
 
@@ -118,19 +93,11 @@ unmarked led (first ∷ rest) id none = go (unmarked led rest id) (nat_eq first.
 
 -- ---- the same at a place that a search found
 
-pub at_place : (directives : List Directive) (at id : ℕ) → at < length directives → slice_get directives at ≡ with_id directives id →
-    (found : Directive) × ((slice_get directives at ≡ Some found) × (found.id ≡ id))
-at_place directives at id within same = go (slice_get directives at) refl
-  where
-    go : (found : Option Directive) → slice_get directives at ≡ found → (found : Directive) × ((slice_get directives at ≡ Some found) × (found.id ≡ id))
-    go None none = absurd (none_within directives at within none)
-    go (Some found) here = (found, (here, id_found directives id found (sym same ∙ here)))
-
-pub lead_found : (directives : List Directive) (leads : List (Option ℕ)) (at id : ℕ) → (most : ℕ) × IsTrue (rise_to most 0 (ids_of directives)) → length leads ≡ length directives →
-    at < length directives → slice_get directives at ≡ with_id directives id → slice_index_or leads at None ≡ lead_at directives leads id
-lead_found directives leads at id rise count within same =
+pub reached_found : (directives : List Directive) (reached : List (Option ℕ)) (at id : ℕ) → (most : ℕ) × IsTrue (rise_to most 0 (ids_of directives)) → length reached ≡ length directives →
+    at < length directives → slice_get directives at ≡ with_id directives id → slice_index_or reached at None ≡ reached_from_id directives reached id
+reached_found directives reached at id rise count within same =
     let one = at_place directives at id within same in
-    lead_there rise.0 0 directives leads at one.0 rise.1 count one.1.0 ∙ ap (lead_at directives leads) one.1.1
+    reached_there rise.0 0 directives reached at one.0 rise.1 count one.1.0 ∙ ap (reached_from_id directives reached) one.1.1
 
 pub mark_found : (led : Directive → Bool) (directives : List Directive) (at id : ℕ) → (most : ℕ) × IsTrue (rise_to most 0 (ids_of directives)) →
     at < length directives → slice_get directives at ≡ with_id directives id → slice_set (map led directives) at true ≡ map (λ (d : Directive). led d || nat_eq id d.id) directives

@@ -1,13 +1,10 @@
 mod Same
-pub mod MergedPlans
-pub mod Renames
-pub mod Steps
-pub mod Finds
-pub mod Doubled
-pub mod Loops
+mod Renames
+mod Steps
+mod Finds
+mod Doubled
 mod Small
 mod Rising
 mod Merges
 mod Nothing
-mod Members
 mod SourceOnly

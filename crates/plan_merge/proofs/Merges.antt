@@ -5,18 +5,18 @@ use Rattle.std.proofs.lemmas.Option.{none-some, same_Some}
 use Rattle.aerie_base.specs.declared.plans.Directive.{Directive}
 use Rattle.aerie_base.specs.declared.plans.Plan.{Plan}
 use Rattle.aerie_base.specs.plans.OfModel.{directive_limit, rise_to, ids_of, with_id, is_there, anchored_to, followed}
+use Rattle.aerie_base.specs.plans.FollowedAnchors.{nowhere}
+use Rattle.aerie_base.specs.plans.FoundById.{id_found}
+use Rattle.plan_merge.specs.CycleLaws.{round_within}
 use Rattle.plan_merge.specs.declared.answers.Merged.{Merged}
 use Rattle.plan_merge.specs.declared.answers.Conflict.{Conflict}
 use Rattle.plan_merge.specs.declared.answers.MergeError.{MergeError}
 use Rattle.plan_merge.specs.declared.answers.MergeError.TheVariants.{Conflicts, TooMany}
 use Rattle.plan_merge.specs.declared.answers.ConflictKind.{ConflictKind}
 use Rattle.plan_merge.specs.declared.answers.ConflictKind.TheVariants.{Anchor, Cycle}
-use Rattle.plan_merge.specs.Merging.{is_astray, is_on_cycle, conflicts_of, conflict_where, made_or_conflicts, made, unless, returns_within}
+use Rattle.plan_merge.specs.Merging.{has_dangling_anchor, is_on_cycle, conflicts_of, conflict_where, made_or_conflicts, made, unless, returns_within}
 use Rattle.plan_merge.specs.Plans.{IsInOrder}
 use Rattle.plan_merge.specs.Answers.{UnlessOutOfMemory}
-use Rattle.plan_merge.proofs.Doubled.{nowhere}
-use Rattle.plan_merge.proofs.Renames.{id_found}
-use Rattle.plan_merge.proofs.Loops.{round_within}
 
 pub length_filter_map : {X Y : Type 0} (h : X → Option Y) (xs : List X) → length (filter_map h xs) ≤ length xs
 length_filter_map h [] = omega arith
@@ -48,7 +48,7 @@ not_found kind test (d ∷ rest) id found none here = go (test d) refl none (nat
     go false is none false here others = others none here
 
 module _ (target : Plan) (next : ℕ) (ds new : List Directive) (rising : IsTrue (rise_to next 0 (ids_of ds))) where
-  in_order : conflicts_of Anchor (is_astray ds) ds ≡ [] → conflicts_of Cycle (is_on_cycle ds) ds ≡ [] → length ds ≤ directive_limit → IsInOrder (record target { next_id = next; directives = ds })
+  in_order : conflicts_of Anchor (has_dangling_anchor ds) ds ≡ [] → conflicts_of Cycle (is_on_cycle ds) ds ≡ [] → length ds ≤ directive_limit → IsInOrder (record target { next_id = next; directives = ds })
   in_order anchors cycles few = record {
     count = few;
     ids = rising;
@@ -65,7 +65,7 @@ module _ (target : Plan) (next : ℕ) (ds new : List Directive) (rising : IsTrue
               true≢false (sym (round_within ds steps id round) ∙ ap (λ (i : ℕ). returns_within ds i (length ds)) (sym (id_found ds id found here))
               ∙ not_found Cycle (is_on_cycle ds) ds id found cycles here)
 
-  made_order : conflicts_of Anchor (is_astray ds) ds ≡ [] → conflicts_of Cycle (is_on_cycle ds) ds ≡ [] → (m : Merged) → made target next ds new ≡ Ok m → IsInOrder m.plan
+  made_order : conflicts_of Anchor (has_dangling_anchor ds) ds ≡ [] → conflicts_of Cycle (is_on_cycle ds) ds ≡ [] → (m : Merged) → made target next ds new ≡ Ok m → IsInOrder m.plan
   made_order anchors cycles m h = go (nat_lt directive_limit (length ds)) (nat_lt 4_294_967_295 next) refl h
     where
       go : (t u : Bool) → nat_lt directive_limit (length ds) ≡ t → (if (t || u) then Err TooMany else Ok (record { plan = record target { next_id = next; directives = ds }; added = ids_of new })) ≡ Ok m → IsInOrder m.plan
@@ -81,9 +81,9 @@ module _ (target : Plan) (next : ℕ) (ds new : List Directive) (rising : IsTrue
 
   pub judged_order : (r : Result Merged MergeError) → UnlessOutOfMemory (made_or_conflicts target next ds new) r → IfOk r (λ m. IsInOrder m.plan)
   judged_order (Err e) h = tt
-  judged_order (Ok m) h = go (conflicts_of Anchor (is_astray ds) ds) refl (conflicts_of Cycle (is_on_cycle ds) ds) refl h
+  judged_order (Ok m) h = go (conflicts_of Anchor (has_dangling_anchor ds) ds) refl (conflicts_of Cycle (is_on_cycle ds) ds) refl h
     where
-      go : (a : List Conflict) → conflicts_of Anchor (is_astray ds) ds ≡ a → (b : List Conflict) → conflicts_of Cycle (is_on_cycle ds) ds ≡ b → unless a (unless b (made target next ds new)) ≡ Ok m → IsInOrder m.plan
+      go : (a : List Conflict) → conflicts_of Anchor (has_dangling_anchor ds) ds ≡ a → (b : List Conflict) → conflicts_of Cycle (is_on_cycle ds) ds ≡ b → unless a (unless b (made target next ds new)) ≡ Ok m → IsInOrder m.plan
       go (x ∷ xs) is b cycles h = absurd (err_ok (x ∷ xs) h)
         where
           err_ok : (cs : List Conflict) → Err (Conflicts cs) ≡ Ok m → ⊥

@@ -8,16 +8,17 @@ use Rattle.aerie_base.specs.declared.plans.Directive.{Directive}
 use Rattle.aerie_base.specs.declared.plans.Plan.{Plan}
 use Rattle.aerie_base.specs.plans.OfModel.{directive_limit, with_id, is_there, anchored_to}
 use Rattle.aerie_base.specs.plans.RisingIds.{found_by_id}
-use Rattle.plan_merge.specs.declared.answers.ConflictKind.TheVariants.{Anchor as Astray, Both, Cycle, Removed}
+use Rattle.aerie_base.specs.plans.FoundById.{id_found}
+use Rattle.plan_merge.specs.CycleLaws.{within_true}
+use Rattle.plan_merge.specs.declared.answers.ConflictKind.TheVariants.{Anchor as Dangling, Both, Cycle, Removed}
 use Rattle.plan_merge.specs.declared.answers.MergeError.TheVariants.{TooMany}
 use Rattle.plan_merge.specs.Renaming.{new_id, with_new_id, renamed, renamed_if_new, added, first_new}
 use Rattle.plan_merge.specs.Table.{same, row}
-use Rattle.plan_merge.specs.Merging.{becomes, source_with, clash_of, clashes, what_is_left, left_by, left_of_target, merged, conflicts_of, conflict_where, is_astray, is_on_cycle, returns_within, unless, made, made_or_conflicts, merge_of, next_after}
+use Rattle.plan_merge.specs.Merging.{becomes, source_with, clash_of, clashes, what_is_left, left_by, left_of_target, merged, conflicts_of, conflict_where, has_dangling_anchor, is_on_cycle, returns_within, unless, made, made_or_conflicts, merge_of, next_after}
 use Rattle.plan_merge.specs.Plans.{AreMergeable}
-use Rattle.plan_merge.proofs.Renames.{stays, id_found}
+use Rattle.plan_merge.proofs.Renames.{stays}
 use Rattle.plan_merge.proofs.Rising.{kept_id}
 use Rattle.plan_merge.proofs.Same.{decides_same}
-use Rattle.plan_merge.proofs.Loops.{within_true}
 
 -- a function that gives nothing of each item, and one that gives each item
 pub gives_none : {X Y : Type 0} (h : X → Option Y) (xs : List X) → ((at : ℕ) (x : X) → slice_get xs at ≡ Some x → h x ≡ None) → filter_map h xs ≡ []
@@ -92,9 +93,9 @@ module _ (base target : Plan) (order : AreMergeable base base target) where
   merged_same : merged base base target ≡ target.directives
   merged_same = ap (λ ds. left_of_target base base target ++ ds) none_added ∙ append-nil (left_of_target base base target) ∙ all_left
 
-  no_stray : conflicts_of Astray (is_astray target.directives) target.directives ≡ []
-  no_stray = gives_none (λ (d : Directive). conflict_where Astray d.id (is_astray target.directives d)) target.directives
-      (λ at d here. ap (λ (t : Bool). conflict_where Astray d.id (not t)) (each_passes (λ (d : Directive). is_there target.directives (anchored_to d)) target.directives order.target.anchors at d here))
+  none_dangles : conflicts_of Dangling (has_dangling_anchor target.directives) target.directives ≡ []
+  none_dangles = gives_none (λ (d : Directive). conflict_where Dangling d.id (has_dangling_anchor target.directives d)) target.directives
+      (λ at d here. ap (λ (t : Bool). conflict_where Dangling d.id (not t)) (each_passes (λ (d : Directive). is_there target.directives (anchored_to d)) target.directives order.target.anchors at d here))
 
   no_cycle : conflicts_of Cycle (is_on_cycle target.directives) target.directives ≡ []
   no_cycle = gives_none (λ (d : Directive). conflict_where Cycle d.id (is_on_cycle target.directives d)) target.directives
@@ -121,6 +122,6 @@ module _ (base target : Plan) (order : AreMergeable base base target) where
       ap (λ cs. unless cs (made_or_conflicts target (next_after base target (length (added base base target))) (merged base base target) (added base base target))) no_clash
       ∙ ap (λ (new : List Directive). made_or_conflicts target (next_after base target (length new)) (merged base base target) new) none_added
       ∙ ap (λ (ds : List Directive). made_or_conflicts target target.next_id ds []) merged_same
-      ∙ ap (λ cs. unless cs (unless (conflicts_of Cycle (is_on_cycle target.directives) target.directives) (made target target.next_id target.directives []))) no_stray
+      ∙ ap (λ cs. unless cs (unless (conflicts_of Cycle (is_on_cycle target.directives) target.directives) (made target target.next_id target.directives []))) none_dangles
       ∙ ap (λ cs. unless cs (made target target.next_id target.directives [])) no_cycle
       ∙ made_same small

@@ -1,10 +1,12 @@
 -- The ids that the directives of the source get, one after another.
-use Rattle.std.proofs.Common.{◌≡◌, ℕ, zero, suc, ◌<◌, ◌&&◌, Bool, true, false, IsTrue, List, [], ◌∷◌, Option, Some, None, option_map, map, slice_get, length, nat_eq, nat_lt, refl, sym, ap, ◌∙◌, eq-eqb, ne_eqb, eqb-true, ne_of_lt, ltb-true, if◌then◌else◌, true≢false, arith}
+use Rattle.std.proofs.Common.{◌≡◌, ℕ, zero, suc, ◌<◌, Bool, true, false, IsTrue, List, [], ◌∷◌, Option, Some, None, option_map, map, slice_get, length, nat_eq, nat_lt, refl, sym, ap, ◌∙◌, eq-eqb, ne_eqb, ne_of_lt, ltb-true, if◌then◌else◌, arith}
 use Rattle.std.proofs.lemmas.Option.{none-some, same_Some}
 use Rattle.aerie_base.specs.declared.values.Value.{Value}
 use Rattle.aerie_base.specs.declared.plans.Anchor.{Anchor}
 use Rattle.aerie_base.specs.declared.plans.Directive.{Directive}
 use Rattle.aerie_base.specs.plans.OfModel.{rise_to, ids_of, with_id}
+use Rattle.aerie_base.specs.plans.FoundById.{id_found, none_within}
+use Rattle.aerie_base.specs.plans.RisingIds.{both}
 use Rattle.plan_merge.specs.Renaming.{has, new_id, with_new_id, with_new_ids}
 
 -- the new ids in order, the next one being given
@@ -12,10 +14,6 @@ abbrev pub ids_given : List Directive → ℕ → List Directive → List ℕ
 ids_given base next [] = []
 ids_given base next (directive ∷ rest) =
     (if has base directive.id then directive.id else next) ∷ ids_given base (if has base directive.id then next else suc next) rest
-
-pub both : (a b : Bool) → IsTrue (a && b) → IsTrue a × IsTrue b
-both true b h = (refl, h)
-both false b h = absurd (true≢false (sym h))
 
 module _ (base : List Directive) (most : ℕ) where
   -- a later directive's id is looked for behind the first
@@ -60,21 +58,6 @@ pub given_at : (new : ℕ → ℕ) (source : List Directive) (at : ℕ) (found :
 given_at new [] at found here = absurd (none-some found here)
 given_at new (first ∷ rest) zero found here = ap (λ (d : Directive). Some (new d.id)) (same_Some first found here)
 given_at new (first ∷ rest) (suc at) found here = given_at new rest at found here
-
--- the directive found by an id has it
-pub id_found : (directives : List Directive) (id : ℕ) (found : Directive) → with_id directives id ≡ Some found → found.id ≡ id
-id_found [] id found here = absurd (none-some found here)
-id_found (first ∷ rest) id found here = go (id_found rest id found) (nat_eq first.id id) refl here
-  where
-    go : (with_id rest id ≡ Some found → found.id ≡ id) → (b : Bool) → nat_eq first.id id ≡ b → (if b then Some first else with_id rest id) ≡ Some found → found.id ≡ id
-    go others true is there = ap (λ (d : Directive). d.id) (sym (same_Some first found there)) ∙ eqb-true first.id id is
-    go others false is there = others there
-
--- there is an item at each place within
-pub none_within : {X : Type 0} (xs : List X) (at : ℕ) → at < length xs → slice_get xs at ≡ None → ⊥
-none_within [] at within none = omega (arith, within)
-none_within (x ∷ xs) zero within none = none-some x (sym none)
-none_within (x ∷ xs) (suc at) within none = none_within xs at (omega (arith, within)) none
 
 -- the same at the place where a directive with an id is found
 pub given_from : (new : ℕ → ℕ) (source : List Directive) (at id : ℕ) → at < length source → slice_get source at ≡ with_id source id →

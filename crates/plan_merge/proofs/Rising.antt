@@ -1,20 +1,17 @@
 -- The merged ids rise.
-use Rattle.std.proofs.Common.{◌≡◌, ℕ, suc, ◌+◌, ◌<◌, ◌≤◌, ◌&&◌, ◌||◌, ◌++◌, not, Bool, true, false, IsTrue, List, [], ◌∷◌, Option, Some, None, Ok, Err, option_map, is_some, filter_map, map, drop, get_or, slice_get, length, nat_eq, nat_lt, refl, sym, ap, subst, ◌∙◌, lt-ltb, ltb-true, ltb-false, lt_trans, lt_of_lt_of_le, true≢false, if◌then◌else◌, arith}
+use Rattle.std.proofs.Common.{◌≡◌, ℕ, suc, ◌+◌, ◌<◌, ◌≤◌, ◌||◌, ◌++◌, not, Bool, true, false, IsTrue, List, [], ◌∷◌, Option, Some, None, Ok, Err, option_map, is_some, filter_map, map, drop, get_or, slice_get, length, nat_eq, nat_lt, refl, sym, ap, subst, ◌∙◌, lt-ltb, ltb-true, ltb-false, lt_trans, lt_of_lt_of_le, if◌then◌else◌, arith}
 use Rattle.std.specs.List.{cons_option}
 use Rattle.std.proofs.lemmas.Option.{none-some, same_Some}
 use Rattle.aerie_base.specs.declared.plans.Directive.{Directive}
 use Rattle.aerie_base.specs.declared.plans.Plan.{Plan}
 use Rattle.aerie_base.specs.plans.OfModel.{rise_to, ids_of, with_id}
-use Rattle.aerie_base.specs.plans.RisingIds.{found_by_id}
+use Rattle.aerie_base.specs.plans.RisingIds.{and_too, both, found_by_id}
+use Rattle.aerie_base.specs.plans.FoundById.{id_found}
 use Rattle.plan_merge.specs.declared.answers.ConflictKind.TheVariants.{Both, Removed}
 use Rattle.plan_merge.specs.Renaming.{has, new_id, with_new_ids, renamed, is_new, added, first_new}
 use Rattle.plan_merge.specs.Table.{same, row}
 use Rattle.plan_merge.specs.Merging.{source_with, what_is_left, left_by, left_of_target, merged, next_after}
-use Rattle.plan_merge.proofs.Renames.{both, id_found, ids_given, given_are}
-
-and_too : (a b : Bool) → IsTrue a → IsTrue b → IsTrue (a && b)
-and_too true b h k = k
-and_too false b h k = absurd (true≢false (sym h))
+use Rattle.plan_merge.proofs.Renames.{ids_given, given_are}
 
 -- an id of the base stays
 pub kept_id : (base : List Directive) (next : ℕ) (source : List Directive) (id : ℕ) → has base id ≡ true → new_id base next source id ≡ id

@@ -9,15 +9,12 @@ use Rattle.aerie_base.specs.declared.plans.Edge.{Edge}
 use Rattle.aerie_base.specs.declared.plans.Edge.TheVariants.{Start, End}
 use Rattle.aerie_base.specs.declared.plans.Directive.{Directive}
 use Rattle.aerie_base.specs.expressions.Arithmetic.{same_value, same_truth, number_in, truth_in}
+use Rattle.aerie_base.specs.plans.RisingIds.{and_too}
 use Rattle.plan_merge.specs.Table.{same, same_values, same_anchor, same_edge, IsSame}
 
 both : (a b : Bool) → a && b ≡ true → (a ≡ true) × (b ≡ true)
 both true b h = (refl, h)
 both false b h = absurd (true≢false (sym h))
-
-and_too : (a b : Bool) → a ≡ true → b ≡ true → a && b ≡ true
-and_too true b h k = k
-and_too false b h k = absurd (true≢false (sym h))
 
 -- two tests decide two facts
 pub decides_both : {P Q : Type 0} (a b : Bool) → Decides a P → Decides b Q → Decides (a && b) (P × Q)

@@ -4,11 +4,11 @@ use Rattle.std.specs.List.{list_any, cons_option}
 use Rattle.std.proofs.lemmas.List.{get_or-take, get_or-drop, take_all, length-drop}
 use Rattle.aerie_base.specs.declared.plans.Directive.{Directive}
 use Rattle.aerie_base.specs.plans.OfModel.{rise_to, ids_of, is_there, anchored_to}
+use Rattle.aerie_base.specs.plans.RisingIds.{both}
 use Rattle.plan_merge.specs.declared.answers.ConflictKind.{ConflictKind}
 use Rattle.plan_merge.specs.declared.answers.ConflictKind.TheVariants.{Anchor}
-use Rattle.plan_merge.specs.Merging.{is_astray, conflict_where, conflicts_of}
+use Rattle.plan_merge.specs.Merging.{has_dangling_anchor, conflict_where, conflicts_of}
 use Rattle.plan_merge.specs.Answers.{HasSmallIds, HaveSmallIds}
-use Rattle.plan_merge.proofs.Renames.{both}
 
 pub before_next : (next before : ℕ) (ids : List ℕ) → IsTrue (rise_to next before ids) → before < next
 before_next next before [] rise = ltb-true before next rise
@@ -44,13 +44,13 @@ none_passes kind test (d ∷ rest) at other none within = go at (test d) refl no
     go zero false is none within others = is
     go (suc at) false is none within others = others at none (omega (arith, within))
 
-pub are_small : (next : ℕ) (ds : List Directive) → IsTrue (rise_to next 0 (ids_of ds)) → conflicts_of Anchor (is_astray ds) ds ≡ [] → next < 2 ^ 32 → HaveSmallIds ds
+pub are_small : (next : ℕ) (ds : List Directive) → IsTrue (rise_to next 0 (ids_of ds)) → conflicts_of Anchor (has_dangling_anchor ds) ds ≡ [] → next < 2 ^ 32 → HaveSmallIds ds
 are_small next ds rise none few at other within = record {
   id = lt_trans (below_next next 0 ds at other rise within) few;
-  anchor = go (anchored_to (get_or ds at other)) (none_passes Anchor (is_astray ds) ds at other none within);
+  anchor = go (anchored_to (get_or ds at other)) (none_passes Anchor (has_dangling_anchor ds) ds at other none within);
 }
   where
-    go : (lead : Option ℕ) → not (is_there ds lead) ≡ false → IfSome lead (λ to. to < 2 ^ 32)
+    go : (reached_one : Option ℕ) → not (is_there ds reached_one) ≡ false → IfSome reached_one (λ to. to < 2 ^ 32)
     go None h = tt
     go (Some id) h = lt_trans (any_below next 0 id (ids_of ds) rise (so (list_any (nat_eq id) (ids_of ds)) h)) few
       where

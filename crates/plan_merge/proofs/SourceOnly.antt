@@ -7,20 +7,19 @@ use Rattle.aerie_base.specs.declared.plans.Directive.{Directive}
 use Rattle.aerie_base.specs.declared.plans.Plan.{Plan}
 use Rattle.aerie_base.specs.plans.OfModel.{ids_of, with_id, is_there, anchored_to, followed}
 use Rattle.aerie_base.specs.plans.RisingIds.{found_by_id}
-use Rattle.plan_merge.specs.declared.answers.ConflictKind.TheVariants.{Anchor as Astray, Both, Cycle, Removed}
+use Rattle.aerie_base.specs.plans.FoundById.{among, id_found}
+use Rattle.plan_merge.specs.CycleLaws.{far_round, rounds, within_true}
+use Rattle.plan_merge.specs.declared.answers.ConflictKind.TheVariants.{Anchor as Dangling, Both, Cycle, Removed}
 use Rattle.plan_merge.specs.declared.answers.MergeError.TheVariants.{TooMany}
 use Rattle.plan_merge.specs.Renaming.{has, new_id, with_new_id, renamed, renamed_if_new, is_new, added, first_new}
 use Rattle.plan_merge.specs.Table.{same, row, IsSame}
-use Rattle.plan_merge.specs.Merging.{becomes, source_with, clash_of, clashes, what_is_left, left_by, left_of_target, merged, conflicts_of, conflict_where, is_astray, is_on_cycle, returns_within, unless, is_too_many, made, made_or_conflicts, merge_of, next_after}
+use Rattle.plan_merge.specs.Merging.{becomes, source_with, clash_of, clashes, what_is_left, left_by, left_of_target, merged, conflicts_of, conflict_where, has_dangling_anchor, is_on_cycle, returns_within, unless, is_too_many, made, made_or_conflicts, merge_of, next_after}
 use Rattle.plan_merge.specs.Plans.{AreMergeable}
 use Rattle.plan_merge.specs.SourceOnly.{IsAmong, GivesTheSource}
-use Rattle.plan_merge.proofs.Renames.{id_found}
 use Rattle.plan_merge.proofs.Rising.{kept_id, merged_rise}
 use Rattle.plan_merge.proofs.Same.{decides_same}
-use Rattle.plan_merge.proofs.Finds.{among}
-use Rattle.plan_merge.proofs.Loops.{within_true, rounds, far_round}
 use Rattle.plan_merge.proofs.Nothing.{gives_none, each_passes, same_as_itself}
-use Rattle.plan_merge.proofs.Members.{id_among, in_map, from_map, in_some, from_some, in_front, in_back, from_either}
+use Rattle.plan_merge.specs.MemberLaws.{id_among, in_map, from_map, in_some, from_some, in_front, in_back, from_either}
 
 -- directives of one id and equal parts are equal
 equal : (d x : Directive) → x.id ≡ d.id → IsSame x d → d ≡ x
@@ -143,9 +142,9 @@ module _ (base source : Plan) (order : AreMergeable base source base) where
           sym (among result (new a.to))
           ∙ ap is_some (ap (λ (i : ℕ). with_id result (new i)) (sym one.1.1) ∙ found one.1.0.0 one.0 one.1.0.1)
 
-  no_stray : conflicts_of Astray (is_astray result) result ≡ []
-  no_stray = gives_none (λ (m : Directive). conflict_where Astray m.id (is_astray result m)) result
-      (λ at m here. ap (λ (t : Bool). conflict_where Astray m.id (not t)) (each m (origin at m here)))
+  none_dangles : conflicts_of Dangling (has_dangling_anchor result) result ≡ []
+  none_dangles = gives_none (λ (m : Directive). conflict_where Dangling m.id (has_dangling_anchor result m)) result
+      (λ at m here. ap (λ (t : Bool). conflict_where Dangling m.id (not t)) (each m (origin at m here)))
     where
       each : (m : Directive) → IsOfSource m → is_there result (anchored_to m) ≡ true
       each m of = ap (λ (m : Directive). is_there result (anchored_to m)) (sym of.1.1) ∙ keeps_anchor of.1.0.0 of.0 of.1.0.1
@@ -222,7 +221,7 @@ module _ (base source : Plan) (order : AreMergeable base source base) where
       answer : merge_of base source base ≡ made base next result (added base source base)
       answer =
           ap (λ cs. unless cs (made_or_conflicts base next result (added base source base))) no_clash
-          ∙ ap (λ cs. unless cs (unless (conflicts_of Cycle (is_on_cycle result) result) (made base next result (added base source base)))) no_stray
+          ∙ ap (λ cs. unless cs (unless (conflicts_of Cycle (is_on_cycle result) result) (made base next result (added base source base)))) none_dangles
           ∙ ap (λ cs. unless cs (made base next result (added base source base))) no_cycle
 
       of_made : (t : Bool) → GivesTheSource base source base

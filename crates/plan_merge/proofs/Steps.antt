@@ -1,5 +1,5 @@
 -- One more item of a list.
-use Rattle.std.proofs.Common.{◌≡◌, ℕ, ◌+◌, ◌<◌, ◌≤◌, ◌||◌, Bool, true, false, zero, suc, List, [], ◌∷◌, ◌++◌, Option, map, filter_map, take, drop, get_or, length, refl, sym, ap, subst, ◌∙◌, arith}
+use Rattle.std.proofs.Common.{◌≡◌, ℕ, ◌+◌, ◌<◌, ◌≤◌, ◌||◌, Bool, true, false, zero, suc, List, [], ◌∷◌, ◌++◌, Option, Some, slice_get, map, filter_map, take, drop, get_or, length, refl, sym, ap, subst, ◌∙◌, arith}
 use Rattle.std.specs.List.{cons_option, list_any}
 use Rattle.std.proofs.lemmas.List.{map-append, take_all}
 use Rattle.std.proofs.lemmas.List.Elements.{filter_map-append}
@@ -18,6 +18,19 @@ filter_map_more h xs i x within here = sym (filter_map-append h (take i xs) (x �
 pub map_more : {X Y : Type 0} (h : X → Y) (xs : List X) (i : ℕ) (x : X) → i < length xs → x ≡ get_or xs i x →
     map h (take i xs) ++ h x ∷ [] ≡ map h (take (i + 1) xs)
 map_more h xs i x within here = sym (map-append h (take i xs) (x ∷ [])) ∙ ap (map h) (take_more xs i x within here)
+
+-- the same, where what is given is known by the item at the place
+pub map_next : {X Y : Type 0} (h : X → Y) (xs : List X) (i : ℕ) (y : Y) → i < length xs → ((x : X) → slice_get xs i ≡ Some x → y ≡ h x) →
+    map h (take i xs) ++ y ∷ [] ≡ map h (take (i + 1) xs)
+map_next h [] i y within is = absurd (omega (arith, within))
+map_next h (x ∷ xs) i y within is =
+    let one = item_at (x ∷ xs) i within in
+    ap (λ z. map h (take i (x ∷ xs)) ++ z ∷ []) (is one.0 one.1.0) ∙ map_more h (x ∷ xs) i one.0 within one.1.1
+  where
+    item_at : {Z : Type 0} (zs : List Z) (at : ℕ) → at < length zs → (z : Z) × ((slice_get zs at ≡ Some z) × (z ≡ get_or zs at z))
+    item_at [] at within = absurd (omega (arith, within))
+    item_at (z ∷ zs) zero within = (z, (refl, refl))
+    item_at (z ∷ zs) (suc at) within = item_at zs at (omega (arith, within))
 
 pub map_all : {X Y : Type 0} (h : X → Y) (xs : List X) (i : ℕ) → length xs ≤ i → map h (take i xs) ≡ map h xs
 map_all h xs i all = ap (map h) (take_all i xs all)
@@ -40,10 +53,6 @@ filter_map_more_of h xs ys same i x within here =
 
 pub filter_map_all_of : {X Y : Type 0} (h : X → Option Y) (xs ys : List X) → xs ≡ ys → (i : ℕ) → length xs ≤ i → filter_map h (take i ys) ≡ filter_map h ys
 filter_map_all_of h xs ys same i all = ap (filter_map h) (take_all i ys (subst (λ zs. length zs ≤ i) same all))
-
-pub length_map : {X Y : Type 0} (h : X → Y) (xs : List X) → length (map h xs) ≡ length xs
-length_map h [] = refl
-length_map h (x ∷ xs) = ap suc (length_map h xs)
 
 -- whatever stands for an item past the end, an item is the same
 pub any_default : {X : Type 0} (xs : List X) (i : ℕ) (d e : X) → i < length xs → get_or xs i d ≡ get_or xs i e

@@ -4,8 +4,11 @@ pub mod Merging
 pub mod Chosen
 pub mod Plans
 pub mod SourceOnly
-pub mod Leads
+pub mod Reached
+pub mod CycleLaws
 pub mod Answers
 pub mod Anchors
 pub mod Cases
 pub mod MergedPlans
+pub mod MemberLaws
+pub mod MergedPlanLaws

@@ -1,8 +1,8 @@
 -- The three-way merge.
-use Rattle.std.specs.Prelude.{ℕ, zero, suc, ◌+◌, Bool, true, false, not, ◌||◌, List, [], ◌∷◌, ◌++◌, Option, Some, None, Result, Ok, Err, option_map, nat_eq, nat_lt, length, filter_map, if◌then◌else◌}
+use Rattle.std.specs.Prelude.{ℕ, zero, suc, ◌+◌, Bool, true, false, ◌||◌, List, [], ◌∷◌, ◌++◌, Option, Some, None, Result, Ok, Err, option_map, nat_eq, nat_lt, length, filter_map, if◌then◌else◌}
 use Rattle.aerie_base.specs.declared.plans.Directive.{Directive}
 use Rattle.aerie_base.specs.declared.plans.Plan.{Plan}
-use Rattle.aerie_base.specs.plans.OfModel.{directive_limit, with_id, ids_of, anchored_to, followed, is_there}
+use Rattle.aerie_base.specs.plans.OfModel.{directive_limit, with_id, ids_of, followed, is_id_of, is_dangling}
 use Rattle.plan_merge.specs.declared.answers.Merged.{Merged}
 use Rattle.plan_merge.specs.declared.answers.Conflict.{Conflict}
 use Rattle.plan_merge.specs.declared.answers.ConflictKind.{ConflictKind}
@@ -70,9 +70,9 @@ conflict_if kind test directive = conflict_where kind directive.id (test directi
 abbrev pub conflicts_of : ConflictKind → (Directive → Bool) → List Directive → List Conflict
 conflicts_of kind test directives = filter_map (conflict_if kind test) directives
 
--- whether a directive's anchor is none of some directives
-abbrev pub is_astray : List Directive → Directive → Bool
-is_astray directives directive = not (is_there directives (anchored_to directive))
+-- whether a directive's anchor is to none of some directives
+abbrev pub has_dangling_anchor : List Directive → Directive → Bool
+has_dangling_anchor directives directive = is_dangling (is_id_of directives) directive.anchor
 
 abbrev pub is_at : ℕ → Option ℕ → Bool
 is_at id None = false
@@ -103,10 +103,10 @@ made target next_id directives new =
     if is_too_many (length directives) next_id then Err TooMany
     else Ok (record { plan = record target { next_id = next_id; directives = directives }; added = ids_of new })
 
--- the same, unless an anchor is astray or there is a cycle
+-- the same, unless an anchor dangles or there is a cycle
 abbrev pub made_or_conflicts : Plan → ℕ → List Directive → List Directive → Result Merged MergeError
 made_or_conflicts target next_id directives new =
-    unless (conflicts_of Anchor (is_astray directives) directives)
+    unless (conflicts_of Anchor (has_dangling_anchor directives) directives)
     (unless (conflicts_of Cycle (is_on_cycle directives) directives) (made target next_id directives new))
 
 -- the merge, or the first that applies of its refusals

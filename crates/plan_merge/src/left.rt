@@ -9,10 +9,10 @@ ghost use Rattle.plan_merge.specs.Plans.{AreMergeable, AreRenamed};
 
 use crate::answers::Conflict;
 use crate::lists::push_some;
-use crate::numbered::Numbered;
 use crate::renaming::{has, renamed_with};
 use crate::table::{Choice, choose};
-use aerie_base::{Directive, List, OutOfMemory, Plan, position_of_id};
+use crate::wide_directives::WideDirective;
+use aerie_base::{Directive, List, OutOfMemory, Plan, position_in_plan};
 use std::alloc::Global;
 
 /// The directive with an id.
@@ -20,7 +20,7 @@ fn directive_with(directives: &[Directive], id: u32) -> Option<&Directive>
     requires rising { Rise directives.now }
     ensures { option_copied result ≡ with_id directives.now id }
 {
-    match position_of_id(directives, id) {
+    match position_in_plan(directives, id) {
         Some(at) => directives.get(at),
         None => None,
     }
@@ -31,7 +31,7 @@ fn choice_of(
     base: &Plan,
     source: &Plan,
     target: &Plan,
-    all: &[Numbered],
+    all: &[WideDirective],
     directive: &Directive,
 ) -> Choice
     requires order { AreMergeable base.now source.now target.now }
@@ -50,7 +50,7 @@ fn clash_of(
     base: &Plan,
     source: &Plan,
     target: &Plan,
-    all: &[Numbered],
+    all: &[WideDirective],
     directive: &Directive,
 ) -> Option<Conflict>
     requires order { AreMergeable base.now source.now target.now }
@@ -72,7 +72,7 @@ pub fn clashes(
     base: &Plan,
     source: &Plan,
     target: &Plan,
-    all: &[Numbered],
+    all: &[WideDirective],
 ) -> Result<List<Conflict>, OutOfMemory>
     requires order { AreMergeable base.now source.now target.now }
     requires renamed { AreRenamed base.now source.now target.now all.now }
@@ -89,7 +89,7 @@ pub fn clashes(
 }
 
 /// An equal directive, where there is one.
-fn copy_of(alloc: Global, one: Option<&Numbered>) -> Result<Option<Numbered>, OutOfMemory>
+fn copy_of(alloc: Global, one: Option<&WideDirective>) -> Result<Option<WideDirective>, OutOfMemory>
     ensures { IfOk result (λ copy. copy ≡ option_copied one.entry) }
 {
     match one {
@@ -104,17 +104,17 @@ fn left_of_both(
     base: &Plan,
     source: &Plan,
     target: &Plan,
-    all: &[Numbered],
+    all: &[WideDirective],
     of_base: &Directive,
     directive: &Directive,
-) -> Result<Option<Numbered>, OutOfMemory>
+) -> Result<Option<WideDirective>, OutOfMemory>
     requires order { AreMergeable base.now source.now target.now }
     requires renamed { AreRenamed base.now source.now target.now all.now }
     requires same { with_id target.now.directives of_base.now.id ≡ Some directive.now }
     ensures { IfOk result (λ one. one ≡ what_is_left (becomes base.now source.now target.now of_base.now)) }
 {
     match choice_of(base, source, target, all, of_base) {
-        Choice::Target => Ok(Some(Numbered::of(alloc, directive)?)),
+        Choice::Target => Ok(Some(WideDirective::of(alloc, directive)?)),
         Choice::Source => copy_of(
             alloc,
             renamed_with(source.directives.as_slice(), all, of_base.id),
@@ -129,9 +129,9 @@ fn left_of(
     base: &Plan,
     source: &Plan,
     target: &Plan,
-    all: &[Numbered],
+    all: &[WideDirective],
     directive: &Directive,
-) -> Result<Option<Numbered>, OutOfMemory>
+) -> Result<Option<WideDirective>, OutOfMemory>
     requires order { AreMergeable base.now source.now target.now }
     requires renamed { AreRenamed base.now source.now target.now all.now }
     requires same { with_id target.now.directives directive.now.id ≡ Some directive.now }
@@ -139,7 +139,7 @@ fn left_of(
         one ≡ left_by base.now source.now target.now directive.now (with_id base.now.directives directive.now.id)) }
 {
     match directive_with(base.directives.as_slice(), directive.id) {
-        None => Ok(Some(Numbered::of(alloc, directive)?)),
+        None => Ok(Some(WideDirective::of(alloc, directive)?)),
         Some(of_base) => left_of_both(alloc, base, source, target, all, of_base, directive),
     }
 }
@@ -150,8 +150,8 @@ pub fn left(
     base: &Plan,
     source: &Plan,
     target: &Plan,
-    all: &[Numbered],
-) -> Result<List<Numbered>, OutOfMemory>
+    all: &[WideDirective],
+) -> Result<List<WideDirective>, OutOfMemory>
     requires order { AreMergeable base.now source.now target.now }
     requires renamed { AreRenamed base.now source.now target.now all.now }
     ensures { IfOk result (λ directives. directives ≡ left_of_target base.now source.now target.now) }
@@ -165,7 +165,11 @@ pub fn left(
 }
 
 /// An equal directive, where it is wanted.
-fn copy_if(alloc: Global, one: &Numbered, wanted: bool) -> Result<Option<Numbered>, OutOfMemory>
+fn copy_if(
+    alloc: Global,
+    one: &WideDirective,
+    wanted: bool,
+) -> Result<Option<WideDirective>, OutOfMemory>
     ensures { IfOk result (λ copy. copy ≡ (if wanted then Some one.now else None)) }
 {
     if wanted {
@@ -181,8 +185,8 @@ pub fn push_added(
     base: &Plan,
     source: &Plan,
     target: &Plan,
-    all: &[Numbered],
-    directives: &mut List<Numbered>,
+    all: &[WideDirective],
+    directives: &mut List<WideDirective>,
 ) -> Result<(), OutOfMemory>
     requires order { AreMergeable base.now source.now target.now }
     requires renamed { AreRenamed base.now source.now target.now all.now }

@@ -8,10 +8,13 @@ mod laws;
 mod left;
 mod lists;
 mod merging;
-mod numbered;
 mod renaming;
 mod table;
+mod wide_directives;
 
 pub use answers::{Conflict, ConflictKind, MergeError, Merged};
-pub use laws::{a_source_that_changed_nothing, a_target_that_changed_nothing};
+pub use cycles::reached_after_enough;
+pub use laws::{
+    a_source_that_changed_nothing, a_target_that_changed_nothing, merges_are_of_the_model,
+};
 pub use merging::merge;

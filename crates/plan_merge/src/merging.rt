@@ -3,17 +3,17 @@
 ghost use Rattle.std.specs.Prelude.{◌≡◌, ◌≤◌, ◌<◌, ◌^◌, [], IsTrue, IfOk, IfSome, length, drop};
 ghost use Rattle.plan_merge.specs.Anchors.{shown_anchor};
 ghost use Rattle.aerie_base.specs.plans.OfModel.{ids_of, rise_to};
-ghost use Rattle.plan_merge.specs.declared.answers.ConflictKind.TheVariants.{Anchor as Astray};
-ghost use Rattle.plan_merge.specs.Merging.{merge_of, made_or_conflicts, made, next_after, conflicts_of, is_astray};
+ghost use Rattle.plan_merge.specs.declared.answers.ConflictKind.TheVariants.{Anchor as Dangling};
+ghost use Rattle.plan_merge.specs.Merging.{merge_of, made_or_conflicts, made, next_after, conflicts_of, has_dangling_anchor};
 ghost use Rattle.plan_merge.specs.Plans.{AreMergeable, IsInOrder};
 ghost use Rattle.plan_merge.specs.Answers.{UnlessOutOfMemory, HasSmallIds, HaveSmallIds};
 
-use crate::anchors::strays;
+use crate::anchors::dangling;
 use crate::answers::{MergeError, Merged};
 use crate::cycles::on_cycles;
 use crate::left::{clashes, left, push_added};
-use crate::numbered::{Far, Numbered};
 use crate::renaming::{first_new, rename_all};
+use crate::wide_directives::{WideAnchor, WideDirective};
 use aerie_base::{Anchor, Directive, List, OutOfMemory, Plan, copy_list};
 use std::alloc::Global;
 
@@ -57,7 +57,7 @@ fn judged(
     alloc: Global,
     target: &Plan,
     next: u64,
-    directives: &[Numbered],
+    directives: &[WideDirective],
     kept: usize,
 ) -> Result<Merged, MergeError>
     requires rising { IsTrue (rise_to next 0 (ids_of directives.now)) }
@@ -65,9 +65,9 @@ fn judged(
     requires kept { kept ≤ length directives.now }
     ensures { UnlessOutOfMemory (made_or_conflicts target.now next directives.now (drop kept directives.now)) result }
 {
-    let astray = strays(alloc, directives)?;
-    if !astray.is_empty() {
-        return Err(MergeError::Conflicts(astray));
+    let dangling = dangling(alloc, directives)?;
+    if !dangling.is_empty() {
+        return Err(MergeError::Conflicts(dangling));
     }
     let cycles = on_cycles(alloc, directives)?;
     if !cycles.is_empty() {
@@ -81,11 +81,11 @@ fn made(
     alloc: Global,
     target: &Plan,
     next: u64,
-    directives: &[Numbered],
+    directives: &[WideDirective],
     kept: usize,
 ) -> Result<Merged, MergeError>
     requires rising { IsTrue (rise_to next 0 (ids_of directives.now)) }
-    requires anchors { conflicts_of Astray (is_astray directives.now) directives.now ≡ [] }
+    requires anchors { conflicts_of Dangling (has_dangling_anchor directives.now) directives.now ≡ [] }
     requires kept { kept ≤ length directives.now }
     ensures { UnlessOutOfMemory (made target.now next directives.now (drop kept directives.now)) result }
 {
@@ -103,7 +103,7 @@ fn made(
 }
 
 /// The directives as those of a plan.
-fn narrowed(alloc: Global, directives: &[Numbered]) -> Result<List<Directive>, OutOfMemory>
+fn narrowed(alloc: Global, directives: &[WideDirective]) -> Result<List<Directive>, OutOfMemory>
     requires small { HaveSmallIds directives.now }
     ensures { IfOk result (λ narrow. narrow ≡ directives.now) }
 {
@@ -115,35 +115,35 @@ fn narrowed(alloc: Global, directives: &[Numbered]) -> Result<List<Directive>, O
 }
 
 /// The directive as one of a plan.
-fn narrowed_one(alloc: Global, directive: &Numbered) -> Result<Directive, OutOfMemory>
+fn narrowed_one(alloc: Global, directive: &WideDirective) -> Result<Directive, OutOfMemory>
     requires small { HasSmallIds directive.now }
     ensures { IfOk result (λ narrow. narrow ≡ directive.now) }
 {
     Ok(Directive {
         id: directive.id as u32,
         start: directive.start,
-        anchor: narrowed_far(directive.far),
+        anchor: narrowed_anchor(directive.anchor),
         kind: directive.kind,
         arguments: copy_list(alloc, &directive.arguments)?,
     })
 }
 
 /// The anchor as one of a plan's directive.
-fn narrowed_far(far: Option<Far>) -> Option<Anchor>
-    requires small { IfSome (shown_anchor far) (λ anchor. anchor.to < 2 ^ 32) }
-    ensures { result ≡ shown_anchor far }
+fn narrowed_anchor(anchor: Option<WideAnchor>) -> Option<Anchor>
+    requires small { IfSome (shown_anchor anchor) (λ anchor. anchor.to < 2 ^ 32) }
+    ensures { result ≡ shown_anchor anchor }
 {
-    match far {
+    match anchor {
         None => None,
-        Some(far) => Some(Anchor {
-            to: far.to as u32,
-            edge: far.edge,
+        Some(anchor) => Some(Anchor {
+            to: anchor.to as u32,
+            edge: anchor.edge,
         }),
     }
 }
 
 /// The ids of the directives.
-fn ids(alloc: Global, directives: &[Numbered]) -> Result<List<u32>, OutOfMemory>
+fn ids(alloc: Global, directives: &[WideDirective]) -> Result<List<u32>, OutOfMemory>
     requires small { HaveSmallIds directives.now }
     ensures { IfOk result (λ ids. ids ≡ ids_of directives.now) }
 {

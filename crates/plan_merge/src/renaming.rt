@@ -6,8 +6,8 @@ ghost use Rattle.aerie_base.specs.plans.OfModel.{with_id, Rise};
 ghost use Rattle.plan_merge.specs.Renaming.{has, first_new, new_id, AreNewIds, with_new_id, with_new_ids, renamed};
 ghost use Rattle.plan_merge.specs.Anchors.{shown_anchor};
 
-use crate::numbered::{Far, Numbered};
-use aerie_base::{Anchor, Directive, List, OutOfMemory, Plan, copy_list, position_of_id};
+use crate::wide_directives::{WideAnchor, WideDirective};
+use aerie_base::{Anchor, Directive, List, OutOfMemory, Plan, copy_list, position_in_plan};
 use std::alloc::Global;
 
 /// Whether one of some directives has the id.
@@ -15,7 +15,7 @@ pub fn has(directives: &[Directive], id: u32) -> bool
     requires rising { Rise directives.now }
     ensures { result ≡ has directives.now id }
 {
-    position_of_id(directives, id).is_some()
+    position_in_plan(directives, id).is_some()
 }
 
 /// The first new id: the greater of the base's and the target's next id.
@@ -63,14 +63,14 @@ fn new_id(source: &[Directive], ids: &[u64], id: u32) -> u64
     ensures { (base : Items Shown) (first : ℕ) → AreNewIds base first source.now ids.now →
         result ≡ new_id base first source.now id }
 {
-    match position_of_id(source, id) {
+    match position_in_plan(source, id) {
         Some(at) => ids[at],
         None => u64::from(id),
     }
 }
 
 /// An anchor with the id that its directive gets.
-fn far_anchor(source: &[Directive], ids: &[u64], anchor: Option<Anchor>) -> Option<Far>
+fn renamed_anchor(source: &[Directive], ids: &[u64], anchor: Option<Anchor>) -> Option<WideAnchor>
     requires source { Rise source.now }
     requires count { length ids.now ≡ length source.now }
     ensures { (base : Items Shown) (first : ℕ) → AreNewIds base first source.now ids.now →
@@ -78,7 +78,7 @@ fn far_anchor(source: &[Directive], ids: &[u64], anchor: Option<Anchor>) -> Opti
 {
     match anchor {
         None => None,
-        Some(anchor) => Some(Far {
+        Some(anchor) => Some(WideAnchor {
             to: new_id(source, ids, anchor.to),
             edge: anchor.edge,
         }),
@@ -91,16 +91,16 @@ fn rename(
     source: &[Directive],
     ids: &[u64],
     directive: &Directive,
-) -> Result<Numbered, OutOfMemory>
+) -> Result<WideDirective, OutOfMemory>
     requires source { Rise source.now }
     requires count { length ids.now ≡ length source.now }
     ensures { IfOk result (λ one. (base : Items Shown) (first : ℕ) → AreNewIds base first source.now ids.now →
         one ≡ with_new_ids (new_id base first source.now) directive.now) }
 {
-    Ok(Numbered {
+    Ok(WideDirective {
         id: new_id(source, ids, directive.id),
         start: directive.start,
-        far: far_anchor(source, ids, directive.anchor),
+        anchor: renamed_anchor(source, ids, directive.anchor),
         kind: directive.kind,
         arguments: copy_list(alloc, &directive.arguments)?,
     })
@@ -111,7 +111,7 @@ fn rename_by(
     alloc: Global,
     source: &[Directive],
     ids: &[u64],
-) -> Result<List<Numbered>, OutOfMemory>
+) -> Result<List<WideDirective>, OutOfMemory>
     requires source { Rise source.now }
     requires count { length ids.now ≡ length source.now }
     ensures { IfOk result (λ all. (base : Items Shown) (first : ℕ) → AreNewIds base first source.now ids.now →
@@ -130,7 +130,7 @@ pub fn rename_all(
     base: &Plan,
     source: &Plan,
     target: &Plan,
-) -> Result<List<Numbered>, OutOfMemory>
+) -> Result<List<WideDirective>, OutOfMemory>
     requires base { Rise base.now.directives }
     requires source { Rise source.now.directives }
     requires few { length source.now.directives < 2 ^ 32 }
@@ -143,12 +143,16 @@ pub fn rename_all(
 }
 
 /// The source's directive with an id, renamed.
-pub fn renamed_with<'a>(source: &[Directive], all: &'a [Numbered], id: u32) -> Option<&'a Numbered>
+pub fn renamed_with<'a>(
+    source: &[Directive],
+    all: &'a [WideDirective],
+    id: u32,
+) -> Option<&'a WideDirective>
     requires source { Rise source.now }
     ensures { (new : Shown → Shown) → all.now ≡ map new source.now →
         option_copied result ≡ option_map new (with_id source.now id) }
 {
-    match position_of_id(source, id) {
+    match position_in_plan(source, id) {
         Some(at) => all.get(at),
         None => None,
     }

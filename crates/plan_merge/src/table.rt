@@ -4,7 +4,7 @@ ghost use Rattle.std.specs.Prelude.{None, Some, option_copied};
 ghost use Rattle.plan_merge.specs.Chosen.{IsChoice};
 
 use crate::answers::ConflictKind;
-use crate::numbered::{Numbered, same_directive};
+use crate::wide_directives::{WideDirective, same_directive};
 use aerie_base::Directive;
 
 /// What becomes of a directive of the base.
@@ -19,7 +19,11 @@ pub enum Choice {
 }
 
 /// What becomes of a directive of the base, by what source and target have for it.
-pub fn choose(base: &Directive, source: Option<&Numbered>, target: Option<&Directive>) -> Choice
+pub fn choose(
+    base: &Directive,
+    source: Option<&WideDirective>,
+    target: Option<&Directive>,
+) -> Choice
     ensures { IsChoice result base.now (option_copied source.entry) (option_copied target.entry) }
 {
     match source {
@@ -45,7 +49,7 @@ fn without_source(base: &Directive, target: Option<&Directive>) -> Choice
 }
 
 /// What becomes of a directive of the base that the source has.
-fn with_source(base: &Directive, source: &Numbered, target: Option<&Directive>) -> Choice
+fn with_source(base: &Directive, source: &WideDirective, target: Option<&Directive>) -> Choice
     ensures { IsChoice result base.now (Some source.now) (option_copied target.entry) }
 {
     match target {

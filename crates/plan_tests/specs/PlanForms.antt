@@ -3,7 +3,7 @@ use Rattle.std.specs.Prelude.{◌≡◌, ℕ, pos, List, [], ◌∷◌, codes, S
 use Rattle.serde_json.specs.Data.{Data, number, string, unsigned}
 use Rattle.aerie_base.specs.declared.arguments.RawValue.TheVariants as raw
 use Rattle.aerie_base.specs.declared.plans.Edge.TheVariants.{End}
-use Rattle.aerie_text.specs.Json.{object_of}
+use Rattle.json_line.specs.Json.{object_of}
 use Rattle.aerie_text.specs.Sorts.{word_sort}
 use Rattle.plan_edit.specs.PlanForm.{value_of_json, anchor_of_json, type_of_json, directive_of_json}
 

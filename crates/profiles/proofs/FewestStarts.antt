@@ -2,7 +2,7 @@
 use Rattle.std.proofs.Common.{◌≡◌, ℕ, zero, suc, ◌+◌, ◌<◌, ◌≤◌, Bool, true, false, cond, ◌||◌, List, [], ◌∷◌, ◌++◌, length, map, nat_le, nat_lt, nat_eq, Some, refl, sym, ap, ◌∙◌, arith}
 use Rattle.std.specs.List.{list_any}
 use Rattle.std.proofs.lemmas.Bool.{le-leb, lt-leb, leb-true, leb-false, ltb-true, eqb-true, eqb-false, eq-eqb, false≢true}
-use Rattle.profiles.specs.Samples.{last_started, HaveBegun}
+use Rattle.windows.specs.Begun.{last_begun, HaveBegun}
 use Rattle.profiles.specs.Segments.{times_where}
 use Rattle.profiles.proofs.StartTimes.{one_time_more}
 
@@ -96,13 +96,13 @@ module _ {A : Type 0} (from : A → ℕ) where
   or_false a b h = (grind arith, grind arith)
 
   -- the last that has begun is still the same a microsecond later
-  pub still_last : (items : List A) (t : ℕ) → is_start (suc t) (map from items) ≡ false → last_started from items (suc t) ≡ last_started from items t
+  pub still_last : (items : List A) (t : ℕ) → is_start (suc t) (map from items) ≡ false → last_begun from items (suc t) ≡ last_begun from items t
   still_last [] t none = refl
   still_last (a ∷ []) t none = refl
   still_last (a ∷ b ∷ rest) t none =
       let parts = or_false (nat_eq (suc t) (from a)) (is_start (suc t) (map from (b ∷ rest))) none in
       let next = or_false (nat_eq (suc t) (from b)) (is_start (suc t) (map from rest)) parts.1 in
-      ap (λ c. cond c (last_started from (b ∷ rest) (suc t)) (Some a)) (no_step (from b) t next.0)
+      ap (λ c. cond c (last_begun from (b ∷ rest) (suc t)) (Some a)) (no_step (from b) t next.0)
       ∙ ap (λ o. cond (nat_le (from b) t) o (Some a)) (still_last (b ∷ rest) t parts.1)
 
 -- what has begun at 0 starts at 0

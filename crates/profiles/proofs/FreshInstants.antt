@@ -81,9 +81,9 @@ module _ (model : Parts) (plan : Plan) (bound : ℕ) where
   start_well : StandsWell (more (start model plan))
   start_well = record { changes = tt; some = λ later. absurd (omega arith) }
 
-  place_well : (place : Next SimulationState Run) → IsReached model plan bound place → StandsWell place
-  place_well (more at) begins = start_well
-  place_well place (onward {place = at} before) = next_well at (ready_jobs at.cells at.table) (place_well (more at) before)
+  point_well : (point : Next SimulationState Run) → IsReached model plan bound point → StandsWell point
+  point_well (more at) begins = start_well
+  point_well point (onward {point = at} before) = next_well at (ready_jobs at.cells at.table) (point_well (more at) before)
 
 pub good_instants : (model : Parts) (plan : Plan) (bound : ℕ) (run : Run) → IsFresh model plan bound run → AreGoodInstants run.instants run.reach
-good_instants model plan bound run fresh = place_well model plan bound (finished run) fresh
+good_instants model plan bound run fresh = point_well model plan bound (finished run) fresh

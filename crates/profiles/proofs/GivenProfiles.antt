@@ -15,7 +15,7 @@ use Rattle.profiles.specs.Followed.{InRangeBelow}
 use Rattle.profiles.specs.GivenValues.{summed_most, HasValues, HasSlopes, IsShortest, StaysWithin, segment_count}
 use Rattle.profiles.specs.Neighbours.{DivideTime, MayBeCompared, NoneContinues, starts_of}
 use Rattle.profiles.specs.Profiles.{profile_of, resource_sum}
-use Rattle.profiles.proofs.SegmentLines.{sum_given, slope_given, lines_sampled, lines_divide, lines_turn, lines_follow, fewest_lines}
+use Rattle.profiles.proofs.SegmentLines.{sum_given, slope_given, lines_sampled, lines_divide, lines_change, lines_follow, fewest_lines}
 use Rattle.profiles.proofs.SegmentValues.{values_begun, value_given, values_divide, values_change, fewest_values}
 use Rattle.profiles.proofs.SumsInRange.{sums_in_range, sums_stay}
 use Rattle.profiles.proofs.Terms.{form_of}
@@ -65,7 +65,7 @@ module _ (model : Parts) (run : Run) where
 
   pub none_continues : (of : Resource) → NoneContinues (profile_of model run of)
   none_continues (resource.Discrete read) = values_change (resource_value model run (resource.Discrete read)) run.reach
-  none_continues (resource.Linear form) = lines_turn (resource_sum model run form) (rate_at model run form) run.reach
+  none_continues (resource.Linear form) = lines_change (resource_sum model run form) (rate_at model run form) run.reach
 
   pub divides_time : (of : Resource) → DivideTime run.reach (starts_of (profile_of model run of))
   divides_time (resource.Discrete read) = values_divide (resource_value model run (resource.Discrete read)) run.reach

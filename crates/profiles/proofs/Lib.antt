@@ -4,13 +4,11 @@ pub mod FoundStates
 pub mod FreshInstants
 pub mod GivenProfiles
 pub mod LineWalks
-pub mod Products
 pub mod Resources
 pub mod SegmentLines
 pub mod SegmentValues
 pub mod Segmenting
 pub mod StartTimes
-pub mod Started
 pub mod Sums
 pub mod SumsInRange
 pub mod Terms

@@ -8,9 +8,10 @@ use Rattle.std.proofs.lemmas.Cmp.{int_ranked}
 use Rattle.std.proofs.lemmas.List.{length-map}
 use Rattle.aerie_base.specs.declared.values.Value.{Value}
 use Rattle.aerie_base.specs.declared.values.Value.TheVariants.{Int, Truth, Variant}
+use Rattle.aerie_base.specs.SameValues.{values_are}
 use Rattle.aerie_base.specs.expressions.Arithmetic.{same_value}
 use Rattle.profiles.specs.Neighbours.{DivideTime, EachNext, ChangesValue}
-use Rattle.profiles.specs.Samples.{last_started, HaveBegun}
+use Rattle.windows.specs.Begun.{last_begun, HaveBegun}
 use Rattle.profiles.specs.Segments.{times_where, begins_value, value_segments}
 use Rattle.profiles.proofs.FewestStarts.{is_start, no_fewer, still_last, starts_at_zero}
 use Rattle.profiles.proofs.Segmenting.{same_itself}
@@ -23,13 +24,13 @@ module _ {A : Type 0} (from : A → ℕ) (at : ℕ → A) (same : (t : ℕ) → 
   starts_are [] = refl
   starts_are (t ∷ rest) = ap (λ k. k ∷ map from (map at rest)) (same t) ∙ ap (λ (r : List ℕ). t ∷ r) (starts_are rest)
 
-  pub last_mapped : (l : List ℕ) (t : ℕ) → last_started from (map at l) t ≡ option_map at (last_started itself l t)
+  pub last_mapped : (l : List ℕ) (t : ℕ) → last_begun from (map at l) t ≡ option_map at (last_begun itself l t)
   last_mapped [] t = refl
   last_mapped (a ∷ []) t = refl
   last_mapped (a ∷ b ∷ rest) t =
-      ap (λ k. cond (nat_le k t) (last_started from (map at (b ∷ rest)) t) (Some (at a))) (same b)
+      ap (λ k. cond (nat_le k t) (last_begun from (map at (b ∷ rest)) t) (Some (at a))) (same b)
       ∙ (ap (λ o. cond (nat_le b t) o (Some (at a))) (last_mapped (b ∷ rest) t)
-      ∙ within (nat_le b t) (last_started itself (b ∷ rest) t) a)
+      ∙ within (nat_le b t) (last_begun itself (b ∷ rest) t) a)
     where
       within : (c : Bool) (o : Option ℕ) (a : ℕ) → cond c (option_map at o) (Some (at a)) ≡ option_map at (cond c o (Some a))
       within true o a = refl
@@ -43,36 +44,6 @@ module _ {A : Type 0} (from : A → ℕ) (at : ℕ → A) (same : (t : ℕ) → 
   each_next_mapped P [] each = tt
   each_next_mapped P (a ∷ []) each = tt
   each_next_mapped P (a ∷ b ∷ rest) each = (each.0, each_next_mapped P (b ∷ rest) each.1)
-
--- ---- equal values
-
-pub numbers_are : (a b : ℤ) → int_eq a b ≡ true → a ≡ b
-numbers_are a b h = by (int_cmp a b) (int_ranked a b (int_cmp a b) refl) h
-  where
-    by : (order : Ordering) → MatchOrdering order (a <ℤ b) (a ≡ b) (b <ℤ a) → is_eq order ≡ true → a ≡ b
-    by Less less h = absurd (false≢true h)
-    by Equal same h = same
-    by Greater more h = absurd (false≢true h)
-
-truths_are : (a b : Bool) → same_value (Truth a) (Truth b) ≡ true → a ≡ b
-truths_are true true h = refl
-truths_are true false h = absurd (cc)
-truths_are false true h = absurd (cc)
-truths_are false false h = refl
-
-values_are : (a b : Value) → same_value a b ≡ true → a ≡ b
-values_are (Int a) (Int b) h = ap Int (numbers_are a b h)
-values_are (Int a) (Truth b) h = absurd (cc)
-values_are (Int a) (Variant of b) h = absurd (cc)
-values_are (Truth a) (Int b) h = absurd (cc)
-values_are (Truth a) (Truth b) h = ap Truth (truths_are a b h)
-values_are (Truth a) (Variant of b) h = absurd (cc)
-values_are (Variant of a) (Int b) h = absurd (cc)
-values_are (Variant of a) (Truth b) h = absurd (cc)
-values_are (Variant of a) (Variant other b) h =
-    let first : nat_eq of other ≡ true = grind arith in
-    let second : nat_eq a b ≡ true = grind arith in
-    λ i. Variant (eqb-true of other first i) (eqb-true a b second i)
 
 pub not_true : (b : Bool) → not b ≡ true → b ≡ false
 not_true true e = absurd (false≢true e)
@@ -101,7 +72,7 @@ module _ (value : ℕ → Value) where
       (begun_below (begins_value value) refl reach t below)
 
   pub value_given : (reach t : ℕ) → t < reach →
-      unwrap_or (option_map (λ segment. segment.1) (last_started (λ segment. segment.0) (value_segments value reach) t)) (Int (pos 0)) ≡ value t
+      unwrap_or (option_map (λ segment. segment.1) (last_begun (λ segment. segment.0) (value_segments value reach) t)) (Int (pos 0)) ≡ value t
   value_given reach t below =
       ap (λ (o : Option (ℕ × Value)). unwrap_or (option_map (λ segment. segment.1) o) (Int (pos 0)))
       (last_mapped (λ (segment : ℕ × Value). segment.0) (λ t. (t, value t)) (λ t. refl) (times_where (begins_value value) reach) t
@@ -124,7 +95,7 @@ module _ (value : ℕ → Value) where
   -- no other segments that give the value are fewer
   module _ (reach : ℕ) (others : List (ℕ × Value))
       (given : (t : ℕ) → t < reach → HaveBegun t (map (λ segment. segment.0) others)
-      × (unwrap_or (option_map (λ segment. segment.1) (last_started (λ segment. segment.0) others t)) (Int (pos 0)) ≡ value t)) where
+      × (unwrap_or (option_map (λ segment. segment.1) (last_begun (λ segment. segment.0) others t)) (Int (pos 0)) ≡ value t)) where
     starts_there : (t : ℕ) → t < reach → begins_value value t ≡ true → is_start t (map (λ segment. segment.0) others) ≡ true
     starts_there zero below begins = starts_at_zero (map (λ segment. segment.0) others) (given 0 below).0
     starts_there (suc t) below begins = by (is_start (suc t) (map (λ segment. segment.0) others)) refl

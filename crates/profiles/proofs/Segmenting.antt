@@ -10,7 +10,7 @@ use Rattle.aerie_base.specs.expressions.Arithmetic.{same_value}
 use Rattle.windows.specs.declared.segments.Segment.{Segment}
 use Rattle.windows.specs.Linear.{segment_value}
 use Rattle.profiles.specs.Segments.{times_where, begins_value, begins_line}
-use Rattle.profiles.proofs.Products.{times_more}
+use Rattle.aerie_base.specs.Products.{times_more}
 
 -- ---- times
 

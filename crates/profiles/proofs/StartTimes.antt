@@ -2,7 +2,7 @@
 use Rattle.std.proofs.Common.{◌≡◌, ℕ, zero, suc, ◌<◌, ◌≤◌, Bool, true, false, cond, List, [], ◌∷◌, ◌++◌, nat_le, nat_lt, Some, refl, sym, ap, subst, ◌∙◌, arith}
 use Rattle.std.proofs.lemmas.Bool.{le-leb, lt-leb, ltb-true, ltb-false, false≢true}
 use Rattle.profiles.specs.Neighbours.{first_start_of, RiseUpTo, DivideTime, EachNext}
-use Rattle.profiles.specs.Samples.{last_started, RiseBehind, HaveBegun}
+use Rattle.windows.specs.Begun.{last_begun, StartsRise, HaveBegun}
 use Rattle.profiles.specs.Segments.{times_where}
 
 -- the last time up to this one that passes a test, or 0
@@ -55,7 +55,7 @@ times_below test (suc n) =
 
 -- ---- rising
 
-behind_end : (last x : ℕ) (l : List ℕ) → RiseBehind last l → last < x → AllBelow x l → RiseBehind last (l ++ x ∷ [])
+behind_end : (last x : ℕ) (l : List ℕ) → StartsRise last l → last < x → AllBelow x l → StartsRise last (l ++ x ∷ [])
 behind_end last x [] rise after below = (after, tt)
 behind_end last x (t ∷ rest) rise after below = (rise.0, behind_end t x rest rise.1 below.0 below.1)
 
@@ -81,25 +81,25 @@ begun_below test first (suc n) t below = begun_by t (times_where test (suc n)) (
 
 -- ---- the last that has begun
 
-before_new : (l : List ℕ) (x t d : ℕ) → HaveBegun d l → t < x → last_started itself (l ++ x ∷ []) t ≡ last_started itself l t
+before_new : (l : List ℕ) (x t d : ℕ) → HaveBegun d l → t < x → last_begun itself (l ++ x ∷ []) t ≡ last_begun itself l t
 before_new [] x t d begun later = absurd begun
 before_new (a ∷ []) x t d begun later = ap (λ c. cond c (Some x) (Some a)) (lt-leb x t later)
 before_new (a ∷ b ∷ rest) x t d begun later =
     ap (λ o. cond (nat_le b t) o (Some a)) (before_new (b ∷ rest) x t b (omega arith, begun.1.1) later)
 
-at_new : (l : List ℕ) (x : ℕ) → AllBelow x l → last_started itself (l ++ x ∷ []) x ≡ Some x
+at_new : (l : List ℕ) (x : ℕ) → AllBelow x l → last_begun itself (l ++ x ∷ []) x ≡ Some x
 at_new [] x below = refl
 at_new (a ∷ []) x below = ap (λ c. cond c (Some x) (Some a)) (le-leb x x (omega arith))
 at_new (a ∷ b ∷ rest) x below =
-    ap (λ c. cond c (last_started itself (b ∷ rest ++ x ∷ []) x) (Some a)) (le-leb b x (omega (arith, below.1.0))) ∙ at_new (b ∷ rest) x below.1
+    ap (λ c. cond c (last_begun itself (b ∷ rest ++ x ∷ []) x) (Some a)) (le-leb b x (omega (arith, below.1.0))) ∙ at_new (b ∷ rest) x below.1
 
-no_new : (l : List ℕ) (n : ℕ) → AllBelow (suc n) l → last_started itself l (suc n) ≡ last_started itself l n
+no_new : (l : List ℕ) (n : ℕ) → AllBelow (suc n) l → last_begun itself l (suc n) ≡ last_begun itself l n
 no_new [] n below = refl
 no_new (a ∷ []) n below = refl
 no_new (a ∷ b ∷ rest) n below =
-    ap (λ c. cond c (last_started itself (b ∷ rest) (suc n)) (Some a)) (le-leb b (suc n) (omega (arith, below.1.0)))
+    ap (λ c. cond c (last_begun itself (b ∷ rest) (suc n)) (Some a)) (le-leb b (suc n) (omega (arith, below.1.0)))
     ∙ (no_new (b ∷ rest) n below.1
-    ∙ sym (ap (λ c. cond c (last_started itself (b ∷ rest) n) (Some a)) (le-leb b n (omega (arith, below.1.0)))))
+    ∙ sym (ap (λ c. cond c (last_begun itself (b ∷ rest) n) (Some a)) (le-leb b n (omega (arith, below.1.0)))))
 
 passing_is : (test : ℕ → Bool) (n : ℕ) → test n ≡ true → last_where test n ≡ n
 passing_is test zero e = refl
@@ -107,7 +107,7 @@ passing_is test (suc n) e = ap (λ b. cond b (suc n) (last_where test n)) e
 
 -- the last start up to a time is the last time up to it that passes
 abbrev pub LastAre : (ℕ → Bool) → ℕ → List ℕ → Type 0
-LastAre test n l = (t : ℕ) → t < n → last_started itself l t ≡ Some (last_where test t)
+LastAre test n l = (t : ℕ) → t < n → last_begun itself l t ≡ Some (last_where test t)
 
 split : {A : Type 0} (t n : ℕ) → t < suc n → (t < n → A) → (t ≡ n → A) → A
 split {A = A} t n below before here = by (nat_lt t n) refl
@@ -141,12 +141,12 @@ last_are test first (suc n) =
 -- ---- neighbours
 
 -- the last of some times, all before this one
-next_end : (P : ℕ → ℕ → Type 0) (l : List ℕ) (x m : ℕ) → EachNext P l → AllBelow (suc m) l → ((a : ℕ) → last_started itself l m ≡ Some a → P a x) → EachNext P (l ++ x ∷ [])
+next_end : (P : ℕ → ℕ → Type 0) (l : List ℕ) (x m : ℕ) → EachNext P l → AllBelow (suc m) l → ((a : ℕ) → last_begun itself l m ≡ Some a → P a x) → EachNext P (l ++ x ∷ [])
 next_end P [] x m each below last = tt
 next_end P (a ∷ []) x m each below last = (last a refl, tt)
 next_end P (a ∷ b ∷ rest) x m each below last =
     let begun : nat_le b m ≡ true = le-leb b m (omega (arith, below.1.0)) in
-    (each.0, next_end P (b ∷ rest) x m each.1 below.1 (λ k is. last k (ap (λ c. cond c (last_started itself (b ∷ rest) m) (Some a)) begun ∙ is)))
+    (each.0, next_end P (b ∷ rest) x m each.1 below.1 (λ k is. last k (ap (λ c. cond c (last_begun itself (b ∷ rest) m) (Some a)) begun ∙ is)))
 
 some_same : (a b : ℕ) → Some a ≡ Some b → a ≡ b
 some_same a b e = cc

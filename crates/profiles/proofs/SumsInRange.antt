@@ -19,7 +19,7 @@ use Rattle.profiles.specs.GivenValues.{summed_most}
 use Rattle.profiles.specs.Profiles.{resource_sum}
 use Rattle.profiles.specs.Watching.{IsSummed, IsWatchable, read_number, values_sum, watched_on}
 use Rattle.profiles.proofs.LineWalks.{sum_on}
-use Rattle.profiles.proofs.Products.{product_within}
+use Rattle.aerie_base.specs.Products.{product_within}
 use Rattle.profiles.proofs.Terms.{IsFormOf, all_watchable, watched_few}
 
 number_small : (one : CellRead) (state : CellState) → IsSummed one → is_in_range state ≡ true → unsigned_abs (read_number one state) ≤ 1_000_000_000_000_000_000

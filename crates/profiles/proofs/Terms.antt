@@ -30,7 +30,7 @@ use Rattle.profiles.specs.declared.watching.Watched.{Watched}
 use Rattle.profiles.specs.States.{state_on}
 use Rattle.profiles.specs.Watching.{watched_operand, watched_on, advanced, read_number, read_rate, values_sum, rates_sum, IsSummed, IsWatchable}
 use Rattle.profiles.proofs.Following.{state_next, state_later}
-use Rattle.profiles.proofs.Products.{sum_times, times_sum, times_times}
+use Rattle.aerie_base.specs.Products.{sum_times, times_sum, times_times}
 use Rattle.profiles.proofs.Walks.{seen_is, in_range_there}
 
 -- ---- which cells there are

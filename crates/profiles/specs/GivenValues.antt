@@ -12,7 +12,8 @@ use Rattle.profiles.specs.declared.sampling.Profile.{Profile}
 use Rattle.profiles.specs.declared.sampling.Profile.TheVariants.{Discrete, Linear}
 use Rattle.profiles.specs.declared.sampling.Sample.{Sample}
 use Rattle.profiles.specs.declared.sampling.Sample.TheVariants as sample
-use Rattle.profiles.specs.Samples.{CanBeSampled, sample_at, last_started}
+use Rattle.windows.specs.Begun.{last_begun}
+use Rattle.profiles.specs.Samples.{CanBeSampled, sample_at}
 
 -- a profile is so of the resource with this number, where the model has one
 abbrev pub OfResource : Parts → ℕ → (Resource → Profile → Type 0) → Profile → Type 0
@@ -44,7 +45,7 @@ StaysWithin most reach (Linear segments) = (t : ℕ) → t < reach → unsigned_
 -- by how much a profile rises each microsecond from a time on
 abbrev pub slope_at : Profile → ℕ → ℤ
 slope_at (Discrete segments) t = pos 0
-slope_at (Linear segments) t = unwrap_or (option_map (λ segment. segment.rate) (last_started (λ segment. segment.from) segments t)) (pos 0)
+slope_at (Linear segments) t = unwrap_or (option_map (λ segment. segment.rate) (last_begun (λ segment. segment.from) segments t)) (pos 0)
 
 -- the same of a resource: a discrete one stays until it changes
 abbrev pub resource_slope : Parts → Run → Resource → ℕ → ℤ

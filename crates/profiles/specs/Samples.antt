@@ -1,6 +1,7 @@
 -- What a profile has at a time.
-use Rattle.std.specs.Prelude.{◌≡◌, ℕ, ◌<◌, ◌≤◌, pos, cond, nat_le, List, [], ◌∷◌, map, Option, Some, None, option_map, unwrap_or, IfSome, refl}
+use Rattle.std.specs.Prelude.{◌≡◌, ℕ, pos, List, [], ◌∷◌, map, option_map, unwrap_or, IfSome, refl}
 use Rattle.aerie_base.specs.declared.values.Value.TheVariants.{Int}
+use Rattle.windows.specs.Begun.{last_begun, HaveBegun}
 use Rattle.windows.specs.declared.segments.Segment.{Segment}
 use Rattle.windows.specs.Linear.{IsSum, segments_value}
 use Rattle.profiles.specs.declared.sampling.Profile.{Profile}
@@ -8,26 +9,10 @@ use Rattle.profiles.specs.declared.sampling.Profile.TheVariants.{Discrete, Linea
 use Rattle.profiles.specs.declared.sampling.Sample.{Sample}
 use Rattle.profiles.specs.declared.sampling.Sample.TheVariants as sample
 
--- the last of these that begins no later than a time, where the first does
-abbrev pub last_started : {A : Type 0} → (A → ℕ) → List A → ℕ → Option A
-last_started from [] t = None
-last_started from (one ∷ []) t = Some one
-last_started from (one ∷ next ∷ rest) t = cond (nat_le (from next) t) (last_started from (next ∷ rest) t) (Some one)
-
--- each start after the one before it
-abbrev pub RiseBehind : ℕ → List ℕ → Type 0
-RiseBehind last [] = Unit {0}
-RiseBehind last (from ∷ rest) = (last < from) × RiseBehind from rest
-
--- starts that rise, the first of them no later than a time
-abbrev pub HaveBegun : ℕ → List ℕ → Type 0
-HaveBegun t [] = ⊥
-HaveBegun t (from ∷ rest) = (from ≤ t) × RiseBehind from rest
-
 -- a straight piece with its value and that at a time below 2^120
 pub record IsLineAt (segments : List Segment) (t : ℕ) : Type 0 where
   pub starts : HaveBegun t (map (λ segment. segment.from) segments)
-  pub value : IfSome (last_started (λ segment. segment.from) segments t) (λ segment. IsSum segment.value)
+  pub value : IfSome (last_begun (λ segment. segment.from) segments t) (λ segment. IsSum segment.value)
   pub given : IsSum (segments_value segments t)
 
 -- segments in rising order, one of them no later than the time, the sums of a linear profile below 2^120
@@ -37,7 +22,7 @@ CanBeSampled (Linear segments) t = IsLineAt segments t
 
 -- what the profile has at the time
 abbrev pub sample_at : Profile → ℕ → Sample
-sample_at (Discrete segments) t = sample.Value (unwrap_or (option_map (λ segment. segment.1) (last_started (λ segment. segment.0) segments t)) (Int (pos 0)))
+sample_at (Discrete segments) t = sample.Value (unwrap_or (option_map (λ segment. segment.1) (last_begun (λ segment. segment.0) segments t)) (Int (pos 0)))
 sample_at (Linear segments) t = sample.Sum (segments_value segments t)
 
 -- ---- worked cases

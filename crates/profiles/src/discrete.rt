@@ -16,7 +16,7 @@ ghost use Rattle.profiles.specs.States.{RiseFrom};
 ghost use Rattle.profiles.specs.Showings.{next_showing, first_showing};
 
 use crate::runs::can_be_followed;
-use crate::states::{between, is_below, next_state, start_time, state_at_start};
+use crate::states::{next_state, state_at_start};
 use aerie_base::{CellRead, List, Model, Number, OutOfMemory, Time, Value, same_value};
 use effect_cells::CellState;
 use run_data::{Instant, Run};
@@ -65,7 +65,7 @@ fn at_start(model: &Model, read: CellRead) -> Showing
 {
     let state = state_at_start(model, read);
     Showing {
-        time: start_time(),
+        time: Time::zero(),
         state,
         value: shown(read, &state),
     }
@@ -79,7 +79,7 @@ fn after_instant(showing: &Showing, read: CellRead, instant: &Instant) -> Showin
     requires settled { is_in_range (next_showing showing.now read instant.now).state ≡ true }
     ensures { result ≡ next_showing showing.now read instant.now }
 {
-    let dt = between(showing.time, instant.time);
+    let dt = showing.time.until(instant.time);
     let state = next_state(showing.state, read.cell(), dt, instant.changed.as_slice());
     Showing {
         time: instant.time,
@@ -124,14 +124,14 @@ pub(crate) fn value_profile(
         return Ok(segments);
     }
     let first = &instants[0];
-    if !is_below(first.time, run.reach) {
+    if !first.time.is_before(run.reach) {
         return Ok(segments);
     }
     let mut showing = after_instant(&at_start(model, read), read, first);
     put(&mut segments, false, &showing)?;
     for at in 1..instants.len() {
         let instant = &instants[at];
-        if !is_below(instant.time, run.reach) {
+        if !instant.time.is_before(run.reach) {
             return Ok(segments);
         }
         let next = after_instant(&showing, read, instant);

@@ -16,7 +16,6 @@ ghost use Rattle.profiles.specs.States.{RiseFrom};
 ghost use Rattle.profiles.specs.Watching.{IsModerate, IsWatchable, advanced, summed_line};
 
 use crate::runs::can_be_followed;
-use crate::states::{between, elapsed, is_below, start_time};
 use crate::watching::{Watched, advance_all, line_from, watched_terms};
 use aerie_base::{Linear, List, Model, OutOfMemory, Time};
 use run_data::{Instant, Run};
@@ -34,7 +33,7 @@ fn line_after(watched: &mut Vec<Watched>, from: Time, instant: &Instant) -> Segm
     ensures line { result ≡ summed_line instant.now.time (map (advanced (instant.now.time - from) instant.now.changed) watched.old.items) }
     ensures small { IsModerate result }
 {
-    let dt = between(from, instant.time);
+    let dt = from.until(instant.time);
     advance_all(watched, dt, instant.changed.as_slice());
     line_from(instant.time, watched.as_slice())
 }
@@ -55,7 +54,7 @@ fn value_later(line: &Segment, time: Time) -> i128
     requires time { line.now.from ≤ time }
     ensures { result ≡ segment_value line.now time }
 {
-    value_after(line.value, line.rate, elapsed(line.from, time))
+    value_after(line.value, line.rate, line.from.micros_until(time))
 }
 
 /// Whether a straight piece goes on with the next one.
@@ -98,15 +97,15 @@ pub(crate) fn line_profile(
         return Ok(segments);
     }
     let first = &instants[0];
-    if !is_below(first.time, run.reach) {
+    if !first.time.is_before(run.reach) {
         return Ok(segments);
     }
     let mut watched = watched_terms(alloc, model, form.terms.as_slice())?;
-    let mut line = line_after(&mut watched, start_time(), first);
+    let mut line = line_after(&mut watched, Time::zero(), first);
     put(&mut segments, false, line)?;
     for at in 1..instants.len() {
         let instant = &instants[at];
-        if !is_below(instant.time, run.reach) {
+        if !instant.time.is_before(run.reach) {
             return Ok(segments);
         }
         let next = line_after(&mut watched, line.from, instant);

@@ -1,7 +1,6 @@
 //! States of cells from instant to instant.
 
-ghost use Rattle.std.specs.Prelude.{◌≡◌, ◌≤◌, ◌-◌, true, Some, None, unwrap_or, nat_lt, if◌then◌else◌};
-ghost use Rattle.aerie_base.specs.Ranges.{IsTime};
+ghost use Rattle.std.specs.Prelude.{◌≡◌, true, Some, None, unwrap_or, if◌then◌else◌};
 ghost use Rattle.effect_cells.specs.Cells.{first_state, initial};
 ghost use Rattle.effect_cells.specs.States.{is_in_range, state_after};
 ghost use Rattle.profiles.specs.States.{RiseFrom, changed_state, state_on};
@@ -34,37 +33,6 @@ pub(crate) fn state_at_start(model: &Model, read: CellRead) -> CellState
         Some(cell) => first_state(&cell.1),
         None => CellState::Counter(0),
     }
-}
-
-/// The first time.
-pub(crate) fn start_time() -> Time
-    ensures { result ≡ 0 }
-{
-    Time::new(0).unwrap()
-}
-
-/// Whether a time is before the reach.
-pub(crate) fn is_below(time: Time, reach: Time) -> bool
-    ensures { result ≡ nat_lt time reach }
-{
-    time.get() < reach.get()
-}
-
-/// The microseconds from one time to a later one.
-pub(crate) fn between(from: Time, to: Time) -> Time
-    requires { from ≤ to }
-    ensures { result ≡ to - from }
-{
-    Time::new(to.get() - from.get()).unwrap()
-}
-
-/// How many microseconds they are apart.
-pub(crate) fn elapsed(from: Time, to: Time) -> u128
-    requires { from ≤ to }
-    ensures micros { result ≡ to - from }
-    ensures time { IsTime result }
-{
-    (to.get() - from.get()) as u128
 }
 
 /// The state a time `dt` later, where there is no effect.

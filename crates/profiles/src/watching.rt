@@ -8,7 +8,7 @@ ghost use Rattle.profiles.specs.States.{RiseFrom};
 ghost use Rattle.profiles.specs.Watching.{IsModerate, IsWatchable, advanced, summed_line, read_number, read_rate, watched_on, watched_term};
 
 use crate::states::{next_state, state_at_start};
-use aerie_base::{CellRead, Model, Operand, OutOfMemory, Term, Time};
+use aerie_base::{CellRead, Model, Operand, OutOfMemory, Term, Time, product};
 use effect_cells::CellState;
 use std::alloc::Global;
 use windows::Segment;
@@ -99,17 +99,6 @@ fn rate_of(watched: &Watched) -> i128
         (CellRead::Volume(_), CellState::Volume { rate, .. }) => rate,
         _ => 0,
     }
-}
-
-/// A number multiplied by a coefficient.
-#[tactic(auto, using(crate::proofs::Products::product_within))]
-fn product(coefficient: i128, number: i128) -> i128
-    requires coefficient { unsigned_abs coefficient ≤ 1_000_000 }
-    requires number { unsigned_abs number ≤ 1_000_000_000_000_000_000 }
-    ensures value { result ≡ coefficient *ℤ number }
-    ensures small { unsigned_abs result ≤ 1_000_000 * unsigned_abs number }
-{
-    coefficient * number
 }
 
 /// What one cell adds to the value.

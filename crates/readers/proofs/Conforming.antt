@@ -13,9 +13,9 @@ use Rattle.readers.specs.grammar.Predictive.{IsPredictive}
 use Rattle.readers.specs.grammar.Notation.{one_of}
 use Rattle.readers.specs.grammar.Parsing.{Stops}
 use Rattle.readers.specs.grammar.Tables.{is_among}
-use Rattle.readers.specs.Parsed.{Parsed, parsed, failed, over_limit, ◌>>=◌, next_fits, next_is, is_of, is_one_of, one_of_at, chosen, taken, mark_at, had, has_at, limited, turns_at, repeated, separated_at}
+use Rattle.readers.specs.Parsed.{Parsed, parsed, failed, over_limit, ◌>>=◌, next_fits, next_is, is_of, is_one_of, one_of_at, chosen, taken, mark_at, had, has_at, limited, iterations_at, repeated, separated_at}
 use Rattle.readers.specs.Conforms.{Covers, ReadsPast, GoesAlong, Conforms}
-use Rattle.readers.proofs.Grammars.Parsing.{token_read, token_stops, token_ends, both_read, first_stops, second_stops, answer_first, answer_second, option_read, option_left, answer_turn, answer_over, answer_rule}
+use Rattle.readers.proofs.Grammars.Parsing.{token_read, token_stops, token_ends, both_read, first_stops, second_stops, answer_first, answer_second, option_read, option_left, answer_iteration, answer_over, answer_rule}
 use Rattle.readers.proofs.Begun.{joined, begun}
 
 some_of_both : (a b : Bool) (m n : ℕ) → (a && b) ≡ false → (a ≡ false → 0 < m) → (b ≡ false → 0 < n) → 0 < m + n
@@ -166,21 +166,21 @@ module _ {Rule Kind : Type 0} (look : Lookahead Rule Kind Mark) where
   left_out : (a : Form Rule Kind) (marks : List Mark) → next_in_first look a marks ≡ false → Covers look (option a) marks marks
   left_out a marks h = record { front = []; is = refl; some = λ e. absurd (or_true (nullable look a) e); reads = option_left look a marks h; whole = λ xs. (2, second_of_two (pass stop)) }
 
-  -- ---- turns
+  -- ---- iterations
 
-  module _ {S : Type 0} (a : Form Rule Kind) (test : Mark → Bool) (turn : S → List Mark → Parsed S) (h : (k : Mark) → test k ≡ in_first look a k) (e : nullable look a ≡ false) where
+  module _ {S : Type 0} (a : Form Rule Kind) (test : Mark → Bool) (iteration : S → List Mark → Parsed S) (h : (k : Mark) → test k ≡ in_first look a k) (e : nullable look a ≡ false) where
     once_more_covers : (marks middle rest : List Mark) → IsTrue (next_in_first look a marks) → Covers look a marks middle → Covers look (many a) middle rest → Covers look (many a) marks rest
     once_more_covers marks middle rest b c d = record {
       front = c.front ++ d.front;
       is = c.is ∙ ap (λ (x : List Mark). c.front ++ x) d.is ∙ sym (append_assoc c.front d.front rest);
       some = λ f. cc;
-      reads = record { onward = λ xs. answer_turn look a xs marks b ∙ c.reads.onward (many a ∷ xs) ∙ d.reads.onward xs };
+      reads = record { onward = λ xs. answer_iteration look a xs marks b ∙ c.reads.onward (many a ∷ xs) ∙ d.reads.onward xs };
       whole = λ xs. let i = c.whole (many a ∷ xs) in let j = joined look.grammar i.0 (a ∷ many a ∷ xs) c.front (many a ∷ xs) i.1 d.front xs (d.whole xs) in (suc j.0, once_more j.1);
     }
 
     once_more_goes : (marks middle : List Mark) (r : Parsed S) → IsTrue (next_in_first look a marks) → Covers look a marks middle → GoesAlong look (many a) middle r → GoesAlong look (many a) marks r
     once_more_goes marks middle (parsed part rest) b c d = once_more_covers marks middle rest b c d
-    once_more_goes marks middle (failed rest) b c i = record { here = λ xs. answer_turn look a xs marks b ∙ c.reads.onward (many a ∷ xs) ∙ i.here xs }
+    once_more_goes marks middle (failed rest) b c i = record { here = λ xs. answer_iteration look a xs marks b ∙ c.reads.onward (many a ∷ xs) ∙ i.here xs }
     once_more_goes marks middle (over_limit limit rest) b c i = record {
       front = c.front ++ i.front;
       next = i.next;
@@ -192,12 +192,12 @@ module _ {Rule Kind : Type 0} (look : Lookahead Rule Kind Mark) where
           (k.0, subst (λ (ts : List Mark). LazyReading look.grammar (many a ∷ xs) ts k.0) (sym (append_assoc c.front i.front (i.next ∷ []))) (suc j.0, once_more j.1));
     }
 
-    -- a turn, and the turns behind it
-    turn_goes : (marks : List Mark) (r : Parsed S) (f : S × List Mark → Parsed S) → IsTrue (next_in_first look a marks) → GoesAlong look a marks r
+    -- a iteration, and the iterations behind it
+    iteration_goes : (marks : List Mark) (r : Parsed S) (f : S × List Mark → Parsed S) → IsTrue (next_in_first look a marks) → GoesAlong look a marks r
         → ((part : S) (rest : List Mark) → Covers look a marks rest → GoesAlong look (many a) rest (f (part, rest))) → GoesAlong look (many a) marks (r >>= f)
-    turn_goes marks (parsed part rest) f b c i = once_more_goes marks rest (f (part, rest)) b c (i part rest c)
-    turn_goes marks (failed rest) f b s i = record { here = λ xs. answer_turn look a xs marks b ∙ s.here (many a ∷ xs) }
-    turn_goes marks (over_limit limit rest) f b s i = record {
+    iteration_goes marks (parsed part rest) f b c i = once_more_goes marks rest (f (part, rest)) b c (i part rest c)
+    iteration_goes marks (failed rest) f b s i = record { here = λ xs. answer_iteration look a xs marks b ∙ s.here (many a ∷ xs) }
+    iteration_goes marks (over_limit limit rest) f b s i = record {
       front = s.front;
       next = s.next;
       behind = s.behind;
@@ -219,16 +219,16 @@ module _ {Rule Kind : Type 0} (look : Lookahead Rule Kind Mark) where
     none_left [] l = refl
     none_left (k ∷ rest) l = absurd (omega (arith, l))
 
-    turns_go : ((state : S) (marks : List Mark) → next_fits test marks ≡ true → GoesAlong look a marks (turn state marks))
-        → (most : ℕ) (state : S) (marks : List Mark) → length marks ≤ most → GoesAlong look (many a) marks (turns_at test turn most state marks)
-    turns_go i zero state marks l = over_goes marks (none_left marks l)
-    turns_go i (suc most) state marks l = by_test (next_fits test marks) refl
-        (λ part rest c. turns_go i most part rest (shorter most marks rest l c))
+    iterations_go : ((state : S) (marks : List Mark) → next_fits test marks ≡ true → GoesAlong look a marks (iteration state marks))
+        → (most : ℕ) (state : S) (marks : List Mark) → length marks ≤ most → GoesAlong look (many a) marks (iterations_at test iteration most state marks)
+    iterations_go i zero state marks l = over_goes marks (none_left marks l)
+    iterations_go i (suc most) state marks l = by_test (next_fits test marks) refl
+        (λ part rest c. iterations_go i most part rest (shorter most marks rest l c))
       where
-        by_test : (v : Bool) → next_fits test marks ≡ v → ((part : S) (rest : List Mark) → Covers look a marks rest → GoesAlong look (many a) rest (turns_at test turn most part rest))
-            → GoesAlong look (many a) marks (chosen v (λ here. turn state here >>= λ after. turns_at test turn most after.0 after.1) (parsed state) marks)
+        by_test : (v : Bool) → next_fits test marks ≡ v → ((part : S) (rest : List Mark) → Covers look a marks rest → GoesAlong look (many a) rest (iterations_at test iteration most part rest))
+            → GoesAlong look (many a) marks (chosen v (λ here. iteration state here >>= λ after. iterations_at test iteration most after.0 after.1) (parsed state) marks)
         by_test false b f = over_goes marks (sym (next_begins test a h marks) ∙ b)
-        by_test true b f = turn_goes marks (turn state marks) (λ after. turns_at test turn most after.0 after.1) (sym (next_begins test a h marks) ∙ b) (i state marks b) f
+        by_test true b f = iteration_goes marks (iteration state marks) (λ after. iterations_at test iteration most after.0 after.1) (sym (next_begins test a h marks) ∙ b) (i state marks b) f
 
   -- ---- a rule
 
@@ -331,11 +331,11 @@ module _ {Rule Kind : Type 0} {look : Lookahead Rule Kind Mark} where
   chosen_conforms true p q i j = i refl
   chosen_conforms false p q i j = j refl
 
-  -- turns of a form
-  pub repeated_conforms : {S : Type 0} {a : Form Rule Kind} {test : Mark → Bool} {turn : S → List Mark → Parsed S} {marks : List Mark} (state : S) → Begins look test a → nullable look a ≡ false
-      → ((now : S) (here : List Mark) → next_fits test here ≡ true → Conforms look a here (turn now here)) → Conforms look (many a) marks (repeated test turn state marks)
-  repeated_conforms {a = a} {test = test} {turn = turn} {marks = marks} state h e i = record {
-    goes = turns_go look a test turn h.is e (λ now here w. let s = i now here w in s.goes) (length marks) state marks (omega arith);
+  -- iterations of a form
+  pub repeated_conforms : {S : Type 0} {a : Form Rule Kind} {test : Mark → Bool} {iteration : S → List Mark → Parsed S} {marks : List Mark} (state : S) → Begins look test a → nullable look a ≡ false
+      → ((now : S) (here : List Mark) → next_fits test here ≡ true → Conforms look a here (iteration now here)) → Conforms look (many a) marks (repeated test iteration state marks)
+  repeated_conforms {a = a} {test = test} {iteration = iteration} {marks = marks} state h e i = record {
+    goes = iterations_go look a test iteration h.is e (λ now here w. let s = i now here w in s.goes) (length marks) state marks (omega arith);
   }
 
   -- the form of a rule
@@ -357,9 +357,9 @@ module _ {Rule Kind : Type 0} {look : Lookahead Rule Kind Mark} where
   limited_conforms false limit part ok b i = i refl
 
   -- one part or more, with a token before each further one
-  pub separated_conforms : {S : Type 0} {t : Kind} {a : Form Rule Kind} {turn : S → List Mark → Parsed S} {marks : List Mark} (sort : Sort) (state : S) → ((k : Mark) → look.grammar.fits t k ≡ is_of sort k)
-      → ((now : S) (here : List Mark) → Conforms look a here (turn now here)) → Conforms look (separated (token t) a) marks (separated_at sort turn state marks)
-  separated_conforms {t = t} {a = a} {turn = turn} {marks = marks} sort state fit i = and_then _ (i state marks) (λ first rest. repeated_conforms _ (begins_both (begins_token sort fit) refl) refl
+  pub separated_conforms : {S : Type 0} {t : Kind} {a : Form Rule Kind} {iteration : S → List Mark → Parsed S} {marks : List Mark} (sort : Sort) (state : S) → ((k : Mark) → look.grammar.fits t k ≡ is_of sort k)
+      → ((now : S) (here : List Mark) → Conforms look a here (iteration now here)) → Conforms look (separated (token t) a) marks (separated_at sort iteration state marks)
+  separated_conforms {t = t} {a = a} {iteration = iteration} {marks = marks} sort state fit i = and_then _ (i state marks) (λ first rest. repeated_conforms _ (begins_both (begins_token sort fit) refl) refl
       (λ now here w. and_then _ (token_conforms sort (λ k. k.at) fit) (λ mark behind. i now behind)))
 
 -- ---- words and symbols that stand for a value

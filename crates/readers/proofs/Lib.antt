@@ -6,5 +6,6 @@ pub mod Grammars
 pub mod Inside
 pub mod Judged
 pub mod Listing
+pub mod Places
 pub mod Standing
 pub mod Within

@@ -6,6 +6,7 @@ pub mod Implements
 pub mod Lists
 pub mod Marks
 pub mod Parsed
+pub mod Places
 pub mod States
 pub mod Verdicts
 pub mod Within

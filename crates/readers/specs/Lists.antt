@@ -31,7 +31,11 @@ one_more_of most part_at so_far marks = unless_passed part_at (limit_passed most
 abbrev pub one_more_at : {A : Type 0} → Sort → Option Most → (List Mark → Parsed A) → List A → List Mark → Parsed (List A)
 one_more_at first most part_at so_far marks = chosen (next_is first marks) (one_more_of most part_at so_far) failed marks
 
--- part { "," part }
+-- part { "," part }, whatever a part begins with
+abbrev pub separated_parts_at : {A : Type 0} → (List Mark → Parsed A) → List Mark → Parsed (List A)
+separated_parts_at part_at marks = separated_at Comma (pushed_at part_at) [] marks
+
+-- the same of parts that begin with a token of this sort
 abbrev pub listed_at : {A : Type 0} → Sort → Option Most → (List Mark → Parsed A) → List Mark → Parsed (List A)
 listed_at first most part_at marks = separated_at Comma (one_more_at first most part_at) [] marks
 

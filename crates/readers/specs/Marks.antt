@@ -1,11 +1,11 @@
 -- Marks: what a reader sees of the tokens of a text.
-use Rattle.std.specs.Prelude.{◌≡◌, ℕ, ℤ, pos, List, map, codes, refl}
+use Rattle.std.specs.Prelude.{◌≡◌, ℕ, ℤ, pos, List, [], Result, Ok, Err, map, codes, refl}
 use Rattle.std.specs.Str.{chars}
 use Rattle.aerie_base.specs.declared.places.Place.{Place}
 use Rattle.aerie_text.specs.Marks.{count_of, slice_of, sort_of}
 use Rattle.aerie_text.specs.Places.{place_of}
 use Rattle.aerie_text.specs.Sorts.{symbol_sort, word_sort}
-use Rattle.aerie_text.specs.Tokens.{token}
+use Rattle.aerie_text.specs.Tokens.{token, tokens_of}
 use Rattle.aerie_text.specs.declared.sorts.Sort.{Sort}
 use Rattle.aerie_text.specs.declared.sorts.Sort.TheVariants as sort
 use Rattle.aerie_text.specs.declared.token.Token.{Token}
@@ -32,6 +32,15 @@ mark_of text token =
 -- the marks of tokens of a text, in order
 abbrev pub marks_of : List ℕ → List Token → List Mark
 marks_of text tokens = map (λ token. mark_of text token) tokens
+
+-- the marks of a text, where it is cut into tokens
+abbrev pub marks_where : List ℕ → Result (List Token) ℕ → List Mark
+marks_where text (Ok tokens) = marks_of text tokens
+marks_where text (Err at) = []
+
+-- the marks of a text; none where some place of it begins no token
+abbrev pub marks_in : List ℕ → List Mark
+marks_in text = marks_where text (tokens_of text)
 
 -- ---- worked cases
 

@@ -111,22 +111,22 @@ abbrev pub limited : {A : Type 0} → Bool → Limit → (List Mark → Parsed A
 limited true limit part marks = over_limit limit marks
 limited false limit part marks = part marks
 
--- ---- turns
+-- ---- iterations
 
--- Turns, each with what was read before, while the next mark fits the test; so many at most.
-abbrev pub turns_at : {S : Type 0} → (Mark → Bool) → (S → List Mark → Parsed S) → ℕ → S → List Mark → Parsed S
-turns_at test turn zero state marks = parsed state marks
-turns_at test turn (suc most) state marks =
-    chosen (next_fits test marks) (λ here. turn state here >>= λ after. turns_at test turn most after.0 after.1) (parsed state) marks
+-- Iterations, each with what was read before, while the next mark fits the test; so many at most.
+abbrev pub iterations_at : {S : Type 0} → (Mark → Bool) → (S → List Mark → Parsed S) → ℕ → S → List Mark → Parsed S
+iterations_at test iteration zero state marks = parsed state marks
+iterations_at test iteration (suc most) state marks =
+    chosen (next_fits test marks) (λ here. iteration state here >>= λ after. iterations_at test iteration most after.0 after.1) (parsed state) marks
 
--- Turns, while the next mark fits the test. Each reads a mark at least, so there are at most as many as marks.
+-- Iterations, while the next mark fits the test. Each reads a mark at least, so there are at most as many as marks.
 abbrev pub repeated : {S : Type 0} → (Mark → Bool) → (S → List Mark → Parsed S) → S → List Mark → Parsed S
-repeated test turn state marks = turns_at test turn (length marks) state marks
+repeated test iteration state marks = iterations_at test iteration (length marks) state marks
 
--- a turn behind a mark of this sort
+-- a iteration behind a mark of this sort
 abbrev pub behind_at : {S : Type 0} → Sort → (S → List Mark → Parsed S) → S → List Mark → Parsed S
-behind_at sort turn state marks = take_at sort marks >>= λ mark. turn state mark.1
+behind_at sort iteration state marks = take_at sort marks >>= λ mark. iteration state mark.1
 
--- one turn or more, with a mark of this sort before each further one
+-- one iteration or more, with a mark of this sort before each further one
 abbrev pub separated_at : {S : Type 0} → Sort → (S → List Mark → Parsed S) → S → List Mark → Parsed S
-separated_at sort turn state marks = turn state marks >>= λ first. repeated (is_of sort) (behind_at sort turn) first.0 first.1
+separated_at sort iteration state marks = iteration state marks >>= λ first. repeated (is_of sort) (behind_at sort iteration) first.0 first.1

@@ -32,7 +32,13 @@ module _ {Rule Kind : Type 0} (g : Grammar Rule Kind Mark) (start : Rule) where
   Judges marks (failed rest) = Tells g start marks (stops rest)
   Judges marks (over_limit limit rest) = IsReadableThrough marks rest
 
-  -- the same of a refusal, with the marks that are left
+  -- The same where all marks are to be read: a part is read where they all are.
+  abbrev pub JudgesAll : {A : Type 0} → List Mark → Parsed A → Type 0
+  JudgesAll marks (parsed part rest) = IsRead g start marks
+  JudgesAll marks (failed rest) = Tells g start marks (stops rest)
+  JudgesAll marks (over_limit limit rest) = IsReadableThrough marks rest
+
+  -- the same as `Judges` of a refusal, with the marks that are left
   abbrev pub Blames : List Mark → List Mark → Refusal → Type 0
   Blames marks rest Syntax = Tells g start marks (stops rest)
   Blames marks rest (TooMany limit) = IsReadableThrough marks rest

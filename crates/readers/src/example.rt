@@ -4,7 +4,7 @@
 //! rule what is read of the marks that are left: a value and the marks behind it, or where reading fails, or which limit is
 //! passed and where. Here is one function for each of these definitions. Its clause says that it answers what the
 //! definition reads, and reads a mark at least (`Consumes`) or maybe none (`MayConsume`), which bounds loops. A loop keeps
-//! `Going`: with what was read so far, the turns that are left give what the whole repetition gives. `proofs/Entries.antt`
+//! `Going`: with what was read so far, the iterations that are left give what the whole repetition gives. `proofs/Entries.antt`
 //! shows that the next mark decides, and that what is read conforms to the grammar: the law of a rule is one term with
 //! the shape of the rule's definition. The clause `verdict` of `read_list` is what comes of both: a list is a reading of the
 //! grammar as it is written, bad syntax is at the first mark that no reading reads, and a limit is passed at a mark that

@@ -12,7 +12,7 @@ mod words;
 
 pub use copies::{RawData, copy_both};
 pub use limits::Limit;
-pub use lists::{Element, Most, listed, optional_list, parenthesized, row};
+pub use lists::{Element, Most, listed, optional_list, parenthesized, row, separated};
 pub use reader::Reader;
 pub use refusal::Refusal;
 pub use words::{ended_by, one_of};

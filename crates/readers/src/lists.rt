@@ -3,7 +3,7 @@
 ghost use Rattle.std.specs.Prelude.{◌≡◌};
 ghost use Rattle.aerie_text.specs.declared.sorts.Sort.TheVariants.{Comma};
 ghost use Rattle.readers.specs.Implements.{Consumes, MayConsume};
-ghost use Rattle.readers.specs.Lists.{limit_passed, pushed_at, one_more_at, listed_at, optional_list_at, parenthesized_at, one_more_of, row_at};
+ghost use Rattle.readers.specs.Lists.{limit_passed, pushed_at, one_more_at, separated_parts_at, listed_at, optional_list_at, parenthesized_at, one_more_of, row_at};
 ghost use Rattle.readers.specs.Parsed.{behind_at};
 
 use crate::limits::Limit;
@@ -65,6 +65,29 @@ fn pushed<E: Element>(
     let mut parts = so_far;
     let last = E::part(alloc, reader)?;
     parts.push(last)?;
+    Ok(parts)
+}
+
+/// The same behind a comma.
+fn next_pushed<E: Element>(
+    alloc: Global,
+    reader: &mut Reader,
+    so_far: List<E::Part>,
+) -> Result<List<E::Part>, Refusal>
+    ensures { Consumes (behind_at Comma (pushed_at E.part_at) so_far) reader.old reader.new result }
+{
+    reader.take(Sort::Comma)?;
+    pushed::<E>(alloc, reader, so_far)
+}
+
+/// Reads one part or more, with commas between them, whatever a part begins with.
+pub fn separated<E: Element>(alloc: Global, reader: &mut Reader) -> Result<List<E::Part>, Refusal>
+    ensures { Consumes (separated_parts_at E.part_at) reader.old reader.new result }
+{
+    let mut parts = pushed::<E>(alloc, reader, List::new(alloc))?;
+    while reader.next_is(Sort::Comma) {
+        parts = next_pushed::<E>(alloc, reader, parts)?;
+    }
     Ok(parts)
 }
 

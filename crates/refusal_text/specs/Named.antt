@@ -1,7 +1,7 @@
 -- What is told by a name, or by a name and a number. The keys of each object stand in the order of their bytes.
 use Rattle.std.specs.Prelude.{ℕ, List, [], ◌∷◌, codes}
 use Rattle.serde_json.specs.Data.{Data, string}
-use Rattle.aerie_text.specs.Json.{object_of}
+use Rattle.json_line.specs.Json.{object_of}
 use Rattle.json_line.specs.Numbers.{natural_data}
 
 -- what is told by its name alone

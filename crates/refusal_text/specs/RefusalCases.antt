@@ -3,7 +3,7 @@ use Rattle.std.specs.Prelude.{◌≡◌, ℕ, List, [], ◌∷◌, codes, Some, 
 use Rattle.std.specs.Fmt.{digits}
 use Rattle.json.specs.Print.{escape_byte}
 use Rattle.serde_json.specs.Written.{compact_text}
-use Rattle.aerie_text.specs.Json.{line_of}
+use Rattle.json_line.specs.Json.{line_of}
 use Rattle.json_line.specs.Parts.{member_if}
 use Rattle.plan_edit.specs.declared.errors.EditError.TheVariants as edit
 use Rattle.plan_edit.specs.declared.errors.MigrateError.TheVariants as migrate

@@ -2,7 +2,7 @@
 use Rattle.std.specs.Prelude.{ℕ, [], ◌∷◌, codes, Option, option_map}
 use Rattle.serde_json.specs.Data.{Data, member, no_members, object, string}
 use Rattle.aerie_base.specs.declared.places.Place.{Place}
-use Rattle.aerie_text.specs.Json.{object_of}
+use Rattle.json_line.specs.Json.{object_of}
 use Rattle.json_line.specs.Parts.{member_if}
 use Rattle.refusal_text.specs.EditRefusals.{dataset_refusal_data, edit_data}
 use Rattle.json_line.specs.Numbers.{natural_data}

@@ -1,7 +1,7 @@
 //! Why a session was refused.
 
 ghost use Rattle.std.specs.Prelude.{◌≡◌, IfOk, string_bytes};
-ghost use Rattle.aerie_text.specs.Json.{line_of};
+ghost use Rattle.json_line.specs.Json.{line_of};
 ghost use Rattle.refusal_text.specs.Refusals.{column_in, refusal_data, refused_data, row_in};
 
 use crate::edits::AsRefusal;

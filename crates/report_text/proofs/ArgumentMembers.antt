@@ -10,7 +10,7 @@ use Rattle.aerie_base.specs.declared.arguments.RawValue.{RawValue}
 use Rattle.aerie_base.specs.declared.arguments.RawArgument.{RawArgument}
 use Rattle.aerie_base.specs.declared.models.EnumType.{EnumType}
 use Rattle.aerie_base.specs.declared.models.Parameter.{Parameter}
-use Rattle.aerie_text.specs.Json.{with_fields}
+use Rattle.json_line.specs.Json.{with_fields}
 use Rattle.plan_edit.specs.PlanForm.{arguments_of_members, is_free_name, one_argument, put_argument, value_of_json}
 use Rattle.plan_edit.specs.ShownPlan.{argument_fields, json_of_value}
 use Rattle.report_text.proofs.RawArguments.{put_raw, raw_for, raws_with}

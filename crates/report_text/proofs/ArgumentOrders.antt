@@ -15,7 +15,7 @@ use Rattle.serde_json.specs.Data.{Data, Members, member, no_members, null, put}
 use Rattle.aerie_base.specs.declared.models.EnumType.{EnumType}
 use Rattle.aerie_base.specs.declared.models.Parameter.{Parameter}
 use Rattle.aerie_base.specs.declared.values.Value.{Value}
-use Rattle.aerie_text.specs.Json.{with_fields}
+use Rattle.json_line.specs.Json.{with_fields}
 use Rattle.json_line.specs.Parts.{members_from}
 use Rattle.plan_edit.specs.ShownPlan.{argument_fields, json_of_value}
 use Rattle.report_text.specs.ArgumentOrder.{name_numbered, order_of, order_up_to, names_of_parameters, put_number}

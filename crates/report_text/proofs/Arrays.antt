@@ -9,7 +9,7 @@ use Rattle.json_line.specs.Parts.{data_tokens, with_items}
 use Rattle.json_line.proofs.Steps.{array_ends, array_opens, item_next}
 
 module _ {A : Type 0} (form : A → Data) (all : List A) where
-  -- what is written, with the items that are left from a place on
+  -- what is written, with the items that are left from a position on
   abbrev pub with_left : List Token → ℕ → List Token
   with_left line at = with_items line (items_of (map form (drop at all)))
 

@@ -1,12 +1,12 @@
 mod ArgumentMembers
 pub mod ArgumentOrders
 pub mod Arrays
-mod FirstPlaces
+mod FirstPositions
+mod FoundAt
 mod NewIds
 pub mod Numbers
 pub mod Placing
 mod RawArguments
-pub mod Resources
 pub mod ShownDirectives
 mod ShownLoads
 pub mod Violated

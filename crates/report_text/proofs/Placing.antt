@@ -14,7 +14,7 @@ set_split (y ∷ ys) zero x less = refl
 set_split (y ∷ ys) (suc at) x less = ap (λ zs. y ∷ zs) (set_split ys at x (omega (arith, less)))
 
 module _ (names : List (List ℕ)) (number : ℕ) (order : List ℕ) where
-  -- all numbers before this place have lesser names
+  -- all numbers before this position have lesser names
   abbrev pub Passes : ℕ → Type 0
   Passes at = put_number names number order ≡ take at order ++ put_number names number (drop at order)
 

@@ -18,9 +18,9 @@ use Rattle.aerie_base.specs.declared.models.EnumType.{EnumType}
 use Rattle.aerie_base.specs.declared.models.Parameter.{Parameter}
 use Rattle.aerie_base.specs.models.Names.{same_name, is_name_among, are_distinct}
 use Rattle.plan_edit.specs.declared.errors.EditError.{EditError}
-use Rattle.plan_edit.specs.Arguments.{arguments_of, first_bad, is_given, parameter_place, parameter_value, unless_bad, value_for, value_for_parameter, value_given, value_in_front, value_or_default, values_filled}
+use Rattle.plan_edit.specs.Arguments.{arguments_of, first_bad, is_given, parameter_position, parameter_value, unless_bad, value_for, value_for_parameter, value_given, value_in_front, value_or_default, values_filled}
 use Rattle.plan_edit.specs.ShownPlan.{word_of_variant}
-use Rattle.report_text.proofs.FirstPlaces.{both, is_not, neither, place_of_name, position_is, same_is, same_itself, same_turned}
+use Rattle.report_text.proofs.FirstPositions.{both, is_not, neither, position_of_name, position_is, same_is, same_itself, same_swapped}
 
 -- ---- in the order of names
 
@@ -144,7 +144,7 @@ module _ (enums : List EnumType) (parameters : List Parameter) where
       (join_bad before one (x ∷ xs) new fine (more_given (x ∷ xs) before (before ++ one ∷ []) one.name (given_more before one) fresh none))
       (join_bad before x (put_raw one xs) parts.0 parts.1.0
       (put_bad xs (before ++ x ∷ []) one fine
-      (given_more before x one.name ∙ ap (λ (b : Bool). b || same_name one.name x.name) new ∙ same_turned x.name one.name apart.0)
+      (given_more before x one.name ∙ ap (λ (b : Bool). b || same_name one.name x.name) new ∙ same_swapped x.name one.name apart.0)
       apart.1 parts.1.1))
 
 -- ---- the arguments of a directive
@@ -203,7 +203,7 @@ module _ (enums : List EnumType) where
       let one = raw_for enums parameter value in
       kept (put_raw one front) rest values name parts.1 (apart_put front one rest apart.0 others apart.1) away.1
       ∙ found_put name one front apart.0
-      ∙ ap (λ (b : Bool). cond b (Some one) (find (λ (argument : RawArgument). same_name argument.name name) front)) (same_turned name parameter.name away.0)
+      ∙ ap (λ (b : Bool). cond b (Some one) (find (λ (argument : RawArgument). same_name argument.name name) front)) (same_swapped name parameter.name away.0)
 
   filled : (front : List RawArgument) (parameters : List Parameter) (values : List Value) → AreGiven enums parameters values → IsTrue (are_distinct (names_of parameters)) → AreApart front parameters →
       values_filled enums (raws_with enums front parameters values) parameters ≡ Ok values
@@ -227,13 +227,13 @@ module _ (enums : List EnumType) where
     -- each of some parameters is the one of its name
     abbrev AreKnown : List Parameter → Type 0
     AreKnown [] = Unit {0}
-    AreKnown (parameter ∷ rest) = (option_and_then (slice_get all) (parameter_place all parameter.name) ≡ Some parameter) × AreKnown rest
+    AreKnown (parameter ∷ rest) = (option_and_then (slice_get all) (parameter_position all parameter.name) ≡ Some parameter) × AreKnown rest
 
     known_from : (parameters : List Parameter) (at : ℕ) → IsTrue (are_distinct (names_of all)) → ((k : ℕ) → slice_get all (at + k) ≡ slice_get parameters k) → AreKnown parameters
     known_from [] at distinct is = tt
     known_from (parameter ∷ rest) at distinct is =
         let here : slice_get all at ≡ Some parameter = ap (slice_get all) (no_more at) ∙ is 0 in (
-          ap (option_and_then (slice_get all)) (position_is (λ (other : Parameter). same_name other.name parameter.name) all ∙ place_of_name (λ (other : Parameter). other.name) all at parameter distinct here) ∙ here,
+          ap (option_and_then (slice_get all)) (position_is (λ (other : Parameter). same_name other.name parameter.name) all ∙ position_of_name (λ (other : Parameter). other.name) all at parameter distinct here) ∙ here,
           known_from rest (at + 1) distinct (λ k. ap (slice_get all) (one_on at k) ∙ is (suc k)),
         )
       where

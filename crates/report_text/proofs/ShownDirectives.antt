@@ -6,7 +6,7 @@ use Rattle.aerie_base.specs.declared.models.Activity.{Activity}
 use Rattle.aerie_base.specs.declared.models.model.Parts.{Parts}
 use Rattle.aerie_base.specs.declared.plans.Anchor.{Anchor}
 use Rattle.aerie_base.specs.declared.plans.Directive.{Directive}
-use Rattle.aerie_text.specs.Json.{object_of}
+use Rattle.json_line.specs.Json.{object_of}
 use Rattle.json_line.specs.Parts.{member_if}
 use Rattle.plan_edit.specs.ShownPlan.{anchor_fields, fields_by_type, json_of_anchor, json_of_directive}
 use Rattle.json_line.specs.Numbers.{natural_data}

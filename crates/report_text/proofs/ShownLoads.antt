@@ -21,13 +21,13 @@ use Rattle.aerie_base.specs.models.Signatures.{parameter_kinds, signatures_of}
 use Rattle.aerie_base.specs.models.ValidModel.{activity_names, cell_names, enum_names, has_good_activities, has_good_enums, has_good_names, is_enum, resource_names, valid_model}
 use Rattle.aerie_base.specs.models.ValidParts.{are_good}
 use Rattle.aerie_base.specs.models.Values.{is_value_of}
-use Rattle.aerie_base.specs.plans.OfModel.{anchored_to, are_values_of, directive_limit, ids_of, is_directive_of, is_there, rise_to, takes}
-use Rattle.plan_edit.specs.Answers.{then_made_of, unless_refused}
-use Rattle.plan_edit.specs.Editing.{given_at_place, given_of, given_to, if_met, is_outside, unless_unmet}
-use Rattle.plan_edit.specs.Loading.{anchor_anew, directive_anew, is_past_room, is_tied, load_all, load_of_value, load_one, load_placed, load_written, loaded_form, place_of_id, put_loaded, unless_cycle, with_loaded}
+use Rattle.aerie_base.specs.plans.OfModel.{anchored_to, are_values_of, directive_limit, ids_of, is_directive_of, is_there, rise_to, takes, is_dangling, is_none_or}
+use Rattle.plan_edit.specs.Answers.{then_made_of, unless_refused, put_in_front}
+use Rattle.plan_edit.specs.Editing.{given_at_position, given_of, given_to, if_met, is_outside, unless_unmet}
+use Rattle.plan_edit.specs.Loading.{anchor_to_new_id, anchored_to_new_id, is_past_room, is_id_of_one, load_all, load_of_value, load_one, load_placed, load_written, loaded_form, position_in_text, unless_cycle, with_loaded}
 use Rattle.plan_edit.specs.PlanForm.{directive_of_json, is_free_name}
 use Rattle.plan_edit.specs.Requires.{first_unmet}
-use Rattle.aerie_text.specs.Json.{object_of, with_fields}
+use Rattle.json_line.specs.Json.{object_of, with_fields}
 use Rattle.plan_edit.specs.ShownPlan.{argument_fields, fields_by_type, json_of_directive, json_of_plan}
 use Rattle.plan_edit.specs.declared.arguments.Given.{Given}
 use Rattle.plan_edit.specs.declared.errors.EditError.{EditError}
@@ -35,8 +35,8 @@ use Rattle.plan_edit.specs.declared.errors.EditError.TheVariants.{OutsidePlan, T
 use Rattle.plan_edit.specs.declared.forms.WrittenDirective.{WrittenDirective}
 use Rattle.report_text.specs.LoadedAgain.{CanBeLoaded, has_free_words, is_free_enum, is_free_type, meets_requires, meets_type, loaded_id, to_new_id, under_new_id, with_directives_of}
 use Rattle.report_text.proofs.ArgumentMembers.{AreWritten, arguments_written}
-use Rattle.report_text.proofs.FirstPlaces.{both, first_place, place_of_name, position_is}
-use Rattle.report_text.proofs.NewIds.{has_id, new_at, no_cycle, place_in_text}
+use Rattle.report_text.proofs.FirstPositions.{both, first_position, position_of_name, position_is}
+use Rattle.report_text.proofs.NewIds.{has_id, new_at, no_cycle, directive_in_text}
 use Rattle.report_text.proofs.RawArguments.{AreGiven, arguments_read, raws_with}
 use Rattle.report_text.proofs.WrittenDirectives.{AreShown, IsNear, directive_read, plan_read}
 use Rattle.report_text.proofs.WrittenValues.{each_is, value_read}
@@ -153,9 +153,9 @@ module _ (model : Parts) (valid : IsTrue (valid_model model)) (words : IsTrue (h
       let raws = raws_with model.enums [] activity.parameters directive.arguments in
       let met = sym (ap (meets_type directive) is.here) ∙ meets in
       ap (λ (found : Option Activity). given_of model (written_by model.enums found directive).kind (written_by model.enums found directive).arguments) is.here
-      ∙ ap (given_at_place model raws)
+      ∙ ap (given_at_position model raws)
       (position_is (λ (other : Activity). same_name other.name activity.name) model.activities
-      ∙ place_of_name (λ (other : Activity). other.name) model.activities directive.kind activity different_types is.here)
+      ∙ position_of_name (λ (other : Activity). other.name) model.activities directive.kind activity different_types is.here)
       ∙ ap (given_to model directive.kind raws) is.here
       ∙ ap (λ (r : Result (List Value) EditError). then_made_of (given_as directive.kind) (then_made_of (if_met activity) r))
       (arguments_read model.enums activity.parameters directive.arguments (given_all activity.parameters directive.arguments is.values) (different_parameters directive.kind activity is.here))
@@ -186,11 +186,11 @@ module _ (model : Parts) (valid : IsTrue (valid_model model)) (shown target : Pl
   rises : IsTrue (rise_to shown.next_id 0 (ids_of shown.directives))
   rises = can.plan.ids
 
-  text_place : (id : ℕ) → place_of_id all id ≡ position (has_id id) shown.directives
-  text_place id = place_in_text (written_as model) (same_id model) shown.next_id shown.directives id rises
+  text_position : (id : ℕ) → position_in_text all id ≡ position (has_id id) shown.directives
+  text_position id = directive_in_text (written_as model) (same_id model) shown.next_id shown.directives id rises
 
   -- a directive that stands is found
-  found_there : (directives : List Directive) (id : ℕ) → IsTrue (list_any (nat_eq id) (ids_of directives)) → is_some (first_place (has_id id) directives) ≡ true
+  found_there : (directives : List Directive) (id : ℕ) → IsTrue (list_any (nat_eq id) (ids_of directives)) → is_some (first_position (has_id id) directives) ≡ true
   found_there [] id there = absurd (true≢false (sym there))
   found_there (directive ∷ rest) id there = go (nat_eq directive.id id) (nat_eq id directive.id) refl refl there (found_there rest id)
     where
@@ -199,15 +199,15 @@ module _ (model : Parts) (valid : IsTrue (valid_model model)) (shown target : Pl
       some_on (Some n) = refl
 
       go : (t u : Bool) → nat_eq directive.id id ≡ t → nat_eq id directive.id ≡ u → IsTrue (u || list_any (nat_eq id) (ids_of rest)) →
-          (IsTrue (list_any (nat_eq id) (ids_of rest)) → is_some (first_place (has_id id) rest) ≡ true) → is_some (if t then Some 0 else option_map suc (first_place (has_id id) rest)) ≡ true
+          (IsTrue (list_any (nat_eq id) (ids_of rest)) → is_some (first_position (has_id id) rest) ≡ true) → is_some (if t then Some 0 else option_map suc (first_position (has_id id) rest)) ≡ true
       go true u e f h later = refl
       go false true e f h later = absurd (true≢false (sym (eq-eqb directive.id id (sym (eqb-true id directive.id f))) ∙ e))
-      go false false e f h later = some_on (first_place (has_id id) rest) ∙ later h
+      go false false e f h later = some_on (first_position (has_id id) rest) ∙ later h
 
-  tied_is : (anchor : Option Anchor) → IsTrue (is_there shown.directives (option_map (λ anchor. anchor.to) anchor)) → is_tied all anchor ≡ true
+  tied_is : (anchor : Option Anchor) → IsTrue (is_there shown.directives (option_map (λ anchor. anchor.to) anchor)) → is_none_or (is_id_of_one all) (option_map (λ anchor. anchor.to) anchor) ≡ true
   tied_is None there = refl
   tied_is (Some anchor) there =
-      ap is_some (text_place anchor.to ∙ position_is (has_id anchor.to) shown.directives) ∙ found_there shown.directives anchor.to there
+      ap is_some (text_position anchor.to ∙ position_is (has_id anchor.to) shown.directives) ∙ found_there shown.directives anchor.to there
 
   has_room : (number : ℕ) → number < length shown.directives → is_past_room target number ≡ false
   has_room number less =
@@ -224,9 +224,9 @@ module _ (model : Parts) (valid : IsTrue (valid_model model)) (shown target : Pl
       let lasts = can.lasts in
       ap (then_made_of (load_placed target all (written_as model directive) number)) (given_is model valid can.words shown directive is meets)
       ∙ ap (λ (found : Option Activity). load_placed target all (written_by model.enums found directive) number (record { kind = directive.kind; arguments = directive.arguments })) is.here
-      ∙ placed (is_outside target directive.start) (is_past_room target number) (not (is_tied all directive.anchor))
+      ∙ placed (is_outside target directive.start) (is_past_room target number) (is_dangling (is_id_of_one all) directive.anchor)
       (not_false (nat_lt directive.start target.duration) (lt-ltb directive.start target.duration (omega (arith, starts, lasts))))
-      (has_room number less) (not_false (is_tied all directive.anchor) (tied_is directive.anchor is.tied))
+      (has_room number less) (not_false (is_none_or (is_id_of_one all) (option_map (λ anchor. anchor.to) directive.anchor)) (tied_is directive.anchor is.tied))
     where
       placed : (outside past loose : Bool) → outside ≡ false → past ≡ false → loose ≡ false →
           unless_refused ((outside, OutsidePlan) ∷ (past, TooMany) ∷ (loose, NoAnchor) ∷ []) (Ok (loaded_as target number directive)) ≡ Ok (loaded_as target number directive)
@@ -241,8 +241,8 @@ module _ (model : Parts) (valid : IsTrue (valid_model model)) (shown target : Pl
   all_loaded number (directive ∷ rest) within of meets =
       let of_parts = both (is_directive_of model shown directive) (list_all (is_directive_of model shown) rest) of in
       let met_parts = both (meets_requires model directive) (list_all (meets_requires model) rest) meets in
-      ap (λ (r : Result Directive EditError). put_loaded r (load_all model target all (number + 1) (map (written_as model) rest))) (one_loaded number directive (first_within number (length rest) (length shown.directives) within) of_parts.0 met_parts.0)
-      ∙ ap (put_loaded (Ok (loaded_as target number directive))) (all_loaded (number + 1) rest (rest_within number (length rest) (length shown.directives) within) of_parts.1 met_parts.1)
+      ap (λ (r : Result Directive EditError). put_in_front r (load_all model target all (number + 1) (map (written_as model) rest))) (one_loaded number directive (first_within number (length rest) (length shown.directives) within) of_parts.0 met_parts.0)
+      ∙ ap (put_in_front (Ok (loaded_as target number directive))) (all_loaded (number + 1) rest (rest_within number (length rest) (length shown.directives) within) of_parts.1 met_parts.1)
     where
       first_within : (n more count : ℕ) → n + suc more ≤ count → n < count
       first_within n more count h = omega (arith, h)
@@ -250,19 +250,19 @@ module _ (model : Parts) (valid : IsTrue (valid_model model)) (shown target : Pl
       rest_within : (n more count : ℕ) → n + suc more ≤ count → n + 1 + more ≤ count
       rest_within n more count h = omega (arith, h)
 
-  anchors_anew : (anchor : Option Anchor) → option_map (anchor_anew target.next_id all) anchor ≡ option_map (to_new_id target.next_id shown.directives) anchor
-  anchors_anew None = refl
-  anchors_anew (Some anchor) = ap (λ (place : Option ℕ). Some (record anchor { to = target.next_id + unwrap_or place 0 })) (text_place anchor.to)
+  anchors_to_new_ids : (anchor : Option Anchor) → option_map (anchor_to_new_id target.next_id all) anchor ≡ option_map (to_new_id target.next_id shown.directives) anchor
+  anchors_to_new_ids None = refl
+  anchors_to_new_ids (Some anchor) = ap (λ (place : Option ℕ). Some (record anchor { to = target.next_id + unwrap_or place 0 })) (text_position anchor.to)
 
-  all_anew : (number : ℕ) (directives : List Directive) → ((k : ℕ) → slice_get shown.directives (number + k) ≡ slice_get directives k) →
-      map (directive_anew target.next_id all) (loaded_from target number directives) ≡ map (under_new_id target.next_id shown.directives) directives
-  all_anew number [] stand = refl
-  all_anew number (directive ∷ rest) stand =
+  all_to_new_ids : (number : ℕ) (directives : List Directive) → ((k : ℕ) → slice_get shown.directives (number + k) ≡ slice_get directives k) →
+      map (anchored_to_new_id target.next_id all) (loaded_from target number directives) ≡ map (under_new_id target.next_id shown.directives) directives
+  all_to_new_ids number [] stand = refl
+  all_to_new_ids number (directive ∷ rest) stand =
       let here : slice_get shown.directives number ≡ Some directive = ap (slice_get shown.directives) (no_more number) ∙ stand 0 in
       let id = sym (new_at target.next_id shown.next_id shown.directives rises number directive here) in
-      ap (λ (n : ℕ). record directive { id = n; anchor = option_map (anchor_anew target.next_id all) directive.anchor } ∷ map (directive_anew target.next_id all) (loaded_from target (number + 1) rest)) id
-      ∙ ap (λ (anchor : Option Anchor). record directive { id = loaded_id target.next_id shown.directives directive.id; anchor = anchor } ∷ map (directive_anew target.next_id all) (loaded_from target (number + 1) rest)) (anchors_anew directive.anchor)
-      ∙ ap (λ (later : List Directive). under_new_id target.next_id shown.directives directive ∷ later) (all_anew (number + 1) rest (λ k. ap (slice_get shown.directives) (one_on number k) ∙ stand (suc k)))
+      ap (λ (n : ℕ). record directive { id = n; anchor = option_map (anchor_to_new_id target.next_id all) directive.anchor } ∷ map (anchored_to_new_id target.next_id all) (loaded_from target (number + 1) rest)) id
+      ∙ ap (λ (anchor : Option Anchor). record directive { id = loaded_id target.next_id shown.directives directive.id; anchor = anchor } ∷ map (anchored_to_new_id target.next_id all) (loaded_from target (number + 1) rest)) (anchors_to_new_ids directive.anchor)
+      ∙ ap (λ (later : List Directive). under_new_id target.next_id shown.directives directive ∷ later) (all_to_new_ids (number + 1) rest (λ k. ap (slice_get shown.directives) (one_on number k) ∙ stand (suc k)))
     where
       no_more : (n : ℕ) → n ≡ n + 0
       no_more n = omega arith
@@ -321,14 +321,14 @@ module _ (model : Parts) (valid : IsTrue (valid_model model)) (shown target : Pl
   from_0 : (k : ℕ) → 0 + k ≡ k
   from_0 k = omega arith
 
-  abbrev anew_all : List Directive
-  anew_all = map (under_new_id target.next_id shown.directives) shown.directives
+  abbrev all_under_new_ids : List Directive
+  all_under_new_ids = map (under_new_id target.next_id shown.directives) shown.directives
 
-  written_loaded : load_written model target all ≡ Ok anew_all
+  written_loaded : load_written model target all ≡ Ok all_under_new_ids
   written_loaded =
-      ap (then_made_of (λ directives. unless_cycle (map (directive_anew target.next_id all) directives))) (all_loaded 0 shown.directives (count_from_0 (length shown.directives)) can.plan.directives can.met)
-      ∙ ap unless_cycle (all_anew 0 shown.directives (λ k. ap (slice_get shown.directives) (from_0 k)))
-      ∙ ap (λ (t : Bool). if t then Err Cycle else Ok anew_all) (no_cycle target.next_id shown.next_id shown.directives rises (tied_all shown.directives can.plan.directives) can.plan.anchors)
+      ap (then_made_of (λ directives. unless_cycle (map (anchored_to_new_id target.next_id all) directives))) (all_loaded 0 shown.directives (count_from_0 (length shown.directives)) can.plan.directives can.met)
+      ∙ ap unless_cycle (all_to_new_ids 0 shown.directives (λ k. ap (slice_get shown.directives) (from_0 k)))
+      ∙ ap (λ (t : Bool). if t then Err Cycle else Ok all_under_new_ids) (no_cycle target.next_id shown.next_id shown.directives rises (tied_all shown.directives can.plan.directives) can.plan.anchors)
 
   -- what is shown is loaded: the same directives under new ids
   pub shown_loads : load_of_value model target (json_of_plan model shown) ≡ Ok (with_directives_of shown target)

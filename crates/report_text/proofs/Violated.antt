@@ -8,7 +8,7 @@ use Rattle.json_line.specs.Parts.{listed_tokens}
 use Rattle.json_line.proofs.Steps.{listed_append}
 
 module _ {A : Type 0} (form : A → List Data) (all : List A) where
-  -- what is written, with what is left from a place on
+  -- what is written, with what is left from a position on
   abbrev pub with_left : List Token → ℕ → List Token
   with_left line at = line ++ listed_tokens (flat_map form (drop at all))
 

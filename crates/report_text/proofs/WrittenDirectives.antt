@@ -11,7 +11,7 @@ use Rattle.aerie_base.specs.declared.plans.Edge.{Edge}
 use Rattle.aerie_base.specs.declared.plans.Edge.TheVariants as edge
 use Rattle.aerie_base.specs.declared.plans.Directive.{Directive}
 use Rattle.aerie_base.specs.declared.plans.Plan.{Plan}
-use Rattle.aerie_text.specs.Json.{object_of}
+use Rattle.json_line.specs.Json.{object_of}
 use Rattle.plan_edit.specs.declared.forms.WrittenDirective.{WrittenDirective}
 use Rattle.plan_edit.specs.PlanForm.{anchor_of_json, arguments_of_members, checked_timing, directive_of_json, directive_of_parts, directives_of_json, edge_of_word, free_name, id_of_json, id_of_signed, is_free_name, plan_of_json, put_directive, start_of_json, Timing, values_of_items}
 use Rattle.plan_edit.specs.ShownPlan.{anchor_fields, edge_word, json_of_anchor, json_of_directive, json_of_plan}

@@ -25,7 +25,7 @@ use Rattle.plan_edit.specs.Arguments.{value_given, variant_written, written_vari
 use Rattle.plan_edit.specs.PlanForm.{is_dot, is_free_name, is_variant_text, value_of_json, variant_of_word, whole_number}
 use Rattle.plan_edit.specs.ShownPlan.{json_of_number, json_of_value, word_of_variant}
 use Rattle.report_text.specs.LoadedAgain.{is_free_enum}
-use Rattle.report_text.proofs.FirstPlaces.{both, first_place, place_of_name, position_is, same_is}
+use Rattle.report_text.proofs.FirstPositions.{both, first_position, position_of_name, position_is, same_is}
 use Rattle.report_text.proofs.RawArguments.{raw_of}
 
 -- ---- numbers
@@ -116,11 +116,11 @@ same_behind name one other =
     tail_is : {one other : List ℕ} → 46 ∷ one ≡ 46 ∷ other → one ≡ other
     tail_is e = cc
 
-same_places : {A : Type 0} (one other : A → Bool) (xs : List A) → ((x : A) → one x ≡ other x) → first_place one xs ≡ first_place other xs
-same_places one other [] same = refl
-same_places one other (x ∷ xs) same =
-    ap (λ (t : Bool). if t then Some 0 else option_map suc (first_place one xs)) (same x)
-    ∙ ap (λ (o : Option ℕ). if other x then Some 0 else option_map suc o) (same_places one other xs same)
+same_positions : {A : Type 0} (one other : A → Bool) (xs : List A) → ((x : A) → one x ≡ other x) → first_position one xs ≡ first_position other xs
+same_positions one other [] same = refl
+same_positions one other (x ∷ xs) same =
+    ap (λ (t : Bool). if t then Some 0 else option_map suc (first_position one xs)) (same x)
+    ∙ ap (λ (o : Option ℕ). if other x then Some 0 else option_map suc o) (same_positions one other xs same)
 
 pub each_is : {A : Type 0} (test : A → Bool) (xs : List A) (at : ℕ) (x : A) → IsTrue (list_all test xs) → slice_get xs at ≡ Some x → IsTrue (test x)
 each_is test [] at x all here = absurd (none-some x here)
@@ -140,9 +140,9 @@ variant_found : (enum : EnumType) (at : ℕ) (variant : List ℕ) → IsEnum enu
     variant_written (Some enum) (written_variant enum variant) ≡ Some at
 variant_found enum at variant is here =
     position_is (λ (other : List ℕ). same_name (written_variant enum other) (written_variant enum variant)) enum.variants
-    ∙ same_places (λ (other : List ℕ). same_name (written_variant enum other) (written_variant enum variant)) (λ (other : List ℕ). same_name other variant) enum.variants
+    ∙ same_positions (λ (other : List ℕ). same_name (written_variant enum other) (written_variant enum variant)) (λ (other : List ℕ). same_name other variant) enum.variants
     (λ other. same_behind enum.name other variant)
-    ∙ place_of_name (λ (name : List ℕ). name) enum.variants at variant (ap are_distinct (names_themselves enum.variants) ∙ is.distinct) here
+    ∙ position_of_name (λ (name : List ℕ). name) enum.variants at variant (ap are_distinct (names_themselves enum.variants) ∙ is.distinct) here
 
 -- ---- values
 

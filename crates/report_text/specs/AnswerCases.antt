@@ -6,7 +6,7 @@ use Rattle.aerie_base.specs.Paths.{root}
 use Rattle.aerie_base.specs.declared.plans.Edge.TheVariants.{End}
 use Rattle.aerie_base.specs.declared.plans.Plan.{Plan}
 use Rattle.aerie_base.specs.declared.values.Value.TheVariants.{Int, Variant}
-use Rattle.aerie_text.specs.Json.{line_of}
+use Rattle.json_line.specs.Json.{line_of}
 use Rattle.epoch_text.specs.DayTexts.{day_in_year}
 use Rattle.hangar_core.specs.declared.actions.Action.TheVariants.{New, Fetch}
 use Rattle.hangar_core.specs.declared.replies.Reply.{Reply}

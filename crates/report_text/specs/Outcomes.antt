@@ -4,7 +4,7 @@ use Rattle.serde_json.specs.Data.{Data, string}
 use Rattle.aerie_base.specs.declared.faults.Fault.{Fault}
 use Rattle.aerie_base.specs.declared.faults.Fault.TheVariants.{Range, Divide, NegativeDelay, TooDeep}
 use Rattle.aerie_base.specs.declared.models.model.Parts.{Parts}
-use Rattle.aerie_text.specs.Json.{object_of}
+use Rattle.json_line.specs.Json.{object_of}
 use Rattle.run_data.specs.declared.runs.Outcome.{Outcome}
 use Rattle.run_data.specs.declared.runs.Outcome.TheVariants.{Completed, Failed, StepLimit}
 use Rattle.run_data.specs.declared.runs.Who.{Who}

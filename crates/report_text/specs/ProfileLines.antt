@@ -6,7 +6,7 @@ use Rattle.aerie_base.specs.declared.models.EnumType.{EnumType}
 use Rattle.aerie_base.specs.declared.models.Resource.{Resource}
 use Rattle.aerie_base.specs.declared.models.model.Parts.{Parts}
 use Rattle.aerie_base.specs.declared.values.Value.{Value}
-use Rattle.aerie_text.specs.Json.{object_of}
+use Rattle.json_line.specs.Json.{object_of}
 use Rattle.plan_edit.specs.ShownPlan.{json_of_value}
 use Rattle.profiles.specs.Profiles.{profile_of}
 use Rattle.profiles.specs.declared.sampling.Profile.{Profile}

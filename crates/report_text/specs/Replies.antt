@@ -4,7 +4,7 @@ use Rattle.std.specs.Prelude.{ℕ, Bool, List, [], ◌∷◌, codes, option_map}
 use Rattle.serde_json.specs.Data.{Data, member, no_members, object, string}
 use Rattle.aerie_base.specs.declared.models.model.Parts.{Parts}
 use Rattle.aerie_base.specs.declared.plans.Plan.{Plan}
-use Rattle.aerie_text.specs.Json.{object_of}
+use Rattle.json_line.specs.Json.{object_of}
 use Rattle.hangar_core.specs.declared.replies.Reply.{Reply}
 use Rattle.hangar_core.specs.declared.replies.Reply.TheVariants as reply
 use Rattle.json_line.specs.Parts.{member_if}
@@ -112,6 +112,11 @@ reply_data client command branch model named answer =
     object (member (codes "client") (string client)
     (member (codes "command") (natural_data command)
     (member (answer_member branch model named answer).0 (answer_member branch model named answer).1 no_members)))
+
+-- an answer that is no report of a simulation
+abbrev pub IsNoReport : Answer → Type 0
+IsNoReport (answer.Report report) = ⊥
+IsNoReport _ = Unit {0}
 
 -- an answer is told with a model: a report is of it
 abbrev pub IsAnswerOfModel : Parts → Answer → Type 0

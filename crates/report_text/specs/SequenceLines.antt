@@ -7,7 +7,7 @@ use Rattle.aerie_base.specs.Ranges.{time_of_signed}
 use Rattle.aerie_base.specs.declared.models.EnumType.{EnumType}
 use Rattle.aerie_base.specs.declared.models.model.Parts.{Parts}
 use Rattle.aerie_base.specs.declared.values.Value.{Value}
-use Rattle.aerie_text.specs.Json.{object_of}
+use Rattle.json_line.specs.Json.{object_of}
 use Rattle.epoch_text.specs.DayTexts.{day_text_of}
 use Rattle.json_line.specs.Parts.{optional_data}
 use Rattle.plan_edit.specs.ShownPlan.{json_of_value}

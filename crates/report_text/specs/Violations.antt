@@ -3,7 +3,7 @@ use Rattle.std.specs.Prelude.{ℕ, List, [], ◌∷◌, codes, flat_map, map}
 use Rattle.serde_json.specs.Data.{Data, array, item, no_items, string}
 use Rattle.serde_json.specs.View.{items_of}
 use Rattle.aerie_base.specs.declared.models.model.Parts.{Parts}
-use Rattle.aerie_text.specs.Json.{object_of}
+use Rattle.json_line.specs.Json.{object_of}
 use Rattle.constraints.specs.Violating.{violations_of}
 use Rattle.constraints.specs.declared.types.Constraint.{Constraint}
 use Rattle.constraints.specs.declared.violation.Violation.{Violation}

@@ -2,7 +2,7 @@
 
 ghost use Rattle.std.specs.Prelude.{◌≡◌, ◌++◌, ◌≤◌, ◌<◌, [], OnOk, length};
 ghost use Rattle.std.specs.List.{All};
-ghost use Rattle.aerie_text.specs.Json.{object_of};
+ghost use Rattle.json_line.specs.Json.{object_of};
 ghost use Rattle.json_line.specs.Parts.{data_tokens};
 ghost use Rattle.plan_edit.specs.ShownPlan.{argument_fields};
 ghost use Rattle.report_text.specs.ArgumentOrder.{order_of, names_of_parameters};

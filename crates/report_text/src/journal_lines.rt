@@ -1,7 +1,7 @@
 //! How the journal is written.
 
 ghost use Rattle.std.specs.Prelude.{◌≡◌, IfOk, string_bytes};
-ghost use Rattle.aerie_text.specs.Json.{line_of};
+ghost use Rattle.json_line.specs.Json.{line_of};
 ghost use Rattle.report_text.specs.JournalLines.{entry_data, journal_data};
 
 use crate::alone::Alone;

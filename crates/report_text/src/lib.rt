@@ -26,7 +26,7 @@ pub use alone::Alone;
 pub use answers::{Answer, Report, SequenceReport};
 pub use arguments::Arguments;
 pub use journal_lines::journal_line;
-pub use lines::reply_line;
+pub use lines::{Heading, reply_line, report_line};
 pub use profile_lines::write_profiles;
 pub use span_lines::{Calendar, write_spans};
 pub use violation_lines::write_violations;

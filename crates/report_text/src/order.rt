@@ -38,7 +38,7 @@ fn put_number(
     }
 }
 
-/// The place of a number with the same name, or else the one where the number belongs.
+/// The position of a number with the same name, or else the one where the number belongs.
 fn place_of(order: &[usize], parameters: &[Parameter], number: usize) -> Result<usize, usize>
     requires number { number < length parameters.now }
     requires order { All (λ other. other < length parameters.now) order.now }

@@ -1,16 +1,17 @@
 //! How profiles are written.
 
-ghost use Rattle.std.specs.Prelude.{◌≡◌, ◌++◌, ◌<◌, ◌≤◌, OnOk, Some, length, map, slice_get};
+ghost use Rattle.std.specs.Prelude.{◌≡◌, ◌++◌, OnOk, map};
 ghost use Rattle.serde_json.specs.Data.{array};
 ghost use Rattle.serde_json.specs.View.{items_of};
-ghost use Rattle.run_data.specs.Fresh.{IsFresh};
+ghost use Rattle.findings.specs.Found.{all_profiles};
 ghost use Rattle.json_line.specs.Parts.{data_tokens};
+ghost use Rattle.profiles.specs.Profiles.{profile_of};
 ghost use Rattle.report_text.specs.ProfileLines.{profile_data, profiles_data, resource_data, segment_data, segments_data, value_segment_data};
 
 use crate::wordings::Wording;
 use aerie_base::{Name, OutOfMemory, Resource, Time, Value};
 use json_line::{JsonData, JsonIn, JsonLine};
-use profiles::{Profile, profile};
+use profiles::Profile;
 use run_data::Run;
 use windows::Segment;
 
@@ -65,33 +66,32 @@ fn write_profile<'a>(
     line.end_object()
 }
 
-/// The profile of a resource of a run, by its number and with its name. It is dropped when it is written.
+/// A resource of the model with its profile over a run.
 fn write_resource<'a>(
     line: &mut JsonLine,
     wording: &Wording<'a>,
     run: &Run,
-    number: u16,
     named: &(Name, Resource),
+    profile: &Profile,
 ) -> Result<(), OutOfMemory>
-    requires fresh { IsFresh wording.now run.now.plan run.now.bound run.now }
-    requires number { number < length wording.now.resources }
-    requires named { slice_get wording.now.resources number ≡ Some named.now }
+    requires found { profile.now ≡ profile_of wording.now run.now named.now.1 }
     ensures { OnOk result (line.new ≡ line.old ++ data_tokens (resource_data wording.now run.now named.now)) }
 {
-    let profile = profile(wording.alloc(), wording.model(), run, number)?;
-    write_profile(line, wording, &named.0, &profile)
+    let _ = run.instants.as_slice();
+    write_profile(line, wording, &named.0, profile)
 }
 
-/// The profiles of all resources over a run, in the order of their declarations. Each is computed once.
+/// The profiles of all resources over a run, which the caller has found, in the order of the declarations.
 pub fn write_profiles<'a>(
     line: &mut JsonLine,
     wording: &Wording<'a>,
     run: &Run,
+    profiles: &[Profile],
 ) -> Result<(), OutOfMemory>
-    requires { IsFresh wording.now run.now.plan run.now.bound run.now }
+    requires { profiles.now ≡ all_profiles wording.now run.now }
     ensures { OnOk result (line.new ≡ line.old ++ data_tokens (profiles_data wording.now run.now)) }
 {
-    write_resources(line, wording, run, wording.model().resources())
+    write_resources(line, wording, run, wording.model().resources(), profiles)
 }
 
 /// The profiles of these resources, which are those of the model.
@@ -100,15 +100,15 @@ fn write_resources<'a>(
     wording: &Wording<'a>,
     run: &Run,
     resources: &[(Name, Resource)],
+    profiles: &[Profile],
 ) -> Result<(), OutOfMemory>
-    requires fresh { IsFresh wording.now run.now.plan run.now.bound run.now }
     requires all { resources.now ≡ wording.now.resources }
-    requires few { length resources.now ≤ 256 }
+    requires found { profiles.now ≡ map (λ named. profile_of wording.now run.now named.1) resources.now }
     ensures { OnOk result (line.new ≡ line.old ++ data_tokens (array (items_of (map (resource_data wording.now run.now) resources.now)))) }
 {
     line.begin_array()?;
     for number in 0..resources.len() {
-        write_resource(line, wording, run, number as u16, &resources[number])?;
+        write_resource(line, wording, run, &resources[number], &profiles[number])?;
     }
     line.end_array()
 }

@@ -1,20 +1,17 @@
 //! How violations are written.
 
-ghost use Rattle.std.specs.Prelude.{◌≡◌, ◌++◌, IsTrue, OnOk, flat_map};
-ghost use Rattle.std.specs.List.{list_all};
-ghost use Rattle.constraints.specs.OfModel.{is_constraint};
+ghost use Rattle.std.specs.Prelude.{◌≡◌, ◌++◌, OnOk, flat_map};
+ghost use Rattle.constraints.specs.Violating.{violations_of};
+ghost use Rattle.findings.specs.Found.{all_violations};
 ghost use Rattle.json_line.specs.Parts.{data_tokens, listed_tokens};
-ghost use Rattle.run_data.specs.Fresh.{IsFresh};
-ghost use Rattle.span_table.specs.SpanLaws.{AreSpansOf};
 ghost use Rattle.report_text.specs.Violations.{constraint_data, interval_data, intervals_data, violation_data, violations_data};
 
 use crate::alone::Alone;
 use crate::wordings::Wording;
-use aerie_base::{Name, OutOfMemory, Time};
-use constraints::{Constraint, Violation, violations};
+use aerie_base::{List, Name, OutOfMemory, Time};
+use constraints::{Constraint, Violation};
 use json_line::{JsonData, JsonIn, JsonLine};
 use run_data::Run;
-use span_table::Span;
 use windows::Windows;
 
 /// An interval of time.
@@ -57,24 +54,23 @@ impl<'b> JsonIn<Violated<'b>> for Violation {
     }
 }
 
-/// The violations of a constraint by a run. They are dropped when they are written.
+/// The violations of a constraint by a run, which the caller has found.
 fn write_constraint<'a>(
     line: &mut JsonLine,
     wording: &Wording<'a>,
     run: &Run,
-    spans: &[Span],
     constraint: &Constraint,
+    found: &[Violation],
 ) -> Result<(), OutOfMemory>
-    requires fresh { IsFresh wording.now run.now.plan run.now.bound run.now }
-    requires spans { AreSpansOf wording.now run.now spans.now }
-    requires constraint { IsTrue (is_constraint wording.now constraint.now) }
+    requires found { found.now ≡ violations_of wording.now run.now constraint.now }
     ensures { OnOk result (line.new ≡ line.old ++ listed_tokens (constraint_data wording.now run.now constraint.now)) }
 {
-    let found = violations(wording.alloc(), wording.model(), run, spans, constraint)?;
+    let _ = wording.alloc();
+    let _ = run.instants.as_slice();
     let violated = Violated {
         constraint: &constraint.name,
     };
-    line.items_in(&violated, found.as_slice())
+    line.items_in(&violated, found)
 }
 
 /// The violations of each constraint, one behind another.
@@ -82,35 +78,31 @@ fn write_constraints<'a>(
     line: &mut JsonLine,
     wording: &Wording<'a>,
     run: &Run,
-    spans: &[Span],
     constraints: &[Constraint],
+    found: &[List<Violation>],
 ) -> Result<(), OutOfMemory>
-    requires fresh { IsFresh wording.now run.now.plan run.now.bound run.now }
-    requires spans { AreSpansOf wording.now run.now spans.now }
-    requires constraints { IsTrue (list_all (is_constraint wording.now) constraints.now) }
+    requires found { found.now ≡ all_violations wording.now run.now constraints.now }
     ensures { OnOk result (line.new ≡ line.old ++ listed_tokens (flat_map (constraint_data wording.now run.now) constraints.now)) }
 {
-    for constraint in constraints {
-        write_constraint(line, wording, run, spans, constraint)?;
+    for number in 0..constraints.len() {
+        let violations = found[number].as_slice();
+        write_constraint(line, wording, run, &constraints[number], violations)?;
     }
     Ok(())
 }
 
-/// The violations of constraints of the model by a run with these spans, in the order of the constraints. Those of each are
-/// found once.
+/// The violations of constraints of a model by a run, which the caller has found, in the order of the constraints.
 pub fn write_violations<'a>(
     line: &mut JsonLine,
     wording: &Wording<'a>,
     run: &Run,
-    spans: &[Span],
     constraints: &[Constraint],
+    found: &[List<Violation>],
 ) -> Result<(), OutOfMemory>
-    requires fresh { IsFresh wording.now run.now.plan run.now.bound run.now }
-    requires spans { AreSpansOf wording.now run.now spans.now }
-    requires constraints { IsTrue (list_all (is_constraint wording.now) constraints.now) }
+    requires { found.now ≡ all_violations wording.now run.now constraints.now }
     ensures { OnOk result (line.new ≡ line.old ++ data_tokens (violations_data wording.now run.now constraints.now)) }
 {
     line.begin_array()?;
-    write_constraints(line, wording, run, spans, constraints)?;
+    write_constraints(line, wording, run, constraints, found)?;
     line.end_array()
 }

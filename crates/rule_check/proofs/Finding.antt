@@ -1,10 +1,10 @@
--- What is found in a list stands at a place of it.
+-- What is found in a list stands at a position of it.
 use Rattle.std.proofs.Common.{◌≡◌, ℕ, zero, suc, ◌+◌, ◌<◌, Bool, true, false, ◌&&◌, List, [], ◌∷◌, Some, None, length, slice_get, nat_lt, refl, sym, ap, subst, ◌∙◌, arith}
 use Rattle.std.specs.List.{list_all, find, position, position_or_len}
 use Rattle.std.specs.Prelude.{cond}
 use Rattle.std.proofs.lemmas.Option.{none-some, same_Some}
 use Rattle.std.proofs.lemmas.Bool.{lt-ltb, ltb-true}
-use Rattle.rule_check.specs.RuleNames.{short_number}
+use Rattle.diagnostics.specs.ShortNumbers.{short}
 
 -- both of two tests
 pub both_pass : (a b : Bool) → (a && b) ≡ true → (a ≡ true) × (b ≡ true)
@@ -12,8 +12,8 @@ both_pass true b e = (refl, e)
 both_pass false b e = cc
 
 -- a number of a part of a model is kept
-pub short_is : (number : ℕ) → number < 65_535 → short_number number ≡ number
-short_is number less = rw (lt-ltb number 65_535 less) refl
+pub short_is : (number : ℕ) → number < 65_535 → short number ≡ number
+short_is number less = omega (arith, less)
 
 -- what holds of each holds of the one that is found
 pub found_holds : {A : Type 0} (holds test : A → Bool) (xs : List A) (x : A) → list_all holds xs ≡ true → find test xs ≡ Some x → holds x ≡ true
@@ -26,13 +26,13 @@ found_holds {A = A} holds test (first ∷ rest) x all e =
     go true here later e = subst (λ (y : A). holds y ≡ true) (same_Some first x e) here
     go false here later e = later e
 
--- what holds of each holds of the one at a place
+-- what holds of each holds of the one at a position
 pub each_holds : {A : Type 0} (holds : A → Bool) (xs : List A) (at : ℕ) (x : A) → list_all holds xs ≡ true → slice_get xs at ≡ Some x → holds x ≡ true
 each_holds holds [] at x all e = absurd (none-some x e)
 each_holds holds (first ∷ rest) zero x all e = subst (λ y. holds y ≡ true) (same_Some first x e) (both_pass (holds first) (list_all holds rest) all).0
 each_holds holds (first ∷ rest) (suc at) x all e = each_holds holds rest at x (both_pass (holds first) (list_all holds rest) all).1 e
 
--- the place of what is found
+-- the position of what is found
 pub record IsPlaced {A : Type 0} (test : A → Bool) (xs : List A) (x : A) : Type 0 where
   pub at : ℕ
   pub is : position test xs ≡ Some at
@@ -41,7 +41,7 @@ pub record IsPlaced {A : Type 0} (test : A → Bool) (xs : List A) (x : A) : Typ
 one_more_is : (k : ℕ) → 1 + k ≡ suc k
 one_more_is k = omega arith
 
--- past an element that does not pass, a place is one further
+-- past an element that does not pass, a position is one further
 one_further : {A : Type 0} (test : A → Bool) (first : A) (rest : List A) → test first ≡ false → position_or_len test (first ∷ rest) ≡ suc (position_or_len test rest)
 one_further test first rest w = rw w (one_more_is (position_or_len test rest))
 
@@ -77,7 +77,7 @@ no_next_place k n e = go (nat_lt (suc k) (suc n)) refl
         absurd (none-some k (sym (subst (λ (v : Bool). cond v (Some k) None ≡ None) (lt-ltb k n (omega (arith, less))) e)))
     go false w = refl
 
--- where nothing is found there is no place
+-- where nothing is found there is no position
 pub not_placed : {A : Type 0} (test : A → Bool) (xs : List A) → find test xs ≡ None → position test xs ≡ None
 not_placed test [] e = refl
 not_placed test (first ∷ rest) e = go (test first) refl (not_placed test rest) e
@@ -86,9 +86,9 @@ not_placed test (first ∷ rest) e = go (test first) refl (not_placed test rest)
     go true w later e = cc
     go false w later e = ap (λ (n : ℕ). cond (nat_lt n (suc (length rest))) (Some n) None) (one_further test first rest w) ∙ no_next_place (position_or_len test rest) (length rest) (later e)
 
--- a place stands within the list
-pub place_within : {A : Type 0} (test : A → Bool) (xs : List A) (at : ℕ) → position test xs ≡ Some at → at < length xs
-place_within {A = A} test xs at e = go (nat_lt (position_or_len test xs) (length xs)) refl e
+-- a position stands within the list
+pub position_within : {A : Type 0} (test : A → Bool) (xs : List A) (at : ℕ) → position test xs ≡ Some at → at < length xs
+position_within {A = A} test xs at e = go (nat_lt (position_or_len test xs) (length xs)) refl e
   where
     go : (v : Bool) → nat_lt (position_or_len test xs) (length xs) ≡ v → cond v (Some (position_or_len test xs)) None ≡ Some at → at < length xs
     go true w e = subst (λ (i : ℕ). i < length xs) (same_Some (position_or_len test xs) at e) (ltb-true (position_or_len test xs) (length xs) w)

@@ -28,18 +28,18 @@ use Rattle.rule_grammar.specs.declared.raw.windows.RawTested.{RawTested}
 use Rattle.rule_grammar.specs.declared.raw.windows.RawTested.TheVariants as tested
 use Rattle.constraints.specs.GivenSeries.{is_series}
 use Rattle.constraints.specs.OfModel.{resource_kind, series_kind, reading_kind, is_of_kind, may_equal, is_term, is_sum, is_type}
-use Rattle.rule_check.specs.declared.refusals.WrongRule.{WrongRule}
+use Rattle.rule_check.specs.declared.causes.WrongRule.{WrongRule}
 use Rattle.constraints.specs.declared.types.RuleSum.{RuleSum}
 use Rattle.rule_check.specs.WindowMeaning.{number_or_first, number_of_type, variant_in, tested_value, number_within, no_terms, with_factor, sum_with, meant_sum}
-use Rattle.rule_check.specs.Refusals.{wrong_unless}
-use Rattle.rule_check.specs.RuleNames.{Datasets, place_of_type, place_of_enum, variant_place, named_entry, kind_of_entry, name_kind, known_reading, reading_named}
+use Rattle.diagnostics.specs.Diagnostics.{refused_unless}
+use Rattle.rule_check.specs.RuleNames.{Datasets, position_of_type, position_of_enum, variant_position, named_entry, kind_of_entry, name_kind, known_reading, reading_named}
 use Rattle.rule_check.specs.WindowRefusals.{refusals_of_reading, refusals_of_name, refusals_of_type, refusals_of_variant, refusals_of_tested, is_coefficient_within, refusals_of_factor, refusals_of_term, refusals_of_terms, refusals_of_sum}
 use Rattle.rule_check.specs.RefusalLaws.{both_empty}
-use Rattle.rule_check.proofs.Finding.{both_pass, short_is, found_holds, each_holds, placed, not_placed, place_within}
+use Rattle.rule_check.proofs.Finding.{both_pass, short_is, found_holds, each_holds, placed, not_placed, position_within}
 
 -- ---- what is not refused
 
-pub not_wrong : (holds : Bool) (wrong : WrongRule) (place : Place) → wrong_unless holds wrong place ≡ [] → holds ≡ true
+pub not_wrong : (holds : Bool) (wrong : WrongRule) (place : Place) → refused_unless holds wrong place ≡ [] → holds ≡ true
 not_wrong true wrong place e = refl
 not_wrong false wrong place e = cc
 
@@ -99,17 +99,17 @@ module _ (model : Parts) (datasets : Datasets) (valid : valid_model model ≡ tr
       go (Some kind) h e = ap (is_of_kind wanted) (kind_read name.name kind h) ∙ not_wrong (is_of_kind wanted kind) _ name.at e
 
   -- a type that is known
-  pub known_type : (name : RawName) → is_some (place_of_type model.activities name.name) ≡ true → is_type model (number_of_type model name) ≡ true
-  known_type name e = go (place_of_type model.activities name.name) refl e
+  pub known_type : (name : RawName) → is_some (position_of_type model.activities name.name) ≡ true → is_type model (number_of_type model name) ≡ true
+  known_type name e = go (position_of_type model.activities name.name) refl e
     where
-      go : (place : Option ℕ) → place_of_type model.activities name.name ≡ place → is_some place ≡ true → is_type model (number_or_first place) ≡ true
+      go : (place : Option ℕ) → position_of_type model.activities name.name ≡ place → is_some place ≡ true → is_type model (number_or_first place) ≡ true
       go None h e = cc
       go (Some at) h e =
-          let less = place_within (λ activity. same_name activity.name name.name) model.activities at h in
+          let less = position_within (λ activity. same_name activity.name name.name) model.activities at h in
           ap (is_type model) (short_is at (small at (length model.activities) type_limit less (few_types model valid) (omega arith))) ∙ lt-ltb at (length model.activities) less
 
   pub type_is : (name : RawName) → refusals_of_type model name ≡ [] → is_type model (number_of_type model name) ≡ true
-  type_is name e = known_type name (not_wrong (is_some (place_of_type model.activities name.name)) _ name.at e)
+  type_is name e = known_type name (not_wrong (is_some (position_of_type model.activities name.name)) _ name.at e)
 
   -- ---- values
 
@@ -122,22 +122,22 @@ module _ (model : Parts) (datasets : Datasets) (valid : valid_model model ≡ tr
       go : (place : Option ℕ) → position (λ other. same_name other variant) enum.variants ≡ place → is_some place ≡ true → nat_lt (number_or_first place) (length enum.variants) ≡ true
       go None g e = cc
       go (Some at) g e =
-          let less = place_within (λ other. same_name other variant) enum.variants at g in
+          let less = position_within (λ other. same_name other variant) enum.variants at g in
           ap (λ (n : ℕ). nat_lt n (length enum.variants)) (short_is at (small at (length enum.variants) variant_limit less (few_variants model valid kind enum h) (omega arith))) ∙ lt-ltb at (length enum.variants) less
 
-  beside_is : (wanted : ℕ) (at : Place) (kind variant : RawName) → refusals_of_variant model (place_of_enum model.enums kind.name) wanted at kind variant ≡ []
-      → may_equal model (variant_in model (place_of_enum model.enums kind.name) variant) (Some (Enum wanted)) ≡ true
-  beside_is wanted at kind variant e = go (place_of_enum model.enums kind.name) refl e
+  beside_is : (wanted : ℕ) (at : Place) (kind variant : RawName) → refusals_of_variant model (position_of_enum model.enums kind.name) wanted at kind variant ≡ []
+      → may_equal model (variant_in model (position_of_enum model.enums kind.name) variant) (Some (Enum wanted)) ≡ true
+  beside_is wanted at kind variant e = go (position_of_enum model.enums kind.name) refl e
     where
-      go : (place : Option ℕ) → place_of_enum model.enums kind.name ≡ place → refusals_of_variant model place wanted at kind variant ≡ [] → may_equal model (variant_in model place variant) (Some (Enum wanted)) ≡ true
+      go : (place : Option ℕ) → position_of_enum model.enums kind.name ≡ place → refusals_of_variant model place wanted at kind variant ≡ [] → may_equal model (variant_in model place variant) (Some (Enum wanted)) ≡ true
       go None h e = cc
       go (Some number) h e =
-          let two = both_empty (wrong_unless (nat_eq number wanted) _ at) (wrong_unless (is_some (variant_place model.enums number variant.name)) _ variant.at) e in
-          let less = place_within (λ enum. same_name enum.name kind.name) model.enums number h in
+          let two = both_empty (refused_unless (nat_eq number wanted) _ at) (refused_unless (is_some (variant_position model.enums number variant.name)) _ variant.at) e in
+          let less = position_within (λ enum. same_name enum.name kind.name) model.enums number h in
           let short = short_is number (small number (length model.enums) enum_limit less (few_enums model valid) (omega arith)) in
-          let there = variant_is number variant.name (slice_get model.enums number) refl (not_wrong (is_some (variant_place model.enums number variant.name)) _ variant.at two.1) in
-          ap (λ (n : ℕ). nat_eq n wanted && nat_lt (number_or_first (variant_place model.enums number variant.name)) (variants_of (slice_get model.enums n))) short
-          ∙ ap (λ (v : Bool). v && nat_lt (number_or_first (variant_place model.enums number variant.name)) (variants_of (slice_get model.enums number))) (not_wrong (nat_eq number wanted) _ at two.0)
+          let there = variant_is number variant.name (slice_get model.enums number) refl (not_wrong (is_some (variant_position model.enums number variant.name)) _ variant.at two.1) in
+          ap (λ (n : ℕ). nat_eq n wanted && nat_lt (number_or_first (variant_position model.enums number variant.name)) (variants_of (slice_get model.enums n))) short
+          ∙ ap (λ (v : Bool). v && nat_lt (number_or_first (variant_position model.enums number variant.name)) (variants_of (slice_get model.enums number))) (not_wrong (nat_eq number wanted) _ at two.0)
           ∙ there
 
   same_truth : (kind : Kind) → same_kind kind Truth ≡ true → kind ≡ Truth
@@ -190,7 +190,7 @@ module _ (model : Parts) (datasets : Datasets) (valid : valid_model model ≡ tr
       let low = going.low in
       record { few = omega (arith, few); all = going.all; low = omega (arith, low, one, other) }
   next_going room sum term (Some name) e going =
-      let two = both_empty (wrong_unless (is_coefficient_within term.number) _ term.at) (refusals_of_name model datasets Int name) e in
+      let two = both_empty (refused_unless (is_coefficient_within term.number) _ term.at) (refusals_of_name model datasets Int name) e in
       let good : is_term model (record { coefficient = term.number; resource = reading_named model datasets name.name }) ≡ true =
       rw (not_wrong (is_coefficient_within term.number) _ term.at two.0, name_is Int name two.1) refl in
       let longer = length-append sum.terms (record { coefficient = term.number; resource = reading_named model datasets name.name } ∷ []) in

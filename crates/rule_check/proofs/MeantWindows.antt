@@ -19,10 +19,12 @@ use Rattle.constraints.specs.declared.types.Window as window
 use Rattle.rule_check.specs.ConstraintRefusals.{refusals_of_rule, is_name_of_one, refusals_of_constraint, refusals_of_more, refusals_of_constraints}
 use Rattle.rule_check.specs.WindowMeaning.{number_of_type, during_of, signed_time, time_within, window_of}
 use Rattle.rule_check.specs.ConstraintMeaning.{meant_rule, constraints_of}
-use Rattle.rule_check.specs.Refusals.{first_of_refusals, wrong_unless}
-use Rattle.rule_check.specs.RuleNames.{Datasets, place_of_type}
+use Rattle.diagnostics.specs.Diagnostics.{refused_unless}
+use Rattle.rule_check.specs.Refusals.{number_of_wrong, first_diagnostic}
+use Rattle.rule_check.specs.RuleNames.{Datasets, position_of_type}
 use Rattle.rule_check.specs.WindowRefusals.{is_bound, refusals_of_span, refusals_of_window, refusals_of_sum, refusals_of_type}
-use Rattle.rule_check.specs.RefusalLaws.{both_empty, none_found}
+use Rattle.diagnostics.specs.NotedInTurn.{none_found}
+use Rattle.rule_check.specs.RefusalLaws.{both_empty}
 use Rattle.rule_check.proofs.Meant.{not_wrong, name_is, known_type, type_is, tested_is, sum_is}
 
 -- a shift is at most the longest time
@@ -40,9 +42,9 @@ module _ (model : Parts) (datasets : Datasets) (valid : valid_model model ≡ tr
 
     span_is : (name : RawName) → refusals_of_span model bound name ≡ [] → is_window model (during_of model bound name) ≡ true
     unfolding is_window
-    span_is name e = go (is_bound bound name.name) refl (not_wrong (is_bound bound name.name || is_some (place_of_type model.activities name.name)) _ name.at e)
+    span_is name e = go (is_bound bound name.name) refl (not_wrong (is_bound bound name.name || is_some (position_of_type model.activities name.name)) _ name.at e)
       where
-        go : (v : Bool) → is_bound bound name.name ≡ v → (v || is_some (place_of_type model.activities name.name)) ≡ true → is_window model (if v then window.DuringBound else window.During (number_of_type model name)) ≡ true
+        go : (v : Bool) → is_bound bound name.name ≡ v → (v || is_some (position_of_type model.activities name.name)) ≡ true → is_window model (if v then window.DuringBound else window.During (number_of_type model name)) ≡ true
         go true h e = refl
         go false h e = known_type model datasets valid series name e
 
@@ -97,9 +99,9 @@ module _ (model : Parts) (datasets : Datasets) (valid : valid_model model ≡ tr
   constraints_are zero others (constraint ∷ rest) e = cc
   constraints_are (suc room) others (constraint ∷ rest) e =
       let two = both_empty (refusals_of_constraint model datasets others constraint) (refusals_of_more model datasets room (others ++ constraint ∷ []) rest) e in
-      let rule = both_empty (wrong_unless (not (is_name_of_one others constraint.name.name)) _ constraint.name.at) (refusals_of_rule model datasets constraint.rule) two.0 in
+      let rule = both_empty (refused_unless (not (is_name_of_one others constraint.name.name)) _ constraint.name.at) (refusals_of_rule model datasets constraint.rule) two.0 in
       rw (rule_is constraint.rule rule.1, constraints_are room (others ++ constraint ∷ []) rest two.1) refl
 
   -- constraints of which nothing is refused are of the model
-  pub all_of_model : (constraints : List RawConstraint) → first_of_refusals (refusals_of_constraints model datasets constraints) ≡ None → list_all (is_constraint model) (constraints_of model datasets constraints) ≡ true
-  all_of_model constraints e = constraints_are _ [] constraints (none_found (refusals_of_constraints model datasets constraints) e)
+  pub all_of_model : (constraints : List RawConstraint) → first_diagnostic (refusals_of_constraints model datasets constraints) ≡ None → list_all (is_constraint model) (constraints_of model datasets constraints) ≡ true
+  all_of_model constraints e = constraints_are _ [] constraints (none_found number_of_wrong (refusals_of_constraints model datasets constraints) e)

@@ -16,8 +16,9 @@ use Rattle.model_reader.specs.declared.raw.names.RawName.{RawName}
 use Rattle.rule_check.specs.WindowMeaning.{number_or_first, number_within, variant_in}
 use Rattle.rule_check.specs.ReadParts.{NamedTypesStand, ReadTypesAreOf, ReadWindowsAreOf, ReadLiteralsAreOf}
 use Rattle.rule_check.specs.RuleLiterals.{refusals_of_named_variant, literal_value}
-use Rattle.rule_check.specs.RuleNames.{short_number, place_of_enum, variant_place}
-use Rattle.rule_check.proofs.Finding.{short_is, placed, place_within}
+use Rattle.diagnostics.specs.ShortNumbers.{short}
+use Rattle.rule_check.specs.RuleNames.{position_of_enum, variant_position}
+use Rattle.rule_check.proofs.Finding.{short_is, placed, position_within}
 use Rattle.rule_check.proofs.Meant.{not_wrong, type_is, few_types, few_enums, small, variant_is}
 use Rattle.rule_check.proofs.MeantWindows.{window_is, speaks_not}
 
@@ -47,22 +48,22 @@ number_good number = go (is_number number) refl
     go false e = refl
 
 variant_good : (model : Parts) (enum variant : RawName) (kind : Kind) → valid_model model ≡ true
-    → refusals_of_named_variant model (place_of_enum model.enums enum.name) enum variant ≡ []
-    → option_map (λ place. Enum (short_number place)) (place_of_enum model.enums enum.name) ≡ Some kind
-    → is_value_of model.enums kind (variant_in model (place_of_enum model.enums enum.name) variant) ≡ true
-variant_good model enum variant kind valid e of = go (place_of_enum model.enums enum.name) refl e of
+    → refusals_of_named_variant model (position_of_enum model.enums enum.name) enum variant ≡ []
+    → option_map (λ place. Enum (short place)) (position_of_enum model.enums enum.name) ≡ Some kind
+    → is_value_of model.enums kind (variant_in model (position_of_enum model.enums enum.name) variant) ≡ true
+variant_good model enum variant kind valid e of = go (position_of_enum model.enums enum.name) refl e of
   where
-    go : (place : Option ℕ) → place_of_enum model.enums enum.name ≡ place → refusals_of_named_variant model place enum variant ≡ []
-        → option_map (λ (at : ℕ). Enum (short_number at)) place ≡ Some kind → is_value_of model.enums kind (variant_in model place variant) ≡ true
+    go : (place : Option ℕ) → position_of_enum model.enums enum.name ≡ place → refusals_of_named_variant model place enum variant ≡ []
+        → option_map (λ (at : ℕ). Enum (short at)) place ≡ Some kind → is_value_of model.enums kind (variant_in model place variant) ≡ true
     go None h e of = cc
     go (Some number) h e of =
-        let less = place_within (λ (one : EnumType). same_name one.name enum.name) model.enums number h in
-        let short = short_is number (small number (length model.enums) enum_limit less (few_enums model valid) (omega arith)) in
-        let there = variant_is model [] valid refl number variant.name (slice_get model.enums number) refl (not_wrong (is_some (variant_place model.enums number variant.name)) _ variant.at e) in
-        let chosen = number_or_first (variant_place model.enums number variant.name) in
-        subst (λ (k : Kind). is_value_of model.enums k (variant_in model (Some number) variant) ≡ true) (same_Some (Enum (short_number number)) kind of)
-        (ap (λ (v : Bool). v && nat_lt chosen (variants_of (slice_get model.enums (short_number number)))) (itself (short_number number))
-        ∙ ap (λ (n : ℕ). nat_lt chosen (variants_of (slice_get model.enums n))) short ∙ there)
+        let less = position_within (λ (one : EnumType). same_name one.name enum.name) model.enums number h in
+        let is_short = short_is number (small number (length model.enums) enum_limit less (few_enums model valid) (omega arith)) in
+        let there = variant_is model [] valid refl number variant.name (slice_get model.enums number) refl (not_wrong (is_some (variant_position model.enums number variant.name)) _ variant.at e) in
+        let chosen = number_or_first (variant_position model.enums number variant.name) in
+        subst (λ (k : Kind). is_value_of model.enums k (variant_in model (Some number) variant) ≡ true) (same_Some (Enum (short number)) kind of)
+        (ap (λ (v : Bool). v && nat_lt chosen (variants_of (slice_get model.enums (short number)))) (itself (short number))
+        ∙ ap (λ (n : ℕ). nat_lt chosen (variants_of (slice_get model.enums n))) is_short ∙ there)
 
 pub read_literal_is : ReadLiteralsAreOf
 read_literal_is model (literal.Number number) kind valid e of =

@@ -7,7 +7,8 @@ use Rattle.model_reader.specs.declared.raw.names.RawName.{RawName}
 use Rattle.rule_grammar.specs.declared.raw.sums.RawTerm.{RawTerm}
 use Rattle.rule_grammar.specs.declared.raw.windows.RawTested.{RawTested}
 use Rattle.rule_grammar.specs.declared.raw.windows.RawWindow.{RawWindow, Literal, Not, And, Or, During, Shift, Longer, Truth, Same, Compare}
-use Rattle.rule_check.specs.declared.refusals.RuleRefusal.{RuleRefusal}
+use Rattle.diagnostics.specs.declared.diagnostic.Diagnostic.{Diagnostic}
+use Rattle.rule_check.specs.declared.causes.WrongRule.{WrongRule}
 use Rattle.constraints.specs.declared.types.Window.{Window}
 use Rattle.constraints.specs.declared.types.Window as window
 use Rattle.rule_check.specs.WindowMeaning.{window_level, window_of, signed_time, time_within, during_of, tested_value, meant_sum}
@@ -16,7 +17,7 @@ use Rattle.rule_check.specs.WindowRefusals.{refusals_of_level, refusals_of_windo
 use Rattle.rule_check.proofs.RawWindowForms.{gives_not, gives_and, gives_or, gives_shift, gives_longer}
 
 module _ (model : Parts) (datasets : Datasets) (bound : Option (List ℕ)) where
-  abbrev refused : RawWindow → List RuleRefusal
+  abbrev refused : RawWindow → List (Diagnostic WrongRule)
   refused raw = refusals_of_window model datasets bound raw
 
   abbrev meant : RawWindow → Window
@@ -30,15 +31,15 @@ module _ (model : Parts) (datasets : Datasets) (bound : Option (List ℕ)) where
 
   pub refused_not : (part : RawWindow) → refused (Not part) ≡ refused part
   unfolding refusals_of_window
-  refused_not part = gives_not (List RuleRefusal) [] (refusals_of_level model datasets bound) part
+  refused_not part = gives_not (List (Diagnostic WrongRule)) [] (refusals_of_level model datasets bound) part
 
   pub refused_and : (left right : RawWindow) → refused (And left right) ≡ refused left ++ refused right
   unfolding refusals_of_window
-  refused_and left right = gives_and (List RuleRefusal) [] (refusals_of_level model datasets bound) left right
+  refused_and left right = gives_and (List (Diagnostic WrongRule)) [] (refusals_of_level model datasets bound) left right
 
   pub refused_or : (left right : RawWindow) → refused (Or left right) ≡ refused left ++ refused right
   unfolding refusals_of_window
-  refused_or left right = gives_or (List RuleRefusal) [] (refusals_of_level model datasets bound) left right
+  refused_or left right = gives_or (List (Diagnostic WrongRule)) [] (refusals_of_level model datasets bound) left right
 
   pub refused_during : (name : RawName) → refused (During name) ≡ refusals_of_span model bound name
   unfolding refusals_of_window
@@ -46,11 +47,11 @@ module _ (model : Parts) (datasets : Datasets) (bound : Option (List ℕ)) where
 
   pub refused_shift : (part : RawWindow) (start end : ℤ) → refused (Shift part start end) ≡ refused part
   unfolding refusals_of_window
-  refused_shift part start end = gives_shift (List RuleRefusal) [] (refusals_of_level model datasets bound) part start end
+  refused_shift part start end = gives_shift (List (Diagnostic WrongRule)) [] (refusals_of_level model datasets bound) part start end
 
   pub refused_longer : (part : RawWindow) (least : ℤ) → refused (Longer part least) ≡ refused part
   unfolding refusals_of_window
-  refused_longer part least = gives_longer (List RuleRefusal) [] (refusals_of_level model datasets bound) part least
+  refused_longer part least = gives_longer (List (Diagnostic WrongRule)) [] (refusals_of_level model datasets bound) part least
 
   pub refused_truth : (name : RawName) → refused (Truth name) ≡ refusals_of_name model datasets TruthKind name
   unfolding refusals_of_window

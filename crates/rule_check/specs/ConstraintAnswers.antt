@@ -11,13 +11,13 @@ use Rattle.constraints.specs.declared.types.Constraint.{Constraint}
 use Rattle.rule_check.specs.declared.rule_error.RuleError.{RuleError}
 use Rattle.rule_check.specs.ConstraintMeaning.{constraints_of}
 use Rattle.rule_check.specs.ConstraintRefusals.{refusals_of_constraints}
-use Rattle.rule_check.specs.Refusals.{first_of_refusals}
+use Rattle.rule_check.specs.Refusals.{first_diagnostic}
 use Rattle.rule_check.specs.RuleErrors.{judged_rules, rules_or_refusal, RuledUnlessOutOfMemory}
 use Rattle.rule_check.specs.RuleNames.{Datasets}
 
 -- constraints as they are written, judged
 abbrev pub judged_constraints : Parts → Datasets → List RawConstraint → Result (List Constraint) RuleError
-judged_constraints model datasets raw = rules_or_refusal (first_of_refusals (refusals_of_constraints model datasets raw)) (constraints_of model datasets raw)
+judged_constraints model datasets raw = rules_or_refusal (first_diagnostic (refusals_of_constraints model datasets raw)) (constraints_of model datasets raw)
 
 -- the constraints that these tokens of a text are, for a model and datasets, or the first refusal: bad syntax and windows too
 -- deep come before all others, the first of them in the text

@@ -4,12 +4,12 @@ use Rattle.aerie_base.specs.declared.places.Place.{Place}
 use Rattle.readers.specs.Words.{word_of}
 use Rattle.rule_grammar.specs.declared.rule_form_error.RuleFormError.{RuleFormError}
 use Rattle.rule_grammar.specs.declared.rule_form_error.RuleFormError.TheVariants as form
-use Rattle.rule_check.specs.declared.refusals.RuleRefusal.{RuleRefusal}
-use Rattle.rule_check.specs.declared.refusals.WrongRule.{WrongRule}
-use Rattle.rule_check.specs.declared.refusals.WrongRule.TheVariants as wrong
+use Rattle.diagnostics.specs.declared.diagnostic.Diagnostic.{Diagnostic}
+use Rattle.rule_check.specs.declared.causes.WrongRule.{WrongRule}
+use Rattle.rule_check.specs.declared.causes.WrongRule.TheVariants as wrong
 use Rattle.rule_check.specs.declared.rule_error.RuleError.{RuleError}
 use Rattle.rule_check.specs.declared.rule_error.RuleError.TheVariants as error
-use Rattle.rule_check.specs.Refusals.{first_of_refusals}
+use Rattle.rule_check.specs.Refusals.{first_diagnostic}
 
 -- the error that tells what is wrong at a place
 abbrev pub rule_error_at : WrongRule → Place → RuleError
@@ -21,9 +21,9 @@ rule_error_at (wrong.TooMany limit) place = error.TooMany (word_of limit) place
 rule_error_at wrong.Invalid place = error.Invalid place
 
 -- what is refused, or else these rules
-abbrev pub rules_or_refusal : {A : Type 0} → Option RuleRefusal → A → Result A RuleError
+abbrev pub rules_or_refusal : {A : Type 0} → Option (Diagnostic WrongRule) → A → Result A RuleError
 rules_or_refusal None rules = Ok rules
-rules_or_refusal (Some refusal) rules = Err (rule_error_at refusal.wrong refusal.place)
+rules_or_refusal (Some refusal) rules = Err (rule_error_at refusal.cause refusal.place)
 
 -- the error of tokens that are not read as rules
 abbrev pub error_of_form : RuleFormError → RuleError
@@ -32,8 +32,8 @@ error_of_form (form.TooMany limit place) = error.TooMany (word_of limit) place
 error_of_form form.OutOfMemory = error.OutOfMemory
 
 -- rules that are read, judged by these refusals and with this meaning; or why they are not read
-abbrev pub judged_rules : {A B : Type 0} → (A → List RuleRefusal) → (A → B) → Result A RuleFormError → Result B RuleError
-judged_rules refusals meaning (Ok raw) = rules_or_refusal (first_of_refusals (refusals raw)) (meaning raw)
+abbrev pub judged_rules : {A B : Type 0} → (A → List (Diagnostic WrongRule)) → (A → B) → Result A RuleFormError → Result B RuleError
+judged_rules refusals meaning (Ok raw) = rules_or_refusal (first_diagnostic (refusals raw)) (meaning raw)
 judged_rules refusals meaning (Err cause) = Err (error_of_form cause)
 
 -- the error is this one, unless memory ran out

@@ -11,11 +11,13 @@ use Rattle.aerie_base.specs.models.Names.{same_name}
 use Rattle.model_reader.specs.declared.raw.literals.RawLiteralKind.{RawLiteralKind}
 use Rattle.model_reader.specs.declared.raw.literals.RawLiteralKind.TheVariants as literal
 use Rattle.model_reader.specs.declared.raw.names.RawName.{RawName}
-use Rattle.rule_check.specs.declared.refusals.RuleRefusal.{RuleRefusal}
-use Rattle.rule_check.specs.declared.refusals.WrongRule.TheVariants.{Unknown}
+use Rattle.diagnostics.specs.declared.diagnostic.Diagnostic.{Diagnostic}
+use Rattle.rule_check.specs.declared.causes.WrongRule.{WrongRule}
+use Rattle.rule_check.specs.declared.causes.WrongRule.TheVariants.{Unknown}
 use Rattle.rule_check.specs.WindowMeaning.{variant_in, number_within}
-use Rattle.rule_check.specs.Refusals.{wrong_at, wrong_unless}
-use Rattle.rule_check.specs.RuleNames.{short_number, place_of_enum, variant_place}
+use Rattle.diagnostics.specs.Diagnostics.{at_place, refused_unless}
+use Rattle.diagnostics.specs.ShortNumbers.{short}
+use Rattle.rule_check.specs.RuleNames.{position_of_enum, variant_position}
 
 -- ---- parameters
 
@@ -23,9 +25,9 @@ use Rattle.rule_check.specs.RuleNames.{short_number, place_of_enum, variant_plac
 abbrev pub activity_named : Parts → List ℕ → Option Activity
 activity_named model name = find (λ activity. same_name activity.name name) model.activities
 
--- the place of the parameter of a name
-abbrev pub place_of_parameter : List Parameter → List ℕ → Option ℕ
-place_of_parameter parameters name = position (λ parameter. same_name parameter.name name) parameters
+-- the position of the parameter of a name
+abbrev pub position_of_parameter : List Parameter → List ℕ → Option ℕ
+position_of_parameter parameters name = position (λ parameter. same_name parameter.name name) parameters
 
 abbrev pub known_parameter : List Parameter → List ℕ → Option Parameter
 known_parameter parameters name = find (λ parameter. same_name parameter.name name) parameters
@@ -37,18 +39,18 @@ parameters_if_known (Some activity) = activity.parameters
 
 -- ---- what is refused
 
--- a variant of the enumeration of this place
-abbrev pub refusals_of_named_variant : Parts → Option ℕ → RawName → RawName → List RuleRefusal
-refusals_of_named_variant model None kind variant = wrong_at Unknown kind.at
+-- a variant of the enumeration of this position
+abbrev pub refusals_of_named_variant : Parts → Option ℕ → RawName → RawName → List (Diagnostic WrongRule)
+refusals_of_named_variant model None kind variant = at_place Unknown kind.at
 refusals_of_named_variant model (Some number) kind variant =
-    wrong_unless (is_some (variant_place model.enums number variant.name)) Unknown variant.at
+    refused_unless (is_some (variant_position model.enums number variant.name)) Unknown variant.at
 
 -- its enumeration is unknown, or that has no such variant
-abbrev pub refusals_of_literal : Parts → RawLiteralKind → List RuleRefusal
+abbrev pub refusals_of_literal : Parts → RawLiteralKind → List (Diagnostic WrongRule)
 refusals_of_literal model (literal.Number number) = []
 refusals_of_literal model (literal.Truth truth) = []
 refusals_of_literal model (literal.Variant kind variant) =
-    refusals_of_named_variant model (place_of_enum model.enums kind.name) kind variant
+    refusals_of_named_variant model (position_of_enum model.enums kind.name) kind variant
 
 -- ---- what is meant
 
@@ -57,10 +59,10 @@ abbrev pub literal_kind : Parts → RawLiteralKind → Option Kind
 literal_kind model (literal.Number number) = Some Int
 literal_kind model (literal.Truth truth) = Some Truth
 literal_kind model (literal.Variant kind variant) =
-    option_map (λ place. Enum (short_number place)) (place_of_enum model.enums kind.name)
+    option_map (λ place. Enum (short place)) (position_of_enum model.enums kind.name)
 
 -- the value of a literal; of one that is refused it is never used
 abbrev pub literal_value : Parts → RawLiteralKind → Value
 literal_value model (literal.Number number) = value.Int (number_within number)
 literal_value model (literal.Truth truth) = value.Truth truth
-literal_value model (literal.Variant kind variant) = variant_in model (place_of_enum model.enums kind.name) variant
+literal_value model (literal.Variant kind variant) = variant_in model (position_of_enum model.enums kind.name) variant

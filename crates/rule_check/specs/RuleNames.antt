@@ -1,6 +1,6 @@
 -- What the names in rules stand for, by a model and datasets. Of several of one name the first counts, and a resource before a
 -- dataset.
-use Rattle.std.specs.Prelude.{ℕ, List, Option, Some, None, position, find, option_and_then, slice_get, nat_lt, if◌then◌else◌}
+use Rattle.std.specs.Prelude.{ℕ, List, Option, Some, None, position, find, option_and_then, slice_get}
 use Rattle.aerie_base.specs.declared.models.Activity.{Activity}
 use Rattle.aerie_base.specs.declared.models.EnumType.{EnumType}
 use Rattle.aerie_base.specs.declared.models.Resource.{Resource}
@@ -9,6 +9,7 @@ use Rattle.aerie_base.specs.declared.values.Kind.{Kind}
 use Rattle.aerie_base.specs.models.Cells.{NamedCells}
 use Rattle.aerie_base.specs.models.Names.{same_name}
 use Rattle.dataset_in.specs.declared.series.Series.{Series}
+use Rattle.diagnostics.specs.ShortNumbers.{short}
 use Rattle.constraints.specs.OfModel.{resource_kind, series_kind}
 use Rattle.constraints.specs.declared.types.Reading.{Reading}
 use Rattle.constraints.specs.declared.types.Reading.TheVariants as reading
@@ -16,23 +17,19 @@ use Rattle.constraints.specs.declared.types.Reading.TheVariants as reading
 abbrev pub Datasets : Type 0
 Datasets = List (List ℕ × Series)
 
--- a number of a part of a model, which is below 256, in 16 bits
-abbrev pub short_number : ℕ → ℕ
-short_number number = if nat_lt number 65_535 then number else 65_535
-
 -- ---- activity types and enumerations
 
-abbrev pub place_of_type : List Activity → List ℕ → Option ℕ
-place_of_type activities name = position (λ activity. same_name activity.name name) activities
+abbrev pub position_of_type : List Activity → List ℕ → Option ℕ
+position_of_type activities name = position (λ activity. same_name activity.name name) activities
 
-abbrev pub place_of_enum : List EnumType → List ℕ → Option ℕ
-place_of_enum enums name = position (λ enum. same_name enum.name name) enums
+abbrev pub position_of_enum : List EnumType → List ℕ → Option ℕ
+position_of_enum enums name = position (λ enum. same_name enum.name name) enums
 
 abbrev pub variant_of : Option EnumType → List ℕ → Option ℕ
 variant_of enumeration name = option_and_then (λ enum. position (λ variant. same_name variant name) enum.variants) enumeration
 
-abbrev pub variant_place : List EnumType → ℕ → List ℕ → Option ℕ
-variant_place enums kind name = variant_of (slice_get enums kind) name
+abbrev pub variant_position : List EnumType → ℕ → List ℕ → Option ℕ
+variant_position enums kind name = variant_of (slice_get enums kind) name
 
 -- ---- resources and datasets
 
@@ -51,7 +48,7 @@ name_kind model datasets name = kind_of_entry model.cells (named_entry model.res
 
 -- what is read by a name; of an unknown name it is never used
 abbrev pub known_reading : Option ℕ → Option (List ℕ × Series) → Reading
-known_reading (Some number) dataset = reading.Resource (short_number number)
+known_reading (Some number) dataset = reading.Resource (short number)
 known_reading None (Some dataset) = reading.Series dataset.1
 known_reading None None = reading.Resource 0
 

@@ -9,7 +9,7 @@ use Rattle.rule_grammar.specs.reading.Sequences.{sequence_at}
 use Rattle.rule_grammar.specs.reading.ToTheEnd.{to_the_end}
 use Rattle.rule_check.specs.declared.rule_error.RuleError.{RuleError}
 use Rattle.rule_check.specs.RuleErrors.{judged_rules, rules_or_refusal, RuledUnlessOutOfMemory}
-use Rattle.rule_check.specs.Refusals.{first_of_refusals}
+use Rattle.rule_check.specs.Refusals.{first_diagnostic}
 use Rattle.seq_expand.specs.declared.rules.Sequencing.{Sequencing}
 use Rattle.rule_check.specs.SequenceRefusals.{refusals_of_sequence}
 use Rattle.rule_check.specs.SequenceMeaning.{sequencing_of}
@@ -25,4 +25,4 @@ IsSequenceAnswer text tokens model result = RuledUnlessOutOfMemory (sequence_ans
 -- the same of rules that are read as they are written
 abbrev pub IsJudgedSequence : Parts → List RawSequenceItem → Result Sequencing RuleError → Type 0
 IsJudgedSequence model raw result =
-    RuledUnlessOutOfMemory (rules_or_refusal (first_of_refusals (refusals_of_sequence model raw)) (sequencing_of model raw)) result
+    RuledUnlessOutOfMemory (rules_or_refusal (first_diagnostic (refusals_of_sequence model raw)) (sequencing_of model raw)) result

@@ -14,8 +14,9 @@ use Rattle.rule_grammar.specs.declared.raw.sequences.RawSequenceRule.TheVariants
 use Rattle.rule_grammar.specs.declared.raw.sequences.RawStep.{RawStep}
 use Rattle.rule_grammar.specs.declared.raw.sequences.RawWord.{RawWord}
 use Rattle.rule_grammar.specs.declared.raw.sequences.RawWordKind.TheVariants as written
-use Rattle.rule_check.specs.declared.refusals.WrongRule.TheVariants.{Unknown, Duplicate, WrongType}
-use Rattle.rule_check.specs.Refusals.{first_of_refusals, wrong_at}
+use Rattle.rule_check.specs.declared.causes.WrongRule.TheVariants.{Unknown, Duplicate, WrongType}
+use Rattle.diagnostics.specs.Diagnostics.{at_place}
+use Rattle.rule_check.specs.Refusals.{first_diagnostic}
 use Rattle.seq_expand.specs.declared.rules.SendWord.TheVariants as word
 use Rattle.rule_check.specs.SequenceRefusals.{refusals_of_sequence}
 use Rattle.rule_check.specs.SequenceMeaning.{sequencing_of}
@@ -66,16 +67,16 @@ a_rule_that_is_read = refl
 pub nothing_is_refused : refusals_of_sequence model (rule by_word None ∷ []) ≡ []
 nothing_is_refused = refl
 
-pub no_result : refusals_of_sequence model (rule result_word None ∷ []) ≡ wrong_at WrongType (at 25)
+pub no_result : refusals_of_sequence model (rule result_word None ∷ []) ≡ at_place WrongType (at 25)
 no_result = refl
 
-pub a_truth_is_not_ordered : refusals_of_sequence model (rule by_word (Some true_test) ∷ []) ≡ wrong_at WrongType (at 37)
+pub a_truth_is_not_ordered : refusals_of_sequence model (rule by_word (Some true_test) ∷ []) ≡ at_place WrongType (at 37)
 a_truth_is_not_ordered = refl
 
 -- the second rule for the type is refused at its name, before what is wrong behind it
-pub two_rules_of_one_type : first_of_refusals (refusals_of_sequence model (rule by_word None ∷ rule result_word None ∷ [])) ≡ Some (record { place = at 5; wrong = Duplicate })
+pub two_rules_of_one_type : first_diagnostic (refusals_of_sequence model (rule by_word None ∷ rule result_word None ∷ [])) ≡ Some (record { place = at 5; cause = Duplicate })
 two_rules_of_one_type = refl
 
 pub an_unknown_type :
-    refusals_of_sequence model (record { at = at 1; rule = sequence_rule.Span (named 5 (codes "Bum")) (step result_word None ∷ []) } ∷ []) ≡ wrong_at Unknown (at 5)
+    refusals_of_sequence model (record { at = at 1; rule = sequence_rule.Span (named 5 (codes "Bum")) (step result_word None ∷ []) } ∷ []) ≡ at_place Unknown (at 5)
 an_unknown_type = refl

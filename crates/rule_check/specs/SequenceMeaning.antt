@@ -12,7 +12,7 @@ use Rattle.rule_grammar.specs.declared.raw.sequences.RawWord.{RawWord}
 use Rattle.rule_grammar.specs.declared.raw.sequences.RawWordKind.{RawWordKind}
 use Rattle.rule_grammar.specs.declared.raw.sequences.RawWordKind.TheVariants as written
 use Rattle.rule_check.specs.WindowMeaning.{number_or_first, number_of_type, signed_time, time_within}
-use Rattle.rule_check.specs.RuleLiterals.{activity_named, place_of_parameter, parameters_if_known, literal_value}
+use Rattle.rule_check.specs.RuleLiterals.{activity_named, position_of_parameter, parameters_if_known, literal_value}
 use Rattle.seq_expand.specs.declared.rules.SendStep.{SendStep}
 use Rattle.seq_expand.specs.declared.rules.SendTest.{SendTest}
 use Rattle.seq_expand.specs.declared.rules.SendWord.{SendWord}
@@ -22,7 +22,7 @@ use Rattle.seq_expand.specs.declared.rules.SpanRule.{SpanRule}
 
 -- the number of a parameter
 abbrev pub number_of_parameter : List Parameter → RawName → ℕ
-number_of_parameter parameters name = number_or_first (place_of_parameter parameters name.name)
+number_of_parameter parameters name = number_or_first (position_of_parameter parameters name.name)
 
 abbrev pub meant_word : Parts → List Parameter → RawWordKind → SendWord
 meant_word model parameters (written.Literal literal) = word.Value (literal_value model literal)

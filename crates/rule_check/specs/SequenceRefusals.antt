@@ -20,10 +20,12 @@ use Rattle.rule_grammar.specs.declared.raw.sequences.RawStep.{RawStep}
 use Rattle.rule_grammar.specs.declared.raw.sequences.RawWord.{RawWord}
 use Rattle.rule_grammar.specs.declared.raw.sequences.RawWordKind.{RawWordKind}
 use Rattle.rule_grammar.specs.declared.raw.sequences.RawWordKind.TheVariants as word
-use Rattle.rule_check.specs.declared.refusals.RuleRefusal.{RuleRefusal}
-use Rattle.rule_check.specs.declared.refusals.WrongRule.TheVariants.{Unknown, Duplicate, WrongType, TooMany}
-use Rattle.rule_check.specs.Refusals.{wrong_at, wrong_unless, refusals_up_to, refusals_in_turn}
-use Rattle.rule_check.specs.RuleLiterals.{activity_named, place_of_parameter, known_parameter, refusals_of_literal, literal_kind}
+use Rattle.diagnostics.specs.declared.diagnostic.Diagnostic.{Diagnostic}
+use Rattle.rule_check.specs.declared.causes.WrongRule.{WrongRule}
+use Rattle.rule_check.specs.declared.causes.WrongRule.TheVariants.{Unknown, Duplicate, WrongType, TooMany}
+use Rattle.diagnostics.specs.Diagnostics.{at_place, refused_unless}
+use Rattle.rule_check.specs.Refusals.{refusals_up_to, refusals_in_turn}
+use Rattle.rule_check.specs.RuleLiterals.{activity_named, position_of_parameter, known_parameter, refusals_of_literal, literal_kind}
 use Rattle.rule_check.specs.WindowRefusals.{refusals_of_type}
 
 -- the most rules of a sequence, `for` and `longer` counted together
@@ -41,24 +43,24 @@ most_words = 16
 -- ---- words
 
 -- the name of a parameter
-abbrev pub refusals_of_parameter : List Parameter → RawName → List RuleRefusal
-refusals_of_parameter parameters name = wrong_unless (is_some (place_of_parameter parameters name.name)) Unknown name.at
+abbrev pub refusals_of_parameter : List Parameter → RawName → List (Diagnostic WrongRule)
+refusals_of_parameter parameters name = refused_unless (is_some (position_of_parameter parameters name.name)) Unknown name.at
 
 -- a word at a place, for an activity type; only a type with a result has one to send
-abbrev pub refusals_of_word_kind : Parts → Activity → Place → RawWordKind → List RuleRefusal
+abbrev pub refusals_of_word_kind : Parts → Activity → Place → RawWordKind → List (Diagnostic WrongRule)
 refusals_of_word_kind model activity at (word.Literal literal) = refusals_of_literal model literal
 refusals_of_word_kind model activity at (word.Parameter name) = refusals_of_parameter activity.parameters name
-refusals_of_word_kind model activity at word.SpanResult = wrong_unless (is_some activity.result) WrongType at
+refusals_of_word_kind model activity at word.SpanResult = refused_unless (is_some activity.result) WrongType at
 
-abbrev pub refusals_of_word : Parts → Activity → RawWord → List RuleRefusal
+abbrev pub refusals_of_word : Parts → Activity → RawWord → List (Diagnostic WrongRule)
 refusals_of_word model activity word = refusals_of_word_kind model activity word.at word.what
 
 -- one word more than there may be
-abbrev pub too_many_words : RawWord → List RuleRefusal
-too_many_words word = wrong_at (TooMany Words) word.at
+abbrev pub too_many_words : RawWord → List (Diagnostic WrongRule)
+too_many_words word = at_place (TooMany Words) word.at
 
 -- words, of which there may be so many more
-abbrev pub refusals_of_words : Parts → Activity → ℕ → List RawWord → List RuleRefusal
+abbrev pub refusals_of_words : Parts → Activity → ℕ → List RawWord → List (Diagnostic WrongRule)
 refusals_of_words model activity room words = refusals_up_to (refusals_of_word model activity) too_many_words room words
 
 -- ---- tests
@@ -74,29 +76,29 @@ abbrev pub kind_of_parameter : List Parameter → List ℕ → Option Kind
 kind_of_parameter parameters name = option_map (λ parameter. parameter.kind) (known_parameter parameters name)
 
 -- what stands behind `if`, where it stands there
-abbrev pub refusals_of_test : Parts → Activity → Option RawSendTest → List RuleRefusal
+abbrev pub refusals_of_test : Parts → Activity → Option RawSendTest → List (Diagnostic WrongRule)
 refusals_of_test model activity None = []
 refusals_of_test model activity (Some test) =
     refusals_of_parameter activity.parameters test.parameter
     ++ refusals_of_literal model test.with.what
-    ++ wrong_unless (may_be_compared test.how (kind_of_parameter activity.parameters test.parameter.name) (literal_kind model test.with.what)) WrongType
+    ++ refused_unless (may_be_compared test.how (kind_of_parameter activity.parameters test.parameter.name) (literal_kind model test.with.what)) WrongType
     test.with.at
 
 -- ---- steps
 
-abbrev pub refusals_of_step : Parts → Activity → RawStep → List RuleRefusal
+abbrev pub refusals_of_step : Parts → Activity → RawStep → List (Diagnostic WrongRule)
 refusals_of_step model activity step = refusals_of_words model activity most_words step.words ++ refusals_of_test model activity step.test
 
 -- one step more than there may be
-abbrev pub too_many_steps : RawStep → List RuleRefusal
-too_many_steps step = wrong_at (TooMany Steps) step.at
+abbrev pub too_many_steps : RawStep → List (Diagnostic WrongRule)
+too_many_steps step = at_place (TooMany Steps) step.at
 
 -- steps, of which there may be so many more
-abbrev pub refusals_of_steps : Parts → Activity → ℕ → List RawStep → List RuleRefusal
+abbrev pub refusals_of_steps : Parts → Activity → ℕ → List RawStep → List (Diagnostic WrongRule)
 refusals_of_steps model activity room steps = refusals_up_to (refusals_of_step model activity) too_many_steps room steps
 
 -- the steps for a type, where it is known
-abbrev pub refusals_of_type_steps : Parts → Option Activity → List RawStep → List RuleRefusal
+abbrev pub refusals_of_type_steps : Parts → Option Activity → List RawStep → List (Diagnostic WrongRule)
 refusals_of_type_steps model None steps = []
 refusals_of_type_steps model (Some activity) steps = refusals_of_steps model activity most_steps steps
 
@@ -113,29 +115,29 @@ is_spacing_of name (sequence_rule.Span kind steps) = false
 is_spacing_of name (sequence_rule.Spacing other least) = same_name other.name name
 
 -- a rule behind others
-abbrev pub refusals_of_sequence_rule : Parts → List RawSequenceItem → RawSequenceRule → List RuleRefusal
+abbrev pub refusals_of_sequence_rule : Parts → List RawSequenceItem → RawSequenceRule → List (Diagnostic WrongRule)
 refusals_of_sequence_rule model others (sequence_rule.Span kind steps) =
     refusals_of_type model kind
-    ++ wrong_unless (not (list_any (λ other. is_for kind.name other.rule) others)) Duplicate kind.at
+    ++ refused_unless (not (list_any (λ other. is_for kind.name other.rule) others)) Duplicate kind.at
     ++ refusals_of_type_steps model (activity_named model kind.name) steps
 refusals_of_sequence_rule model others (sequence_rule.Spacing name least) =
-    wrong_unless (not (list_any (λ other. is_spacing_of name.name other.rule) others)) Duplicate name.at
+    refused_unless (not (list_any (λ other. is_spacing_of name.name other.rule) others)) Duplicate name.at
 
-abbrev pub refusals_of_item : Parts → List RawSequenceItem → RawSequenceItem → List RuleRefusal
+abbrev pub refusals_of_item : Parts → List RawSequenceItem → RawSequenceItem → List (Diagnostic WrongRule)
 refusals_of_item model others item = refusals_of_sequence_rule model others item.rule
 
 -- one rule more than there may be
-abbrev pub too_many_rules : RawSequenceItem → List RuleRefusal
-too_many_rules item = wrong_at (TooMany Rules) item.at
+abbrev pub too_many_rules : RawSequenceItem → List (Diagnostic WrongRule)
+too_many_rules item = at_place (TooMany Rules) item.at
 
 -- rules behind others, of which there may be so many more
-abbrev pub refusals_of_rules : Parts → ℕ → List RawSequenceItem → List RawSequenceItem → List RuleRefusal
+abbrev pub refusals_of_rules : Parts → ℕ → List RawSequenceItem → List RawSequenceItem → List (Diagnostic WrongRule)
 refusals_of_rules model room others items = refusals_in_turn (refusals_of_item model) too_many_rules room others items
 
 -- the rules from this number on
-abbrev pub refusals_of_rules_from : Parts → ℕ → List RawSequenceItem → List RuleRefusal
+abbrev pub refusals_of_rules_from : Parts → ℕ → List RawSequenceItem → List (Diagnostic WrongRule)
 refusals_of_rules_from model at rules = refusals_of_rules model (most_rules - at) (take at rules) (drop at rules)
 
 -- what is refused of a sequence
-abbrev pub refusals_of_sequence : Parts → List RawSequenceItem → List RuleRefusal
+abbrev pub refusals_of_sequence : Parts → List RawSequenceItem → List (Diagnostic WrongRule)
 refusals_of_sequence model items = refusals_of_rules model most_rules [] items

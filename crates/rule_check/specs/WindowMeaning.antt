@@ -17,28 +17,29 @@ use Rattle.constraints.specs.declared.types.RuleSum.{RuleSum}
 use Rattle.constraints.specs.declared.types.Window.{Window}
 use Rattle.constraints.specs.declared.types.Window as window
 use Rattle.rule_check.specs.RawWindows.{raw_window_gives}
-use Rattle.rule_check.specs.RuleNames.{Datasets, short_number, place_of_type, place_of_enum, variant_place, reading_named}
+use Rattle.diagnostics.specs.ShortNumbers.{short}
+use Rattle.rule_check.specs.RuleNames.{Datasets, position_of_type, position_of_enum, variant_position, reading_named}
 use Rattle.rule_check.specs.WindowRefusals.{is_bound}
 
 -- the number of a part of a model, where there is one
 abbrev pub number_or_first : Option ℕ → ℕ
 number_or_first None = 0
-number_or_first (Some number) = short_number number
+number_or_first (Some number) = short number
 
 -- the number of an activity type
 abbrev pub number_of_type : Parts → RawName → ℕ
-number_of_type model name = number_or_first (place_of_type model.activities name.name)
+number_of_type model name = number_or_first (position_of_type model.activities name.name)
 
 -- ---- values and times
 
--- the variant of an enumeration of this place
+-- the variant of an enumeration of this position
 abbrev pub variant_in : Parts → Option ℕ → RawName → Value
 variant_in model None variant = value.Truth false
-variant_in model (Some kind) variant = value.Variant (short_number kind) (number_or_first (variant_place model.enums kind variant.name))
+variant_in model (Some kind) variant = value.Variant (short kind) (number_or_first (variant_position model.enums kind variant.name))
 
 abbrev pub tested_value : Parts → RawTested → Value
 tested_value model (tested.Truth truth) = value.Truth truth
-tested_value model (tested.Variant kind variant) = variant_in model (place_of_enum model.enums kind.name) variant
+tested_value model (tested.Variant kind variant) = variant_in model (position_of_enum model.enums kind.name) variant
 
 -- a length of time with its sign; one that is written is at most the longest one
 abbrev pub signed_time : ℤ → ℤ

@@ -2,14 +2,15 @@
 
 ghost use Rattle.std.specs.Prelude.{◌≡◌, option_copied};
 ghost use Rattle.rule_check.specs.WindowMeaning.{variant_in, number_within};
-ghost use Rattle.rule_check.specs.Refusals.{found_with};
-ghost use Rattle.rule_check.specs.RuleNames.{place_of_enum};
-ghost use Rattle.rule_check.specs.RuleLiterals.{activity_named, place_of_parameter, known_parameter, parameters_if_known, refusals_of_named_variant, refusals_of_literal, literal_kind, literal_value};
+ghost use Rattle.rule_check.specs.Refusals.{noted};
+ghost use Rattle.rule_check.specs.RuleNames.{position_of_enum};
+ghost use Rattle.rule_check.specs.RuleLiterals.{activity_named, position_of_parameter, known_parameter, parameters_if_known, refusals_of_named_variant, refusals_of_literal, literal_kind, literal_value};
 
-use crate::names::{place_of_enum, short_number, variant_place};
-use crate::refusals::{RuleRefusal, WrongRule, refuse, refuse_unless};
+use crate::causes::WrongRule;
+use crate::names::{position_of_enum, variant_position};
 use crate::window::meaning::variant_in;
 use aerie_base::{Activity, Kind, Model, Name, Number, Parameter, Value};
+use diagnostics::{Diagnostic, note, note_unless, short};
 use model_reader::{RawLiteralKind, RawName};
 
 // ---- parameters
@@ -24,9 +25,9 @@ pub fn activity_named<'a>(model: &'a Model, name: &Name) -> Option<&'a Activity>
         .find(|activity| activity.name == *name)
 }
 
-/// The place of the parameter of a name.
-pub fn place_of_parameter(parameters: &[Parameter], name: &Name) -> Option<usize>
-    ensures { result ≡ place_of_parameter parameters.now name.now }
+/// The position of the parameter of a name.
+pub fn position_of_parameter(parameters: &[Parameter], name: &Name) -> Option<usize>
+    ensures { result ≡ position_of_parameter parameters.now name.now }
 {
     parameters
         .iter()
@@ -52,34 +53,38 @@ pub fn parameters_if_known(activity: Option<&Activity>) -> &[Parameter]
 
 // ---- literals
 
-/// Refuses a variant that is none of the enumeration of this place.
+/// Refuses a variant that is none of the enumeration of this position.
 fn judge_named_variant(
     model: &Model,
     place: Option<usize>,
     kind: &RawName,
     variant: &RawName,
-    found: &mut Option<RuleRefusal>,
+    found: &mut Option<Diagnostic<WrongRule>>,
 )
-    ensures { found.new ≡ found_with found.old (refusals_of_named_variant model.now place kind.now variant.now) }
+    ensures { found.new ≡ noted found.old (refusals_of_named_variant model.now place kind.now variant.now) }
 {
     match place {
-        None => refuse(found, WrongRule::Unknown, kind.at),
+        None => note(found, kind.at, WrongRule::Unknown),
         Some(number) => {
-            let is_known = variant_place(model, number, &variant.name).is_some();
-            refuse_unless(is_known, found, WrongRule::Unknown, variant.at);
+            let is_known = variant_position(model, number, &variant.name).is_some();
+            note_unless(is_known, found, variant.at, WrongRule::Unknown);
         }
     }
 }
 
 /// Refuses a literal of no enumeration, or of no variant of it.
-pub fn judge_literal(model: &Model, literal: &RawLiteralKind, found: &mut Option<RuleRefusal>)
-    ensures { found.new ≡ found_with found.old (refusals_of_literal model.now literal.now) }
+pub fn judge_literal(
+    model: &Model,
+    literal: &RawLiteralKind,
+    found: &mut Option<Diagnostic<WrongRule>>,
+)
+    ensures { found.new ≡ noted found.old (refusals_of_literal model.now literal.now) }
 {
     match literal {
         RawLiteralKind::Number(_) => {}
         RawLiteralKind::Truth(_) => {}
         RawLiteralKind::Variant { kind, variant } => {
-            let place = place_of_enum(model, &kind.name);
+            let place = position_of_enum(model, &kind.name);
             judge_named_variant(model, place, kind, variant, found);
         }
     }
@@ -93,8 +98,8 @@ pub fn literal_kind(model: &Model, literal: &RawLiteralKind) -> Option<Kind>
         RawLiteralKind::Number(_) => Some(Kind::Int),
         RawLiteralKind::Truth(_) => Some(Kind::Truth),
         RawLiteralKind::Variant { kind, .. } => {
-            let place = place_of_enum(model, &kind.name)?;
-            Some(Kind::Enum(short_number(place)))
+            let place = position_of_enum(model, &kind.name)?;
+            Some(Kind::Enum(short(place)))
         }
     }
 }
@@ -117,7 +122,7 @@ pub fn literal_value(model: &Model, literal: &RawLiteralKind) -> Value
         RawLiteralKind::Number(number) => Value::Int(number_within(*number)),
         RawLiteralKind::Truth(truth) => Value::Truth(*truth),
         RawLiteralKind::Variant { kind, variant } => {
-            variant_in(model, place_of_enum(model, &kind.name), variant)
+            variant_in(model, position_of_enum(model, &kind.name), variant)
         }
     }
 }

@@ -6,18 +6,12 @@ ghost use Rattle.aerie_base.specs.expressions.Typing.{same_kind};
 ghost use Rattle.aerie_base.specs.models.Cells.{cell_start_at, counter_kind, register_kind, flag_kind, flow_kind, read_kind};
 ghost use Rattle.aerie_base.specs.models.Names.{same_name};
 ghost use Rattle.constraints.specs.OfModel.{resource_kind, series_kind, is_of_kind};
-ghost use Rattle.rule_check.specs.RuleNames.{short_number, place_of_type, place_of_enum, variant_of, variant_place, named_entry, name_kind, known_reading, reading_named};
+ghost use Rattle.rule_check.specs.RuleNames.{position_of_type, position_of_enum, variant_of, variant_position, named_entry, name_kind, known_reading, reading_named};
 
 use aerie_base::{CellRead, CellStart, EnumType, Kind, Model, Name, OutOfMemory, Resource, Shared};
 use constraints::Reading;
 use dataset_in::Series;
-
-/// The number in 16 bits; one past their end stands at it.
-pub fn short_number(number: usize) -> u16
-    ensures { result ≡ short_number number }
-{
-    if number < 65535 { number as u16 } else { 65535 }
-}
+use diagnostics::short;
 
 /// The item at an index, counted from 0, or `None` past the last.
 fn item_at<T>(items: &[T], at: usize) -> Option<&T>
@@ -28,9 +22,9 @@ fn item_at<T>(items: &[T], at: usize) -> Option<&T>
 
 // ---- activity types and enumerations
 
-/// The place of the activity type of a name.
-pub fn place_of_type(model: &Model, name: &Name) -> Option<usize>
-    ensures { result ≡ place_of_type model.now.activities name.now }
+/// The position of the activity type of a name.
+pub fn position_of_type(model: &Model, name: &Name) -> Option<usize>
+    ensures { result ≡ position_of_type model.now.activities name.now }
 {
     model
         .activities()
@@ -38,9 +32,9 @@ pub fn place_of_type(model: &Model, name: &Name) -> Option<usize>
         .position(|activity| activity.name == *name)
 }
 
-/// The place of the enumeration of a name.
-pub fn place_of_enum(model: &Model, name: &Name) -> Option<usize>
-    ensures { result ≡ place_of_enum model.now.enums name.now }
+/// The position of the enumeration of a name.
+pub fn position_of_enum(model: &Model, name: &Name) -> Option<usize>
+    ensures { result ≡ position_of_enum model.now.enums name.now }
 {
     model
         .enums()
@@ -48,14 +42,14 @@ pub fn place_of_enum(model: &Model, name: &Name) -> Option<usize>
         .position(|enumeration| enumeration.name == *name)
 }
 
-/// The place of the variant of a name in the enumeration of this place.
-pub fn variant_place(model: &Model, kind: usize, name: &Name) -> Option<usize>
-    ensures { result ≡ variant_place model.now.enums kind name.now }
+/// The position of the variant of a name in the enumeration of this position.
+pub fn variant_position(model: &Model, kind: usize, name: &Name) -> Option<usize>
+    ensures { result ≡ variant_position model.now.enums kind name.now }
 {
     variant_in(item_at(model.enums(), kind), name)
 }
 
-/// The place of the variant of a name in an enumeration, where there is one.
+/// The position of the variant of a name in an enumeration, where there is one.
 fn variant_in(enumeration: Option<&EnumType>, name: &Name) -> Option<usize>
     ensures { result ≡ variant_of (option_copied enumeration.entry) name.now }
 {
@@ -65,7 +59,7 @@ fn variant_in(enumeration: Option<&EnumType>, name: &Name) -> Option<usize>
     }
 }
 
-/// The place of a name among names.
+/// The position of a name among names.
 fn place_in(names: &[Name], name: &Name) -> Option<usize>
     ensures { result ≡ position (λ variant. same_name variant name.now) names.now }
 {
@@ -74,7 +68,7 @@ fn place_in(names: &[Name], name: &Name) -> Option<usize>
 
 // ---- resources and datasets
 
-/// How the cell of this place begins, where there is one.
+/// How the cell of this position begins, where there is one.
 fn cell_start_at(model: &Model, cell: u16) -> Option<&CellStart>
     ensures { option_copied result ≡ cell_start_at model.now.cells cell }
 {
@@ -199,7 +193,7 @@ fn same_kind(one: Kind, other: Kind) -> bool
 }
 
 /// The number of the resource of a name.
-fn resource_place(model: &Model, name: &Name) -> Option<usize>
+fn resource_position(model: &Model, name: &Name) -> Option<usize>
     ensures { result ≡ position (λ resource. same_name resource.0 name.now) model.now.resources }
 {
     model
@@ -216,8 +210,8 @@ pub fn reading_named(
 ) -> Result<Reading, OutOfMemory>
     ensures { IfOk result (λ reading. reading ≡ reading_named model.now datasets.now name.now) }
 {
-    match resource_place(model, name) {
-        Some(number) => Ok(Reading::Resource(short_number(number))),
+    match resource_position(model, name) {
+        Some(number) => Ok(Reading::Resource(short(number))),
         None => dataset_named(datasets, name),
     }
 }

@@ -5,8 +5,9 @@ ghost use Rattle.readers.specs.Words.{word_of};
 ghost use Rattle.rule_check.specs.declared.rule_error.RuleError.TheVariants.{OutOfMemory as NoMemory, TooMany};
 ghost use Rattle.rule_check.specs.RuleErrors.{rule_error_at, error_of_form, IsThisError};
 
-use crate::refusals::{RuleRefusal, WrongRule};
+use crate::causes::WrongRule;
 use aerie_base::{OutOfMemory, Place, Text};
+use diagnostics::Diagnostic;
 use readers::Limit;
 use rule_grammar::RuleFormError;
 use std::alloc::Global;
@@ -77,11 +78,11 @@ fn too_many(alloc: Global, limit: Limit, place: Place) -> RuleError
 }
 
 /// The error of what is refused, or that memory was wanted.
-pub fn refusal_error(alloc: Global, refusal: RuleRefusal) -> RuleError
-    ensures { IsThisError (rule_error_at refusal.wrong refusal.place) result }
+pub fn refusal_error(alloc: Global, refusal: Diagnostic<WrongRule>) -> RuleError
+    ensures { IsThisError (rule_error_at refusal.cause refusal.place) result }
 {
     let place = refusal.place;
-    match refusal.wrong {
+    match refusal.cause {
         WrongRule::Unknown => RuleError::Unknown(place),
         WrongRule::Duplicate => RuleError::Duplicate(place),
         WrongRule::WrongType => RuleError::WrongType(place),

@@ -5,16 +5,10 @@ use Rattle.aerie_text.specs.Places.{place_of}
 use Rattle.aerie_text.specs.declared.token.Token.{Token}
 use Rattle.readers.specs.Marks.{Mark, marks_of}
 use Rattle.readers.specs.Parsed.{Parsed, parsed, failed, over_limit}
-use Rattle.readers.specs.Verdicts.{IsReadableThrough}
 use Rattle.readers.specs.declared.refusal.Refusal.{Refusal}
 use Rattle.readers.specs.declared.refusal.Refusal.TheVariants as refusal
-use Rattle.readers.specs.grammar.Lookahead.{stops}
-use Rattle.readers.specs.grammar.Readings.{IsRead}
-use Rattle.readers.specs.grammar.Tells.{Tells}
 use Rattle.rule_grammar.specs.declared.rule_form_error.RuleFormError.{RuleFormError}
 use Rattle.rule_grammar.specs.declared.rule_form_error.RuleFormError.TheVariants.{Syntax, TooMany, OutOfMemory}
-use Rattle.rule_grammar.specs.grammar.Rules.{Rule}
-use Rattle.rule_grammar.specs.grammar.Written.{written}
 use Rattle.rule_grammar.specs.reading.ToTheEnd.{to_the_end}
 
 -- where the last of the tokens ends; 0 where there is none
@@ -50,11 +44,3 @@ UnlessOutOfMemory answer (Err OutOfMemory) = Unit {0}
 -- the answer of a reader of all these tokens
 abbrev pub IsAnswerOf : {A : Type 0} → (List Mark → Parsed A) → List ℕ → List Token → Result A RuleFormError → Type 0
 IsAnswerOf rules_at text tokens result = UnlessOutOfMemory (answer_of text tokens (to_the_end (rules_at (marks_of text tokens)))) result
-
--- What reading all marks comes to is what the readings of the grammar as it is written say: rules are read where some reading
--- reads all marks and leaves nothing; reading fails at the first mark that is refused, or at the end where that is refused;
--- and a limit is passed at a mark that some reading reads.
-abbrev pub JudgesAll : {A : Type 0} → Rule → List Mark → Parsed A → Type 0
-JudgesAll start marks (parsed rules rest) = IsRead written start marks
-JudgesAll start marks (failed rest) = Tells written start marks (stops rest)
-JudgesAll start marks (over_limit limit rest) = IsReadableThrough written start marks rest

@@ -2,10 +2,10 @@
 
 ghost use Rattle.std.specs.Prelude.{List};
 ghost use Rattle.readers.specs.Marks.{Mark};
+ghost use Rattle.readers.specs.Verdicts.{JudgesAll};
 ghost use Rattle.readers.specs.grammar.Alike.{AreAlike};
 ghost use Rattle.readers.specs.grammar.Predictive.{IsPredictive};
 ghost use Rattle.readers.specs.grammar.Tells.{AnswersAreRight};
-ghost use Rattle.rule_grammar.specs.RuleAnswers.{JudgesAll};
 ghost use Rattle.rule_grammar.specs.grammar.Factored.{look, factored};
 ghost use Rattle.rule_grammar.specs.grammar.Rules.{constraints_rule, goals_rule, sequence_rule};
 ghost use Rattle.rule_grammar.specs.grammar.Written.{written};
@@ -33,7 +33,7 @@ pub fn answers_are_right()
 /// marks are some; reading fails at the first mark that is refused, or at the end where that is refused; and a limit is passed
 /// at a mark that some reading reads. So it is with goals and with sequences.
 pub fn rules_are_judged()
-    ensures constraints { (marks : List Mark) → JudgesAll constraints_rule marks (to_the_end (constraints_at marks)) }
-    ensures goals { (marks : List Mark) → JudgesAll goals_rule marks (to_the_end (goals_at marks)) }
-    ensures sequences { (marks : List Mark) → JudgesAll sequence_rule marks (to_the_end (sequence_at marks)) }
+    ensures constraints { (marks : List Mark) → JudgesAll written constraints_rule marks (to_the_end (constraints_at marks)) }
+    ensures goals { (marks : List Mark) → JudgesAll written goals_rule marks (to_the_end (goals_at marks)) }
+    ensures sequences { (marks : List Mark) → JudgesAll written sequence_rule marks (to_the_end (sequence_at marks)) }
 {}

@@ -4,7 +4,6 @@ mod constraints;
 mod goals;
 mod leveled;
 mod literals;
-mod names;
 mod sequences;
 mod sums;
 mod templates;

@@ -21,7 +21,7 @@ use Rattle.run_data.specs.Batches.{tree_of}
 use Rattle.run_data.specs.Frames.{Making, with_effect, with_frame, job_step, frame_of, child_job, of_items, of_step, too_deep, made_within, made_by, room_of}
 use Rattle.run_data.specs.Jobs.{is_state_of, AreCellsOf, IsJobOf}
 use Rattle.run_data.specs.StepStates.{StepState, after_items, starting, valued, with_flags, paid}
-use Rattle.run_data.specs.Steps.{Turn, onward, ended, act, Stepped, after, after_test, perform, steps, with_evaluated, valued_all, emission_expr, effect_of}
+use Rattle.run_data.specs.Steps.{Acted, onward, ended, act, Stepped, after, after_test, perform, steps, with_evaluated, valued_all, emission_expr, effect_of}
 use Rattle.run_data.specs.Typed.{AreLeft, is_typed_stmt}
 use Rattle.run_data.specs.Tasks.{ready_jobs}
 use Rattle.run_data.specs.laws.ModelSteps.{AreChildrenOf}
@@ -31,10 +31,11 @@ use Rattle.run_data.proofs.Keeping.{all_notes}
 use Rattle.run_data.proofs.ModelSteps.{step_keeps}
 use Rattle.run_data.proofs.Orders.{child_fits, order_does_not_matter}
 use Rattle.run_data.proofs.ReachedStates.{reached_is_of_model}
-use Rattle.run_data.proofs.SmallTurns.{emission_accepted, each_more}
+use Rattle.run_data.proofs.SmallActs.{emission_accepted, each_more}
 use Rattle.run_data.proofs.StepLeavings.{EffectsFit, step_leaves}
-use Rattle.run_data.proofs.TypedTurns.{all_turn}
-use Rattle.run_data.proofs.Typing.{next_is_typed, states_begin, choice_runs_on, loop_runs_on, runs_on}
+use Rattle.run_data.proofs.TypedActs.{all_acts}
+use Rattle.run_data.proofs.Typing.{next_is_typed, states_begin, runs_on}
+use Rattle.run_data.proofs.Performing.{performed_by}
 
 module _ (model : Parts) where
   -- whatever cells of the model accept it
@@ -42,12 +43,12 @@ module _ (model : Parts) where
   IsAccepted (item.Emit cell effect) = (cells : List CellState) → AreCellsOf model cells → accepts cells cell effect ≡ true
   IsAccepted (item.Child kind arguments) = Unit {0}
 
-  abbrev Accepts : Turn → Type 0
+  abbrev Accepts : Acted → Type 0
   Accepts (onward next) = EachOf IsAccepted next.items
   Accepts (ended status last) = EachOf IsAccepted last.items
 
   module _ (kind : BodyId) (at : ℕ) (so_far : StepState) (all : EachOf IsAccepted so_far.items) where
-    by_value : (result : Evaluated) (go : Value → StepState → Turn) → ((value : Value) (flags : List Bool) → Accepts (go value (with_flags so_far flags))) → Accepts (with_evaluated so_far result go)
+    by_value : (result : Evaluated) (go : Value → StepState → Acted) → ((value : Value) (flags : List Bool) → Accepts (go value (with_flags so_far flags))) → Accepts (with_evaluated so_far result go)
     by_value (Ok value, flags) go goes = goes value flags
     by_value (Err fault, flags) go goes = all
 
@@ -63,9 +64,9 @@ module _ (model : Parts) where
     act_accepts (Stmt-F.Delay expr) typed = by_value (valued so_far expr) _ (λ value flags. all)
     act_accepts (Stmt-F.WaitUntil condition) typed = all
     act_accepts (Stmt-F.Spawn child exprs) typed =
-        all_turn Accepts (λ result. Unit {0}) so_far (valued_all exprs so_far) _ (all_notes exprs so_far) tt (λ fault flags. all) (λ values flags given. child_more child values)
+        all_acts Accepts (λ result. Unit {0}) so_far (valued_all exprs so_far) _ (all_notes exprs so_far) tt (λ fault flags. all) (λ values flags given. child_more child values)
     act_accepts (Stmt-F.Call child exprs into) typed =
-        all_turn Accepts (λ result. Unit {0}) so_far (valued_all exprs so_far) _ (all_notes exprs so_far) tt (λ fault flags. all) (λ values flags given. child_more child values)
+        all_acts Accepts (λ result. Unit {0}) so_far (valued_all exprs so_far) _ (all_notes exprs so_far) tt (λ fault flags. all) (λ values flags given. child_more child values)
     act_accepts (Stmt-F.If test block other) typed = all
     act_accepts (Stmt-F.While test body) typed = all
     act_accepts (Stmt-F.Return None) typed = all
@@ -83,15 +84,15 @@ module _ (model : Parts) where
 
     module _ (here : Placed) (rest : List Placed) (so_far : StepState) (h : IsThere (here ∷ rest) so_far) (go : List Placed → StepState → Stepped)
         (goes : (list : List Placed) (next : StepState) → IsThere list next → Stays (go list next)) where
-      turned : (turn : Turn) → act kind here.at (out-Stmt here.what) so_far ≡ turn → Accepts turn → Stays (after turn (go rest))
-      turned (onward next) e all =
+      after_acted : (acted : Acted) → act kind here.at (out-Stmt here.what) so_far ≡ acted → Accepts acted → Stays (after acted (go rest))
+      after_acted (onward next) e all =
           let on = runs_on model kind here rest so_far next valid h.left h.cells e in
           goes rest next (record { left = on.0; cells = on.1; all = all })
-      turned (ended status last) e all = all
+      after_acted (ended status last) e all = all
 
       simple : (x : Stmt-F Stmt) → out-Stmt here.what ≡ x → Stays (after (act kind here.at x so_far) (go rest))
       simple x e =
-          turned (act kind here.at x so_far) (ap (λ (y : Stmt-F Stmt). act kind here.at y so_far) e)
+          after_acted (act kind here.at x so_far) (ap (λ (y : Stmt-F Stmt). act kind here.at y so_far) e)
           (act_accepts kind here.at so_far h.all x (subst (λ (y : Stmt-F Stmt). IsTrue (is_typed_stmt model so_far.locals y)) e (next_is_typed model kind here rest so_far.locals valid h.left)))
 
       there : (list : List Placed) (flags : List Bool) → AreLeft model kind list so_far.locals → IsThere list (with_flags so_far flags)
@@ -102,22 +103,9 @@ module _ (model : Parts) where
       tested (Err fault, flags) then_ g = h.all
 
       performed : (x : Stmt-F Stmt) → out-Stmt here.what ≡ x → Stays (perform kind here rest x so_far go)
-      performed (Stmt-F.If test block other) e =
-          tested (valued so_far test) _ (λ holds flags. goes _ (with_flags so_far flags)
-          (there ((if holds then placed (here.at + 1) block else placed (here.at + 2 + block_size block) other) ++ rest) flags
-          (choice_runs_on model kind here rest so_far.locals test block other holds valid h.left e)))
-      performed (Stmt-F.While test block) e =
-          tested (valued so_far test) _ (λ holds flags. goes _ (with_flags so_far flags)
-          (there (if holds then placed (here.at + 1) block ++ here ∷ rest else rest) flags
-          (loop_runs_on model kind here rest so_far.locals test block holds valid h.left e)))
-      performed (Stmt-F.Let slot value) e = simple (Stmt-F.Let slot value) e
-      performed (Stmt-F.Assign slot value) e = simple (Stmt-F.Assign slot value) e
-      performed (Stmt-F.Emit cell what) e = simple (Stmt-F.Emit cell what) e
-      performed (Stmt-F.Delay by) e = simple (Stmt-F.Delay by) e
-      performed (Stmt-F.WaitUntil condition) e = simple (Stmt-F.WaitUntil condition) e
-      performed (Stmt-F.Spawn child arguments) e = simple (Stmt-F.Spawn child arguments) e
-      performed (Stmt-F.Call child arguments into) e = simple (Stmt-F.Call child arguments into) e
-      performed (Stmt-F.Return value) e = simple (Stmt-F.Return value) e
+      performed =
+          performed_by model kind here rest so_far go valid h.left Stays (λ test. tested (valued so_far test))
+          (λ list flags left. goes list (with_flags so_far flags) (there list flags left)) simple
 
     steps_accepted : (budget : ℕ) (list : List Placed) (so_far : StepState) → IsThere list so_far → Stays (steps kind budget list so_far)
     steps_accepted budget [] so_far h = h.all

@@ -17,7 +17,7 @@ use Rattle.run_data.specs.laws.Generations.{PendingStep, child_jobs, deep_frame,
 use Rattle.run_data.specs.laws.Orders.{EachOf, EachTwo, AreApart}
 use Rattle.run_data.proofs.FramePaths.{HasPath, IsOf, AllOf, all_append, all_weaker, has_is_of, below_is}
 use Rattle.run_data.proofs.Generations.{one, all_down, down, down_append, none_beside, zero_down, all_is}
-use Rattle.run_data.proofs.Orders.{cost_append}
+use Rattle.run_data.specs.Counts.{cost_append}
 use Rattle.run_data.proofs.PathOrder.{least_exchange, least_behind, sorted_exchange, sorted_behind}
 use Rattle.run_data.proofs.PathsApart.{siblings_apart, cousins_apart}
 

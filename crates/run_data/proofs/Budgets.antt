@@ -9,9 +9,9 @@ use Rattle.run_data.specs.declared.tasks.BodyId.{BodyId}
 use Rattle.run_data.specs.declared.frames.Status.{Status}
 use Rattle.run_data.specs.declared.frames.Status.TheVariants.{Done, Faulted}
 use Rattle.run_data.specs.StepStates.{StepState, starting, valued, with_flags, paid}
-use Rattle.run_data.specs.Steps.{Turn, onward, ended, Stepped, act, after, after_test, perform, steps}
+use Rattle.run_data.specs.Steps.{Acted, onward, ended, Stepped, act, after, after_test, perform, steps}
 use Rattle.run_data.specs.laws.Budgets.{CostIsWithin, SameWithinCost}
-use Rattle.run_data.proofs.Keeping.{TurnKeeps, act_keeps}
+use Rattle.run_data.proofs.Keeping.{ActedKeeps, act_keeps}
 use Rattle.run_data.proofs.Paying.{perform_costs, steps_cost}
 use Rattle.run_data.proofs.Reading.{both_are}
 
@@ -23,8 +23,8 @@ module _ (paid_so_far : ℕ) (ending : Status) (last : StepState) (Q : Stepped �
   Follows go other = (so_far : StepState) → so_far.cost ≡ paid_so_far → go so_far ≡ Some (ending, last) → Q (other so_far)
 
   module _ (here_ : Q (Some (ending, last))) where
-    after_follows : (so_far : StepState) (turn : Turn) (go other : StepState → Stepped) → so_far.cost ≡ paid_so_far → TurnKeeps so_far turn → Follows go other →
-        after turn go ≡ Some (ending, last) → Q (after turn other)
+    after_follows : (so_far : StepState) (acted : Acted) (go other : StepState → Stepped) → so_far.cost ≡ paid_so_far → ActedKeeps so_far acted → Follows go other →
+        after acted go ≡ Some (ending, last) → Q (after acted other)
     after_follows so_far (onward next) go other c keeps h e = h next (keeps.cost ∙ c) e
     after_follows so_far (ended status end_) go other c keeps h e = subst Q (sym e) here_
 
@@ -69,8 +69,8 @@ steps_more (suc budget) (suc other) kind (here ∷ rest) ending last so_far less
 abbrev EndsWithin : Status → StepState → ℕ → (StepState → Stepped) → Type 0
 EndsWithin ending last most go = (so_far : StepState) → go so_far ≡ Some (ending, last) → last.cost ≤ so_far.cost + most
 
-after_within : (ending : Status) (last : StepState) (most : ℕ) (so_far : StepState) (turn : Turn) (go : StepState → Stepped) → TurnKeeps so_far turn → EndsWithin ending last most go →
-    after turn go ≡ Some (ending, last) → last.cost ≤ so_far.cost + most
+after_within : (ending : Status) (last : StepState) (most : ℕ) (so_far : StepState) (acted : Acted) (go : StepState → Stepped) → ActedKeeps so_far acted → EndsWithin ending last most go →
+    after acted go ≡ Some (ending, last) → last.cost ≤ so_far.cost + most
 after_within ending last most so_far (onward next) go keeps h e = omega (arith, h next e, keeps.cost)
 after_within ending last most so_far (ended status end_) go keeps h e = omega (arith, ap (λ c. c.cost) (both_are status ending end_ last e).1, keeps.cost)
 

@@ -14,13 +14,13 @@ use Rattle.effect_cells.specs.declared.effects.CellState.{CellState}
 use Rattle.effect_cells.specs.declared.effects.CellState.TheVariants.{Counter, Register, Volume}
 use Rattle.effect_cells.specs.declared.effects.Effect.{Effect}
 use Rattle.effect_cells.specs.declared.effects.Effect.TheVariants as effect
-use Rattle.effect_cells.specs.declared.registers.Change.TheVariants as turn
+use Rattle.effect_cells.specs.declared.registers.Change.TheVariants as setting
 use Rattle.effect_cells.specs.Cells.{emitted, emitted_on}
 use Rattle.effect_cells.specs.Reads.{state_value, state_kind, kind_on}
 use Rattle.effect_cells.specs.Solvable.{may_be_solved}
 use Rattle.effect_cells.specs.States.{applied}
 use Rattle.run_data.specs.declared.frames.Item.{Item}
-use Rattle.run_data.specs.StepStates.{after_item, after_items, seen}
+use Rattle.run_data.specs.StepStates.{after_item, after_items, value_read}
 use Rattle.run_data.specs.Jobs.{AreCellsOf}
 use Rattle.run_data.specs.laws.ModelSteps.{WaitsGoByCells}
 
@@ -74,8 +74,8 @@ read_may cells (read.Volume cell) of e = flow_may cell (cell_start_at cells cell
 read_may cells (read.Rate cell) of e = flow_may cell (cell_start_at cells cell) of e
 
 -- what a step sees of the cells of a model has the types of the model
-pub seen_readings : (model : Parts) (view : List CellState) (items : List Item) → AreCellsOf model (after_items view items) → AreReadings (read_kind model.cells) (seen view items)
-seen_readings model view items cells = record {
+pub value_read_readings : (model : Parts) (view : List CellState) (items : List Item) → AreCellsOf model (after_items view items) → AreReadings (read_kind model.cells) (value_read view items)
+value_read_readings model view items cells = record {
   of_kind = λ what of e. state_has what (slice_get (after_items view items) (cell_of what)) of (cells.kinds what ∙ e);
   sorts = λ what of e. read_may model.cells what of e;
 }
@@ -158,7 +158,7 @@ flow_leaves x y (Some (Counter number)) = λ what. refl
 flow_leaves x y (Some (Register old flag)) = λ what. refl
 flow_leaves x y (Some (Volume volume rate)) = λ what. volume_kept volume rate (volume +ℤ x) (rate +ℤ y) what
 
-pub set_leaves : (cell : ℕ) (new : Value) (found : Option CellState) → state_kind (read.Register cell) found ≡ Some (value_kind new) → LeavesKinds (effect.Register (turn.Set new)) found
+pub set_leaves : (cell : ℕ) (new : Value) (found : Option CellState) → state_kind (read.Register cell) found ≡ Some (value_kind new) → LeavesKinds (effect.Register (setting.Set new)) found
 set_leaves cell new None e = tt
 set_leaves cell new (Some (Counter number)) e = λ what. refl
 set_leaves cell new (Some (Register old flag)) e = λ what. register_kept old new flag false (cc) what

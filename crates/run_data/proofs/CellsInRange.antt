@@ -151,9 +151,9 @@ module _ (model : Parts) (plan : Plan) (bound : ℕ) where
   abbrev IsIn : SimulationState → Type 0
   IsIn at = AreInRange at.cells × InRangeBelow at.instants at.time
 
-  abbrev PlaceIn : Next SimulationState Run → Type 0
-  PlaceIn (more at) = IsIn at
-  PlaceIn (finished run) = InRangeBelow run.instants run.reach
+  abbrev PointIn : Next SimulationState Run → Type 0
+  PointIn (more at) = IsIn at
+  PointIn (finished run) = InRangeBelow run.instants run.reach
 
   module _ (at : SimulationState) (stands : IsReached model plan bound (more at)) (is : IsIn at) where
     settled_before : InRangeBelow (settled model plan bound at) at.time
@@ -168,37 +168,37 @@ module _ (model : Parts) (plan : Plan) (bound : ℕ) where
             ap first_out (cells_are_replayed model plan bound at stands t past)
             ∙ cells_between 0 (t - at.time) (time - at.time) at.cells (omega arith) is.0 e
 
-    outcome_in : (outcome : Batch) → LeavesInRange outcome → PlaceIn (after_outcome model plan bound at outcome)
+    outcome_in : (outcome : Batch) → LeavesInRange outcome → PointIn (after_outcome model plan bound at outcome)
     outcome_in limit leaves = is.1
     outcome_in (failed who fault) leaves = is.1
     outcome_in (committed cells touched frames) leaves = (leaves, is.1)
 
-    time_in : (time : ℕ) (out : Option ℕ) → first_out (passed at.cells (time - at.time)) ≡ out → PlaceIn (to_time model plan bound at time (passed at.cells (time - at.time)) out)
+    time_in : (time : ℕ) (out : Option ℕ) → first_out (passed at.cells (time - at.time)) ≡ out → PointIn (to_time model plan bound at time (passed at.cells (time - at.time)) out)
     time_in time (Some cell) e = settled_before
     time_in time None e = (e, settled_until time e)
 
-    end_in : (out : Option ℕ) → first_out (passed at.cells (plan.duration - at.time)) ≡ out → PlaceIn (to_end model plan bound at out)
+    end_in : (out : Option ℕ) → first_out (passed at.cells (plan.duration - at.time)) ≡ out → PointIn (to_end model plan bound at out)
     end_in (Some cell) e = settled_before
     end_in None e = settled_until plan.duration e
 
-    moved_in : (time : Option ℕ) → PlaceIn (moved model plan bound at time)
+    moved_in : (time : Option ℕ) → PointIn (moved model plan bound at time)
     moved_in None = end_in (first_out (passed at.cells (plan.duration - at.time))) refl
     moved_in (Some time) = time_in time (first_out (passed at.cells (time - at.time))) refl
 
-    judged_in : (table : Table) (jobs : List (ℕ × Job)) → PlaceIn (woken_or_moved model plan bound at table jobs)
+    judged_in : (table : Table) (jobs : List (ℕ × Job)) → PointIn (woken_or_moved model plan bound at table jobs)
     judged_in table [] = moved_in (below plan.duration (least_due at.time plan.duration at.cells at.table))
     judged_in table (job ∷ rest) = is
 
-    next_in : (jobs : List (ℕ × Job)) → PlaceIn (next_by model plan bound at jobs)
+    next_in : (jobs : List (ℕ × Job)) → PointIn (next_by model plan bound at jobs)
     next_in [] = judged_in (on_each (woken at.cells) at.table) (ready_jobs at.cells (on_each (woken at.cells) at.table))
     next_in (job ∷ rest) = outcome_in (batch model bound at.spent at.cells (job ∷ rest)) (making_leaves bound at.spent at.cells (made_by_all model bound (job ∷ rest)))
 
-  place_in : AreInRange (initial model) → (place : Next SimulationState Run) → IsReached model plan bound place → PlaceIn place
-  place_in good (more at) begins = (good, λ t less. absurd (omega arith))
-  place_in good place (onward {place = at} before) = next_in at before (place_in good (more at) before) (ready_jobs at.cells at.table)
+  point_in : AreInRange (initial model) → (point : Next SimulationState Run) → IsReached model plan bound point → PointIn point
+  point_in good (more at) begins = (good, λ t less. absurd (omega arith))
+  point_in good point (onward {point = at} before) = next_in at before (point_in good (more at) before) (ready_jobs at.cells at.table)
 
 pub cells_are_in_range : CellsAreInRange
-cells_are_in_range model plan bound run good fresh = place_in model plan bound good (finished run) fresh
+cells_are_in_range model plan bound run good fresh = point_in model plan bound good (finished run) fresh
 
 pub cells_of_valid : CellsOfValidAreInRange
 cells_of_valid model plan bound run valid fresh = cells_are_in_range model plan bound run (start_in_range model valid) fresh

@@ -18,7 +18,7 @@ use Rattle.effect_cells.specs.declared.effects.Effect.{Effect}
 use Rattle.run_data.specs.declared.tasks.BodyId.TheVariants as body
 use Rattle.run_data.specs.declared.frames.Item.{Item}
 use Rattle.run_data.specs.declared.frames.Item.TheVariants as item
-use Rattle.run_data.specs.StepStates.{StepState, after_items, seen, valued, with_flags}
+use Rattle.run_data.specs.StepStates.{StepState, after_items, value_read, valued, with_flags}
 use Rattle.run_data.specs.Jobs.{is_state_of, AreCellsOf}
 use Rattle.run_data.specs.Scopes.{suits}
 use Rattle.run_data.specs.Steps.{with_first, first_of, valued_all}
@@ -27,7 +27,7 @@ use Rattle.run_data.specs.Typed.{kind_here, has_kind, are_typed_arguments, is_ty
 use Rattle.run_data.specs.laws.ModelSteps.{AreChildrenOf}
 use Rattle.run_data.proofs.Scoping.{both_hold, and_holds}
 use Rattle.run_data.proofs.KnownKinds.{kind_is}
-use Rattle.run_data.proofs.CellKinds.{seen_readings}
+use Rattle.run_data.proofs.CellKinds.{value_read_readings}
 use Rattle.run_data.proofs.TypedStatements.{same_kinds}
 use Rattle.run_data.proofs.ModelBodies.{setting_of, activity_body_is}
 use Rattle.run_data.proofs.BodyPlaces.{first_place, its_state}
@@ -48,10 +48,10 @@ first_given : (value : Value) (parameter : Parameter) (parameters : List Paramet
 first_given value parameter parameters (Ok values) e h = (e, h)
 first_given value parameter parameters (Err fault) e h = tt
 
-first_turn : (so_far : StepState) (result : Evaluated) (parameter : Parameter) (parameters : List Parameter) (go : StepState → Result (List Value) Fault × StepState) →
+first_act : (so_far : StepState) (result : Evaluated) (parameter : Parameter) (parameters : List Parameter) (go : StepState → Result (List Value) Fault × StepState) →
     Gives parameter.kind result.0 → ((read_flags : List Bool) → GiveAll parameters (go (with_flags so_far read_flags)).0) → GiveAll (parameter ∷ parameters) (first_of so_far result go).0
-first_turn so_far (Ok value, read_flags) parameter parameters go e h = first_given value parameter parameters (go (with_flags so_far read_flags)).0 e (h read_flags)
-first_turn so_far (Err fault, read_flags) parameter parameters go e h = tt
+first_act so_far (Ok value, read_flags) parameter parameters go e h = first_given value parameter parameters (go (with_flags so_far read_flags)).0 e (h read_flags)
+first_act so_far (Err fault, read_flags) parameter parameters go e h = tt
 
 -- the values of arguments have the parameters' types
 pub all_given : (model : Parts) (exprs : List Expr) (parameters : List Parameter) (so_far : StepState) → AreCellsOf model (after_items so_far.view so_far.items) →
@@ -61,8 +61,8 @@ all_given model [] (parameter ∷ parameters) so_far cells h = absurd (cc)
 all_given model (expr ∷ exprs) [] so_far cells h = absurd (cc)
 all_given model (expr ∷ exprs) (parameter ∷ parameters) so_far cells h =
     let parts = both_hold (has_kind so_far.locals (read_kind model.cells) expr parameter.kind) (are_typed_arguments model so_far.locals exprs parameters) h in
-    first_turn so_far (valued so_far expr) parameter parameters (valued_all exprs)
-    (sound expr so_far.locals (read_kind model.cells) (seen so_far.view so_far.items) so_far.read_flags parameter.kind (seen_readings model so_far.view so_far.items cells)
+    first_act so_far (valued so_far expr) parameter parameters (valued_all exprs)
+    (sound expr so_far.locals (read_kind model.cells) (value_read so_far.view so_far.items) so_far.read_flags parameter.kind (value_read_readings model so_far.view so_far.items cells)
     (kind_is (kind_here so_far.locals (read_kind model.cells) expr) parameter.kind parts.0))
     (λ read_flags. all_given model exprs parameters (with_flags so_far read_flags) cells parts.1)
 

@@ -11,7 +11,7 @@ use Rattle.run_data.specs.Endings.{is_open}
 use Rattle.run_data.specs.Tasks.{TaskPhase, anchored, ready, delayed, waiting, calling, over, Task, Table, with_task, on_each, ready_jobs, job_if_ready}
 use Rattle.run_data.specs.laws.OrderedTables.{Above, IsOrderedTable}
 use Rattle.run_data.specs.laws.Weights.{one_if, opens}
-use Rattle.run_data.proofs.OrderedTables.{path_itself, path_same, reversed}
+use Rattle.run_data.specs.TableLaws.{path_itself, path_same, reversed}
 
 -- ---- open tasks
 

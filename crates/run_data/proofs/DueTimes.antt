@@ -14,16 +14,12 @@ use Rattle.effect_cells.specs.WakeTimes.{holds_on, holds_in, wake_time}
 use Rattle.run_data.specs.Tasks.{TaskPhase, anchored, ready, delayed, waiting, calling, over, Task, Table, on_each, woken, woken_phase, job_if_ready, ready_jobs}
 use Rattle.run_data.specs.declared.jobs.Job.{Job}
 use Rattle.run_data.specs.Fresh.{from_now, due_time, least_due}
-use Rattle.run_data.proofs.Tables.{Each}
+use Rattle.run_data.specs.DelayLaws.{EndsWhere}
+use Rattle.run_data.specs.TaskLaws.{Each}
 
 -- a delay ends after this time
 abbrev pub EndsAfter : ℕ → TaskPhase → Type 0
-EndsAfter now (delayed until state) = now < until
-EndsAfter now (anchored to edge start state) = Unit {0}
-EndsAfter now (ready state) = Unit {0}
-EndsAfter now (waiting condition state) = Unit {0}
-EndsAfter now (calling child into state) = Unit {0}
-EndsAfter now (over result) = Unit {0}
+EndsAfter now = EndsWhere (λ until. now < until)
 
 -- a condition does not hold
 abbrev pub StillWaits : List CellState → TaskPhase → Type 0

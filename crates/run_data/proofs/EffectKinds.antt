@@ -52,14 +52,14 @@ set_mark_leaves (Counter number) value h = λ what. refl
 set_mark_leaves (Register old flag) value h = λ what. flag_kind what value true false ∙ h what
 set_mark_leaves (Volume volume rate) value h = λ what. refl
 
-change_turn_leaves : (s : CellState) (a b : Change) → LeavesKinds (effect.Register a) (Some s) → LeavesKinds (effect.Register b) (Some s) → LeavesKinds (effect.Register (change_in_turn a b)) (Some s)
-change_turn_leaves s a Nothing h k = h
-change_turn_leaves s a (Set value) h k = k
-change_turn_leaves s a (SetMark value) h k = k
-change_turn_leaves s Nothing Mark h k = k
-change_turn_leaves s Mark Mark h k = k
-change_turn_leaves s (Set value) Mark h k = set_mark_leaves s value h
-change_turn_leaves s (SetMark value) Mark h k = h
+change_in_turn_leaves : (s : CellState) (a b : Change) → LeavesKinds (effect.Register a) (Some s) → LeavesKinds (effect.Register b) (Some s) → LeavesKinds (effect.Register (change_in_turn a b)) (Some s)
+change_in_turn_leaves s a Nothing h k = h
+change_in_turn_leaves s a (Set value) h k = k
+change_in_turn_leaves s a (SetMark value) h k = k
+change_in_turn_leaves s Nothing Mark h k = k
+change_in_turn_leaves s Mark Mark h k = k
+change_in_turn_leaves s (Set value) Mark h k = set_mark_leaves s value h
+change_in_turn_leaves s (SetMark value) Mark h k = h
 
 change_beside_leaves : (s : CellState) (a b : Change) → LeavesKinds (effect.Register a) (Some s) → LeavesKinds (effect.Register b) (Some s) → LeavesKinds (effect.Register (change_beside a b)) (Some s)
 change_beside_leaves s Nothing b h k = k
@@ -76,16 +76,16 @@ change_beside_leaves s (SetMark value) (Set other) h k = mark_leaves s
 change_beside_leaves s (SetMark value) Mark h k = mark_leaves s
 change_beside_leaves s (SetMark value) (SetMark other) h k = mark_leaves s
 
-turn_leaves : (s : CellState) (e f : Effect) → LeavesKinds e (Some s) → LeavesKinds f (Some s) → LeavesKinds (effect_in_turn e f) (Some s)
-turn_leaves s (effect.Add a) (effect.Add b) h k = add_leaves _ (Some s)
-turn_leaves s (effect.Add a) (effect.Register b) h k = h
-turn_leaves s (effect.Add a) (effect.Flow b c) h k = h
-turn_leaves s (effect.Register a) (effect.Add b) h k = h
-turn_leaves s (effect.Register a) (effect.Register b) h k = change_turn_leaves s a b h k
-turn_leaves s (effect.Register a) (effect.Flow b c) h k = h
-turn_leaves s (effect.Flow a d) (effect.Add b) h k = h
-turn_leaves s (effect.Flow a d) (effect.Register b) h k = h
-turn_leaves s (effect.Flow a d) (effect.Flow b c) h k = flow_leaves _ _ (Some s)
+effect_in_turn_leaves : (s : CellState) (e f : Effect) → LeavesKinds e (Some s) → LeavesKinds f (Some s) → LeavesKinds (effect_in_turn e f) (Some s)
+effect_in_turn_leaves s (effect.Add a) (effect.Add b) h k = add_leaves _ (Some s)
+effect_in_turn_leaves s (effect.Add a) (effect.Register b) h k = h
+effect_in_turn_leaves s (effect.Add a) (effect.Flow b c) h k = h
+effect_in_turn_leaves s (effect.Register a) (effect.Add b) h k = h
+effect_in_turn_leaves s (effect.Register a) (effect.Register b) h k = change_in_turn_leaves s a b h k
+effect_in_turn_leaves s (effect.Register a) (effect.Flow b c) h k = h
+effect_in_turn_leaves s (effect.Flow a d) (effect.Add b) h k = h
+effect_in_turn_leaves s (effect.Flow a d) (effect.Register b) h k = h
+effect_in_turn_leaves s (effect.Flow a d) (effect.Flow b c) h k = flow_leaves _ _ (Some s)
 
 beside_leaves : (s : CellState) (e f : Effect) → LeavesKinds e (Some s) → LeavesKinds f (Some s) → LeavesKinds (effect_beside e f) (Some s)
 beside_leaves s (effect.Add a) (effect.Add b) h k = add_leaves _ (Some s)
@@ -107,7 +107,7 @@ LeavesAny found (Some e) = LeavesKinds e found
 front_leaves : (found : Option CellState) (e : Effect) (rest : Option Effect) → LeavesKinds e found → LeavesAny found rest → LeavesAny found (in_front e rest)
 front_leaves found e None h k = h
 front_leaves None e (Some f) h k = tt
-front_leaves (Some s) e (Some f) h k = turn_leaves s e f h k
+front_leaves (Some s) e (Some f) h k = effect_in_turn_leaves s e f h k
 
 both_leave : (found : Option CellState) (first rest : Option Effect) → LeavesAny found first → LeavesAny found rest → LeavesAny found (beside first rest)
 both_leave found None rest h k = k
@@ -150,15 +150,15 @@ module _ (model : Parts) (valid : IsTrue (valid_model model)) (cells : List Cell
 
   items_leave : (of_child : Job → Making) → ((job : Job) → GoodJob model job → MadeLeaves (of_child job)) → (maker : List ℕ) (number : ℕ) (view : List CellState) (items : List Item) →
       AreCellsOf model view → EffectsFit model items → ChildrenGoOn model items → MadeLeaves (of_items model of_child maker number view items)
-  items_leave of_child goods maker number view [] seen fit children = λ cell. tt
-  items_leave of_child goods maker number view (item.Emit cell e ∷ rest) seen fit children =
+  items_leave of_child goods maker number view [] value_read fit children = λ cell. tt
+  items_leave of_child goods maker number view (item.Emit cell e ∷ rest) value_read fit children =
       effect_leaves cell e (of_items model of_child maker number (emitted view cell e) rest) (fit.0 cells are)
-      (items_leave of_child goods maker number (emitted view cell e) rest (cells_emitted model view cell e seen (fit.0 view seen)) fit.1 children)
-  items_leave of_child goods maker number view (item.Child kind arguments ∷ rest) seen fit children =
+      (items_leave of_child goods maker number (emitted view cell e) rest (cells_emitted model view cell e value_read (fit.0 view value_read)) fit.1 children)
+  items_leave of_child goods maker number view (item.Child kind arguments ∷ rest) value_read fit children =
       child_leaves (of_child (child_job model maker number view kind arguments)) (of_items model of_child maker (number + 1) view rest)
       (goods (child_job model maker number view kind arguments)
-      (record { state = children.0; view = seen }))
-      (items_leave of_child goods maker (number + 1) view rest seen fit children.1)
+      (record { state = children.0; view = value_read }))
+      (items_leave of_child goods maker (number + 1) view rest value_read fit children.1)
 
   step_made_leaves : (budget : ℕ) (of_child : Job → Making) → ((job : Job) → GoodJob model job → MadeLeaves (of_child job)) → (job : Job) (number : ℕ) (stepped : Stepped) →
       job_step model budget job ≡ stepped → GoodJob model job → MadeLeaves (of_step model of_child job number stepped)

@@ -14,8 +14,8 @@ use Rattle.run_data.specs.Tasks.{Task, Table, task_at, with_task, after_frame, t
 use Rattle.run_data.specs.laws.EndedTasks.{open_is, EndedByOpenBodies, EndedByNumber, EndedBelow, NewlyEnded, is_open_status, OverUnder, first, later, EndedByFrames}
 use Rattle.run_data.specs.laws.NumberedTasks.{sorted_tasks, Distinct}
 use Rattle.run_data.specs.laws.OrderedTables.{IsOrderedTable}
-use Rattle.run_data.proofs.NumberedTasks.{none_at, at_number, first_apart, distinct_rest, in_order_itself, distinct_of}
-use Rattle.run_data.proofs.OrderedTables.{at_with, is_same, path_itself, order_with}
+use Rattle.run_data.specs.NumberLaws.{none_at, at_number, first_apart, distinct_rest, in_order_itself, distinct_of}
+use Rattle.run_data.specs.TableLaws.{at_with, is_same, path_itself, order_with}
 
 -- ---- by open bodies
 

@@ -1,4 +1,4 @@
--- A simulation ends: with each turn a weight falls.
+-- A simulation ends: with each transition a weight falls.
 use Rattle.std.proofs.Common.{◌≡◌, ◌⊎◌, inl, inr, ℕ, zero, suc, ◌+◌, ◌-◌, ◌<◌, ◌≤◌, Bool, true, false, List, [], ◌∷◌, length, Option, Some, None, if◌then◌else◌, nat_eq, nat_lt, nat_abs, refl, sym, ap, ◌∙◌, subst, arith}
 use Rattle.std.proofs.lemmas.Bool.{ltb-false}
 use Rattle.std.specs.declared.cmp.Ordering.{Ordering}
@@ -21,35 +21,37 @@ use Rattle.run_data.specs.Batches.{Batch, limit, failed, committed, batch, judge
 use Rattle.run_data.specs.Endings.{is_open, after_batch, gone_on, due_phase, back, has_ended, has_come, result_of, with_result}
 use Rattle.run_data.specs.Transitions.{Next, more, finished, begins, onward, iterate}
 use Rattle.run_data.specs.Frames.{Made, Making, made_by_all}
-use Rattle.run_data.specs.Fresh.{SimulationState, start, next_state, next_by, woken_or_moved, moved, to_time, to_end, after_outcome, least_due, below, IsReached, IsFresh, after_turns}
+use Rattle.run_data.specs.Fresh.{SimulationState, start, next_state, next_by, woken_or_moved, moved, to_time, to_end, after_outcome, least_due, below, IsReached, IsFresh, after_transitions}
 use Rattle.run_data.specs.TaskStates.{activity_begun, daemon_begun}
 use Rattle.run_data.specs.Tasks.{TaskPhase, anchored, ready, delayed, waiting, calling, over, Task, Table, task_at, with_task, on_each, planned, with_directives, with_daemons, children_made, children_in, after_delay, phase_after, task_after, after_frame, after_frames, ready_jobs, woken, woken_phase, rested, rested_phase}
-use Rattle.run_data.specs.laws.Ending.{enough_turns, TurnsFinish, HasFreshRun, FreshRunByTurns}
+use Rattle.run_data.specs.laws.Ending.{enough_transitions, TransitionsFinish, HasFreshRun, FreshRunByTransitions}
 use Rattle.run_data.specs.laws.Weights.{one_if, opens, idle, weigh, weight, WeightFalls, WeightBegins}
-use Rattle.run_data.specs.laws.Iteration.{result_stays, turns_come, same_result}
+use Rattle.run_data.specs.laws.Iteration.{result_stays, transitions_come, same_result}
 use Rattle.run_data.proofs.FramePaths.{HasPath}
 use Rattle.run_data.specs.laws.OrderedTables.{IsOrderedTable}
-use Rattle.run_data.proofs.OrderedTables.{order_with, order_each, path_same}
+use Rattle.run_data.specs.FrameLaws.{sorted_cost, each_sorted}
+use Rattle.run_data.specs.TableLaws.{order_with, order_each, path_same}
 use Rattle.run_data.proofs.Counting.{opens_each, standing, open_there, opens_with, standing_still, Found, FirstFound, first_found}
 use Rattle.run_data.proofs.DueTimes.{StillWaits, IsAfter, least_is_after, none_ready}
-use Rattle.run_data.proofs.Paying.{open_status, EachFrame, Pays, AllPay, HasFrameOf, all_pay, all_first}
-use Rattle.run_data.proofs.Tables.{Each}
+use Rattle.run_data.proofs.Paying.{open_status, Pays, AllPay, HasFrameOf, all_pay, all_first}
+use Rattle.run_data.specs.TaskLaws.{Each}
 use Rattle.run_data.proofs.Rising.{StandsWell, GoesWell, next_well, start_well, stands_well, below_is}
+use Rattle.run_data.specs.laws.Orders.{EachOf}
 
 -- ---- any fold
 
 module _ (S R : Type 0) (go : S → Next S R) (Good : S → Type 0) (weight : S → ℕ) where
   abbrev pub FallsTo : S → Next S R → Type 0
-  FallsTo at (more place) = Good place × (weight place < weight at)
+  FallsTo at (more point) = Good point × (weight point < weight at)
   FallsTo at (finished result) = Unit {0}
 
   pub ends : ((at : S) → Good at → FallsTo at (go at)) → (count : ℕ) (at : S) → Good at → weight at < count → (result : R) × (iterate S R go count (more at) ≡ finished result)
   ends falls zero at good less = absurd (omega arith)
   ends falls (suc count) at good less = by (go at) (falls at good) (ends falls count)
     where
-      by : (place : Next S R) → FallsTo at place → ((at : S) → Good at → weight at < count → (result : R) × (iterate S R go count (more at) ≡ finished result)) →
-          (result : R) × (iterate S R go count place ≡ finished result)
-      by (more place) fall further = further place fall.0 (omega (arith, fall.1))
+      by : (point : Next S R) → FallsTo at point → ((at : S) → Good at → weight at < count → (result : R) × (iterate S R go count (more at) ≡ finished result)) →
+          (result : R) × (iterate S R go count point ≡ finished result)
+      by (more point) fall further = further point fall.0 (omega (arith, fall.1))
       by (finished result) fall further = (result, result_stays S R go count result)
 
 -- ---- the frames of a batch
@@ -69,7 +71,7 @@ open_frames : List Frame → ℕ
 open_frames [] = 0
 open_frames (frame ∷ rest) = open_status frame.status + open_frames rest
 
-pay_cost : (frames : List Frame) → EachFrame Pays frames → open_frames frames ≤ cost_of frames
+pay_cost : (frames : List Frame) → EachOf Pays frames → open_frames frames ≤ cost_of frames
 unfolding open_frames
 pay_cost [] pay = omega arith
 pay_cost (frame ∷ rest) pay = omega (arith, pay.0, pay_cost rest pay.1)
@@ -181,33 +183,6 @@ rested_open now (over result) = refl
 
 -- ---- frames in order of path
 
-put_cost : (frame : Frame) (frames : List Frame) → cost_of (put_by_path frame frames) ≡ frame.cost + cost_of frames
-put_cost frame [] = refl
-put_cost frame (first ∷ rest) = by (path_cmp frame.path first.path) (put_cost frame rest)
-  where
-    by : (order : Ordering) → cost_of (put_by_path frame rest) ≡ frame.cost + cost_of rest →
-        cost_of (in_front_unless_greater order frame first rest (put_by_path frame rest)) ≡ frame.cost + (first.cost + cost_of rest)
-    by Less further = refl
-    by Equal further = refl
-    by Greater further = omega (arith, further)
-
-pub sorted_cost : (frames : List Frame) → cost_of (by_path frames) ≡ cost_of frames
-sorted_cost [] = refl
-sorted_cost (frame ∷ rest) = put_cost frame (by_path rest) ∙ ap (λ n. frame.cost + n) (sorted_cost rest)
-
-put_each : (P : Frame → Type 0) (frame : Frame) (frames : List Frame) → P frame → EachFrame P frames → EachFrame P (put_by_path frame frames)
-put_each P frame [] here each = (here, tt)
-put_each P frame (first ∷ rest) here each = by (path_cmp frame.path first.path) (put_each P frame rest here each.1)
-  where
-    by : (order : Ordering) → EachFrame P (put_by_path frame rest) → EachFrame P (in_front_unless_greater order frame first rest (put_by_path frame rest))
-    by Less further = (here, each)
-    by Equal further = (here, each)
-    by Greater further = (each.0, further)
-
-pub sorted_each : (P : Frame → Type 0) (frames : List Frame) → EachFrame P frames → EachFrame P (by_path frames)
-sorted_each P [] each = tt
-sorted_each P (frame ∷ rest) each = put_each P frame (by_path rest) each.0 (sorted_each P rest each.1)
-
 put_path : (path : List ℕ) (frame : Frame) (frames : List Frame) → (frame.path ≡ path) ⊎ HasPath path frames → HasPath path (put_by_path frame frames)
 put_path path frame [] has = has
 put_path path frame (first ∷ rest) has = by (path_cmp frame.path first.path) has (put_path path frame rest)
@@ -231,11 +206,11 @@ sorted_path path (frame ∷ rest) (inr h) = put_path path frame (by_path rest) (
 abbrev pub Commits : ℕ → ℕ → List ℕ → Batch → Type 0
 Commits bound spent path limit = Unit {0}
 Commits bound spent path (failed who fault) = Unit {0}
-Commits bound spent path (committed cells touched frames) = (spent + cost_of frames ≤ bound) × EachFrame Pays frames × HasPath path frames
+Commits bound spent path (committed cells touched frames) = (spent + cost_of frames ≤ bound) × EachOf Pays frames × HasPath path frames
 
-module _ (bound spent : ℕ) (path : List ℕ) (made : Made) (pay : EachFrame Pays made.frames) (has : HasPath path made.frames) where
+module _ (bound spent : ℕ) (path : List ℕ) (made : Made) (pay : EachOf Pays made.frames) (has : HasPath path made.frames) where
   out_commits : spent + cost_of made.frames ≤ bound → (cells after_cells : List CellState) (out : Option ℕ) → Commits bound spent path (unless_out out made cells after_cells)
-  out_commits fit cells after_cells None = (omega (arith, fit, sorted_cost made.frames), sorted_each Pays made.frames pay, sorted_path path made.frames has)
+  out_commits fit cells after_cells None = (omega (arith, fit, sorted_cost made.frames), each_sorted Pays made.frames pay, sorted_path path made.frames has)
   out_commits fit cells after_cells (Some cell) = tt
 
   fault_commits : spent + cost_of made.frames ≤ bound → (cells : List CellState) (blame : Option Blame) → Commits bound spent path (when_no_fault blame made cells)
@@ -341,8 +316,8 @@ module _ (model : Parts) (plan : Plan) (bound : ℕ) where
   abbrev Good : SimulationState → Type 0
   Good at = StandsWell plan at × IsOrderedTable at.table
 
-  both_fall : (at : SimulationState) (place : Next SimulationState Run) → GoesWell plan place → Falls at place → FallsTo SimulationState Run (next_state model plan bound) Good (weight plan bound) at place
-  both_fall at (more place) well fall = ((well, fall.0), fall.1)
+  both_fall : (at : SimulationState) (point : Next SimulationState Run) → GoesWell plan point → Falls at point → FallsTo SimulationState Run (next_state model plan bound) Good (weight plan bound) at point
+  both_fall at (more point) well fall = ((well, fall.0), fall.1)
   both_fall at (finished run) well fall = tt
 
   -- ---- at the start
@@ -394,46 +369,46 @@ module _ (model : Parts) (plan : Plan) (bound : ℕ) where
         opens_daemons 0 model.daemons [],
       )
 
-  start_weight : weight plan bound (start model plan) < enough_turns model plan bound
+  start_weight : weight plan bound (start model plan) < enough_transitions model plan bound
   start_weight = omega (arith, opens_start, idle_most (ready_jobs (start model plan).cells (start model plan).table))
 
-  pub run_ends : (run : Run) × (after_turns model plan bound (enough_turns model plan bound) ≡ finished run)
+  pub run_ends : (run : Run) × (after_transitions model plan bound (enough_transitions model plan bound) ≡ finished run)
   run_ends =
       ends SimulationState Run (next_state model plan bound) Good (weight plan bound) (λ at good. both_fall at (next_state model plan bound at) (next_well model plan bound at good.0) (next_falls at good.0 good.1))
-      (enough_turns model plan bound) (start model plan) (start_well model plan bound, order_start) start_weight
+      (enough_transitions model plan bound) (start model plan) (start_well model plan bound, order_start) start_weight
 
-pub turns_finish : TurnsFinish
-turns_finish model plan bound = run_ends model plan bound
+pub transitions_finish : TransitionsFinish
+transitions_finish model plan bound = run_ends model plan bound
 
-turns_are_fresh : (model : Parts) (plan : Plan) (bound : ℕ) (run : Run) → after_turns model plan bound (enough_turns model plan bound) ≡ finished run → IsFresh model plan bound run
-turns_are_fresh model plan bound run e =
+transitions_are_fresh : (model : Parts) (plan : Plan) (bound : ℕ) (run : Run) → after_transitions model plan bound (enough_transitions model plan bound) ≡ finished run → IsFresh model plan bound run
+transitions_are_fresh model plan bound run e =
     subst (IsReached model plan bound) e
-    (turns_come SimulationState Run (next_state model plan bound) (enough_turns model plan bound) (start model plan) (more (start model plan)) begins)
+    (transitions_come SimulationState Run (next_state model plan bound) (enough_transitions model plan bound) (start model plan) (more (start model plan)) begins)
 
 pub has_fresh_run : HasFreshRun
 has_fresh_run model plan bound =
     let found = run_ends model plan bound in
-    (found.0, turns_are_fresh model plan bound found.0 found.1)
+    (found.0, transitions_are_fresh model plan bound found.0 found.1)
 
-pub fresh_by_turns : FreshRunByTurns
-fresh_by_turns model plan bound run =
+pub fresh_by_transitions : FreshRunByTransitions
+fresh_by_transitions model plan bound run =
     let found = run_ends model plan bound in (
-      λ fresh. found.1 ∙ ap finished (same_result SimulationState Run (next_state model plan bound) (start model plan) found.0 run (turns_are_fresh model plan bound found.0 found.1) fresh),
-      turns_are_fresh model plan bound run,
+      λ fresh. found.1 ∙ ap finished (same_result SimulationState Run (next_state model plan bound) (start model plan) found.0 run (transitions_are_fresh model plan bound found.0 found.1) fresh),
+      transitions_are_fresh model plan bound run,
     )
 
--- ---- each turn
+-- ---- each transition
 
-abbrev OrderedPlace : Next SimulationState Run → Type 0
-OrderedPlace (more at) = IsOrderedTable at.table
-OrderedPlace (finished run) = Unit {0}
+abbrev OrderedPoint : Next SimulationState Run → Type 0
+OrderedPoint (more at) = IsOrderedTable at.table
+OrderedPoint (finished run) = Unit {0}
 
-standing_good : (model : Parts) (plan : Plan) (bound : ℕ) (place : Next SimulationState Run) → IsReached model plan bound place → OrderedPlace place
+standing_good : (model : Parts) (plan : Plan) (bound : ℕ) (point : Next SimulationState Run) → IsReached model plan bound point → OrderedPoint point
 standing_good model plan bound (more at) begins = order_start model plan bound
-standing_good model plan bound place (onward {place = at} before) =
+standing_good model plan bound point (onward {point = at} before) =
     ordered_next (next_state model plan bound at) (next_falls model plan bound at (stands_well model plan bound (more at) before) (standing_good model plan bound (more at) before))
   where
-    ordered_next : (later : Next SimulationState Run) → Falls model plan bound at later → OrderedPlace later
+    ordered_next : (later : Next SimulationState Run) → Falls model plan bound at later → OrderedPoint later
     ordered_next (more later) falls = falls.0
     ordered_next (finished run) falls = tt
 

@@ -113,7 +113,7 @@ frame_of_all P frame (Some made) h k = (h, k)
 
 -- the children that items make from a number on keep a property of all paths, where each such child does
 pub items_of_all : (P : List ℕ → Type 0) (model : Parts) (of_child : Job → Making) (maker : List ℕ) (made number : ℕ) (view : List CellState) (items : List Item) → made ≤ number →
-    ((count : ℕ) (kind : ℕ) (arguments : List _) (seen : List CellState) → made ≤ count → MadeOf P (of_child (child_job model maker count seen kind arguments))) →
+    ((count : ℕ) (kind : ℕ) (arguments : List _) (value_read : List CellState) → made ≤ count → MadeOf P (of_child (child_job model maker count value_read kind arguments))) →
     MadeOf P (of_items model of_child maker number view items)
 items_of_all P model of_child maker made number view [] less h = tt
 items_of_all P model of_child maker made number view (item.Emit cell effect ∷ rest) less h =
@@ -142,16 +142,16 @@ within_of model budget zero number job = by (job_step model budget job)
     by None = tt
     by (Some (status, so_far)) =
         frame_of_all (IsOf job.path number) (frame_of job status so_far) (of_items model (too_deep job.path) job.path number job.view so_far.items) (inl refl)
-        (items_of_all (IsOf job.path number) model (too_deep job.path) job.path number number job.view so_far.items (omega arith) (λ count kind arguments seen less. (inl refl, tt)))
+        (items_of_all (IsOf job.path number) model (too_deep job.path) job.path number number job.view so_far.items (omega arith) (λ count kind arguments value_read less. (inl refl, tt)))
 within_of model budget (suc room) number job =
     by (job_step model budget job)
-    (λ count kind arguments seen less.
+    (λ count kind arguments value_read less.
     made_weaker (IsOf (child_path job.path count) 0) (IsOf job.path number) (λ other. below_child job.path other number count less)
-    (made_within model budget room 0 (child_job model job.path count seen kind arguments)) (within_of model budget room 0 (child_job model job.path count seen kind arguments)))
+    (made_within model budget room 0 (child_job model job.path count value_read kind arguments)) (within_of model budget room 0 (child_job model job.path count value_read kind arguments)))
   where
     by : (stepped : Stepped) →
-        ((count : ℕ) (kind : ℕ) (arguments : List _) (seen : List CellState) → number ≤ count →
-        MadeOf (IsOf job.path number) (made_within model budget room 0 (child_job model job.path count seen kind arguments))) →
+        ((count : ℕ) (kind : ℕ) (arguments : List _) (value_read : List CellState) → number ≤ count →
+        MadeOf (IsOf job.path number) (made_within model budget room 0 (child_job model job.path count value_read kind arguments))) →
         MadeOf (IsOf job.path number) (of_step model (made_within model budget room 0) job number stepped)
     by None h = tt
     by (Some (status, so_far)) h =

@@ -9,7 +9,8 @@ use Rattle.run_data.specs.declared.frames.Frame.{Frame}
 use Rattle.run_data.specs.Batches.{by_path, put_by_path, in_front_unless_greater}
 use Rattle.run_data.specs.Tasks.{Task, Table, task_at, after_frame, after_frames, task_after, children_made, children_in}
 use Rattle.run_data.specs.laws.BatchFrames.{AnyFrame, Among, HasPath, Differ}
-use Rattle.run_data.proofs.OrderedTables.{at_with, is_same, path_itself}
+use Rattle.run_data.specs.FrameLaws.{any_put, put_any, sorted_any}
+use Rattle.run_data.specs.TableLaws.{at_with, is_same, path_itself}
 
 pub any_weaker : (P Q : Frame → Type 0) → ((frame : Frame) → P frame → Q frame) → (frames : List Frame) → AnyFrame P frames → AnyFrame Q frames
 any_weaker P Q gives [] h = absurd h
@@ -44,47 +45,6 @@ either_path path (frame ∷ rest) = by (is_at (path_cmp path) frame.path) refl (
     by false e (inr none) = inr (neither e none)
 
 -- ---- in order of path
-
-module _ (P : Frame → Type 0) where
-  pub any_put : (one : Frame) (frames : List Frame) → AnyFrame P (one ∷ frames) → AnyFrame P (put_by_path one frames)
-  any_put one [] has = has
-  any_put one (first ∷ rest) has = by (path_cmp one.path first.path) has (any_put one rest)
-    where
-      by : (order : Ordering) → AnyFrame P (one ∷ first ∷ rest) → (AnyFrame P (one ∷ rest) → AnyFrame P (put_by_path one rest)) →
-          AnyFrame P (in_front_unless_greater order one first rest (put_by_path one rest))
-      by Less has further = has
-      by Equal has further = has
-      by Greater (inl h) further = inr (further (inl h))
-      by Greater (inr (inl h)) further = inl h
-      by Greater (inr (inr h)) further = inr (further (inr h))
-
-  pub put_any : (one : Frame) (frames : List Frame) → AnyFrame P (put_by_path one frames) → AnyFrame P (one ∷ frames)
-  put_any one [] has = has
-  put_any one (first ∷ rest) has = by (path_cmp one.path first.path) (put_any one rest) has
-    where
-      past : AnyFrame P (one ∷ rest) → AnyFrame P (one ∷ first ∷ rest)
-      past (inl h) = inl h
-      past (inr h) = inr (inr h)
-
-      by : (order : Ordering) → (AnyFrame P (put_by_path one rest) → AnyFrame P (one ∷ rest)) →
-          AnyFrame P (in_front_unless_greater order one first rest (put_by_path one rest)) → AnyFrame P (one ∷ first ∷ rest)
-      by Less further has = has
-      by Equal further has = has
-      by Greater further (inl h) = inr (inl h)
-      by Greater further (inr h) = past (further h)
-
-  pub any_sorted : (frames : List Frame) → AnyFrame P frames → AnyFrame P (by_path frames)
-  any_sorted [] has = has
-  any_sorted (frame ∷ rest) (inl h) = any_put frame (by_path rest) (inl h)
-  any_sorted (frame ∷ rest) (inr h) = any_put frame (by_path rest) (inr (any_sorted rest h))
-
-  pub sorted_any : (frames : List Frame) → AnyFrame P (by_path frames) → AnyFrame P frames
-  sorted_any [] has = has
-  sorted_any (frame ∷ rest) has = by (put_any frame (by_path rest) has) (sorted_any rest)
-    where
-      by : AnyFrame P (frame ∷ by_path rest) → (AnyFrame P (by_path rest) → AnyFrame P rest) → AnyFrame P (frame ∷ rest)
-      by (inl h) further = inl h
-      by (inr h) further = inr (further h)
 
 differ_put : (one : Frame) (frames : List Frame) → (HasPath one.path frames → ⊥) → Differ frames → Differ (put_by_path one frames)
 differ_put one [] none differ = (λ h. h, tt)

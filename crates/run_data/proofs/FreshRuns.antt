@@ -24,9 +24,8 @@ use Rattle.run_data.specs.Tasks.{TaskPhase, anchored, ready, delayed, waiting, c
 use Rattle.run_data.specs.laws.FreshRuns.{FreshRunIsOfPlan, IsReachedBatch, EachAfter, BatchesAreReached, FramesOfRunsAreValid}
 use Rattle.run_data.specs.laws.Generations.{child_jobs}
 use Rattle.run_data.specs.laws.Orders.{EachOf}
-use Rattle.run_data.proofs.Ending.{sorted_each}
+use Rattle.run_data.specs.FrameLaws.{each_sorted}
 use Rattle.run_data.proofs.Makings.{MadeEach, made_each, none_faulted}
-use Rattle.run_data.proofs.Paying.{EachFrame}
 use Rattle.run_data.proofs.Replay.{OfTree, making_of_tree}
 use Rattle.run_data.proofs.ValidRecords.{frames_are_valid}
 
@@ -62,12 +61,12 @@ module _ (model : Parts) (plan : Plan) (bound : ℕ) where
   next_of_plan at [] = judged_of_plan at (on_each (woken at.cells) at.table) (ready_jobs at.cells (on_each (woken at.cells) at.table))
   next_of_plan at (job ∷ rest) = outcome_of_plan at (batch model bound at.spent at.cells (job ∷ rest))
 
-  place_of_plan : (place : Next SimulationState Run) → IsReached model plan bound place → IsOfPlan place
-  place_of_plan (more at) begins = tt
-  place_of_plan place (onward {place = at} before) = next_of_plan at (ready_jobs at.cells at.table)
+  point_of_plan : (point : Next SimulationState Run) → IsReached model plan bound point → IsOfPlan point
+  point_of_plan (more at) begins = tt
+  point_of_plan point (onward {point = at} before) = next_of_plan at (ready_jobs at.cells at.table)
 
 pub fresh_run_is_of_plan : FreshRunIsOfPlan
-fresh_run_is_of_plan model plan bound run fresh = place_of_plan model plan bound (finished run) fresh
+fresh_run_is_of_plan model plan bound run fresh = point_of_plan model plan bound (finished run) fresh
 
 -- ---- its batches
 
@@ -92,15 +91,15 @@ module _ (model : Parts) (plan : Plan) (bound : ℕ) where
   abbrev AreReached : SimulationState → Type 0
   AreReached at = EachAfter OfInstant [] at.instants × EachAfter (IsReachedBatch model plan bound at.instants at.time) [] at.batches
 
-  abbrev PlaceIs : Next SimulationState Run → Type 0
-  PlaceIs (more at) = AreReached at
-  PlaceIs (finished run) = EachAfter OfInstant [] run.instants
+  abbrev PointIs : Next SimulationState Run → Type 0
+  PointIs (more at) = AreReached at
+  PointIs (finished run) = EachAfter OfInstant [] run.instants
 
   module _ (at : SimulationState) (stands : IsReached model plan bound (more at)) (reached : AreReached at) where
     settled_reached : EachAfter OfInstant [] (settled model plan bound at)
     settled_reached = after_push OfInstant [] at.instants (instant_at at) reached.0 reached.1
 
-    outcome_reached : (outcome : Batch) → batch model bound at.spent at.cells (ready_jobs at.cells at.table) ≡ outcome → PlaceIs (after_outcome model plan bound at outcome)
+    outcome_reached : (outcome : Batch) → batch model bound at.spent at.cells (ready_jobs at.cells at.table) ≡ outcome → PointIs (after_outcome model plan bound at outcome)
     outcome_reached limit e = reached.0
     outcome_reached (failed who fault) e = reached.0
     outcome_reached (committed cells touched frames) e = (
@@ -117,33 +116,33 @@ module _ (model : Parts) (plan : Plan) (bound : ℕ) where
       }),
     )
 
-    time_reached : (time : ℕ) (cells : List CellState) (out : Option ℕ) → PlaceIs (to_time model plan bound at time cells out)
+    time_reached : (time : ℕ) (cells : List CellState) (out : Option ℕ) → PointIs (to_time model plan bound at time cells out)
     time_reached time cells (Some cell) = settled_reached
     time_reached time cells None = (settled_reached, tt)
 
-    end_reached : (out : Option ℕ) → PlaceIs (to_end model plan bound at out)
+    end_reached : (out : Option ℕ) → PointIs (to_end model plan bound at out)
     end_reached (Some cell) = settled_reached
     end_reached None = settled_reached
 
-    moved_reached : (time : Option ℕ) → PlaceIs (moved model plan bound at time)
+    moved_reached : (time : Option ℕ) → PointIs (moved model plan bound at time)
     moved_reached None = end_reached (first_out (passed at.cells (plan.duration - at.time)))
     moved_reached (Some time) = time_reached time (passed at.cells (time - at.time)) (first_out (passed at.cells (time - at.time)))
 
-    judged_reached : (table : Table) (jobs : List (ℕ × Job)) → PlaceIs (woken_or_moved model plan bound at table jobs)
+    judged_reached : (table : Table) (jobs : List (ℕ × Job)) → PointIs (woken_or_moved model plan bound at table jobs)
     judged_reached table [] = moved_reached (below plan.duration (least_due at.time plan.duration at.cells at.table))
     judged_reached table (job ∷ rest) = reached
 
-    next_reached : (jobs : List (ℕ × Job)) → ready_jobs at.cells at.table ≡ jobs → PlaceIs (next_by model plan bound at jobs)
+    next_reached : (jobs : List (ℕ × Job)) → ready_jobs at.cells at.table ≡ jobs → PointIs (next_by model plan bound at jobs)
     next_reached [] e = judged_reached (on_each (woken at.cells) at.table) (ready_jobs at.cells (on_each (woken at.cells) at.table))
     next_reached (job ∷ rest) e = outcome_reached (batch model bound at.spent at.cells (job ∷ rest)) (ap (batch model bound at.spent at.cells) e)
 
-  place_reached : (place : Next SimulationState Run) → IsReached model plan bound place → PlaceIs place
-  place_reached (more at) begins = (tt, tt)
-  place_reached place (onward {place = at} before) =
-      next_reached at before (place_reached (more at) before) (ready_jobs at.cells at.table) refl
+  point_reached : (point : Next SimulationState Run) → IsReached model plan bound point → PointIs point
+  point_reached (more at) begins = (tt, tt)
+  point_reached point (onward {point = at} before) =
+      next_reached at before (point_reached (more at) before) (ready_jobs at.cells at.table) refl
 
 pub batches_are_reached : BatchesAreReached
-batches_are_reached model plan bound run fresh = place_reached model plan bound (finished run) fresh
+batches_are_reached model plan bound run fresh = point_reached model plan bound (finished run) fresh
 
 -- ---- as many cells
 
@@ -190,9 +189,9 @@ module _ (model : Parts) (plan : Plan) (bound : ℕ) where
   next_counts at (job ∷ rest) e =
       outcome_counts at (batch model bound at.spent at.cells (job ∷ rest)) (making_of_tree model plan bound at.spent at.cells (made_by_all model bound (job ∷ rest))) e
 
-  pub cells_count : (place : Next SimulationState Run) → IsReached model plan bound place → Counts place
+  pub cells_count : (point : Next SimulationState Run) → IsReached model plan bound point → Counts point
   cells_count (more at) begins = length-map model.cells (λ cell. first_state cell.1)
-  cells_count place (onward {place = at} before) = next_counts at (ready_jobs at.cells at.table) (cells_count (more at) before)
+  cells_count point (onward {point = at} before) = next_counts at (ready_jobs at.cells at.table) (cells_count (more at) before)
 
 -- ---- valid records
 
@@ -233,18 +232,18 @@ module _ (P : Frame → Type 0) where
   abbrev pub CommitsEach : Batch → Type 0
   CommitsEach limit = Unit {0}
   CommitsEach (failed who fault) = Unit {0}
-  CommitsEach (committed cells touched frames) = EachFrame P frames
+  CommitsEach (committed cells touched frames) = EachOf P frames
 
-  out_each : (made : Made) → EachFrame P made.frames → (cells after_cells : List CellState) (out : Option ℕ) → CommitsEach (unless_out out made cells after_cells)
-  out_each made all cells after_cells None = sorted_each P made.frames all
+  out_each : (made : Made) → EachOf P made.frames → (cells after_cells : List CellState) (out : Option ℕ) → CommitsEach (unless_out out made cells after_cells)
+  out_each made all cells after_cells None = each_sorted P made.frames all
   out_each made all cells after_cells (Some cell) = tt
 
-  fault_each : (made : Made) → EachFrame (λ frame. fault_in frame.status ≡ None → P frame) made.frames → (cells : List CellState) (blame : Option Blame) → least_fault made.frames ≡ blame →
+  fault_each : (made : Made) → EachOf (λ frame. fault_in frame.status ≡ None → P frame) made.frames → (cells : List CellState) (blame : Option Blame) → least_fault made.frames ≡ blame →
       CommitsEach (when_no_fault blame made cells)
   fault_each made all cells None e = out_each made (none_faulted P made.frames e all) cells (committed_cells cells (tree_of made)) (first_out (committed_cells cells (tree_of made)))
   fault_each made all cells (Some (path, fault)) e = tt
 
-  within_each : (made : Made) → EachFrame (λ frame. fault_in frame.status ≡ None → P frame) made.frames → (cells : List CellState) (fit : Bool) → CommitsEach (when_within fit made cells)
+  within_each : (made : Made) → EachOf (λ frame. fault_in frame.status ≡ None → P frame) made.frames → (cells : List CellState) (fit : Bool) → CommitsEach (when_within fit made cells)
   within_each made all cells true = fault_each made all cells (least_fault made.frames) refl
   within_each made all cells false = tt
 
@@ -252,7 +251,7 @@ module _ (P : Frame → Type 0) where
   commits_each bound spent cells None all = tt
   commits_each bound spent cells (Some made) all = within_each made all cells (if nat_lt bound (spent + cost_of made.frames) then false else true)
 
-  frames_all : (frames : List Frame) → EachFrame P frames → All P frames
+  frames_all : (frames : List Frame) → EachOf P frames → All P frames
   frames_all [] all = All-nil P
   frames_all (frame ∷ rest) all = All-cons P frame rest all.0 (frames_all rest all.1)
 

@@ -11,8 +11,8 @@ use Rattle.run_data.specs.Tasks.{TaskPhase, anchored, ready, delayed, waiting, c
 use Rattle.run_data.specs.laws.GoingOn.{EndsAs, GoOnInTurn, AllGoneOn}
 use Rattle.run_data.specs.laws.NumberedTasks.{sorted_tasks, Distinct}
 use Rattle.run_data.proofs.EndedTasks.{ended_in_order}
-use Rattle.run_data.proofs.NumberedTasks.{in_order_set, at_number, keys_set, same_keys, each_set}
-use Rattle.run_data.proofs.OrderedTables.{at_with, is_same}
+use Rattle.run_data.specs.NumberLaws.{in_order_set, at_number, keys_set, same_keys, each_set}
+use Rattle.run_data.specs.TableLaws.{at_with, is_same}
 
 -- ---- judged on either table
 

@@ -8,19 +8,19 @@ use Rattle.aerie_base.specs.declared.statements.Stmt.TheOpen.{Stmt-F}
 use Rattle.aerie_base.specs.expressions.Evaluation.{Evaluated}
 use Rattle.run_data.specs.declared.tasks.BodyId.{BodyId}
 use Rattle.run_data.specs.StepStates.{StepState, valued, with_flags}
-use Rattle.run_data.specs.Steps.{Turn, onward, ended, with_evaluated, first_of, valued_all, with_all, act, emission_expr}
+use Rattle.run_data.specs.Steps.{Acted, onward, ended, with_evaluated, first_of, valued_all, with_all, act, emission_expr}
 
 -- the same view and the same cost
 pub record Keeps (before after : StepState) : Type 0 where
   pub view : after.view ≡ before.view
   pub cost : after.cost ≡ before.cost
 
-abbrev pub TurnKeeps : StepState → Turn → Type 0
-TurnKeeps so_far (onward next) = Keeps so_far next
-TurnKeeps so_far (ended status last) = Keeps so_far last
+abbrev pub ActedKeeps : StepState → Acted → Type 0
+ActedKeeps so_far (onward next) = Keeps so_far next
+ActedKeeps so_far (ended status last) = Keeps so_far last
 
-evaluated_keeps : (so_far : StepState) (result : Evaluated) (go : Value → StepState → Turn) → ((value : Value) (read_flags : List Bool) → TurnKeeps so_far (go value (with_flags so_far read_flags))) →
-    TurnKeeps so_far (with_evaluated so_far result go)
+evaluated_keeps : (so_far : StepState) (result : Evaluated) (go : Value → StepState → Acted) → ((value : Value) (read_flags : List Bool) → ActedKeeps so_far (go value (with_flags so_far read_flags))) →
+    ActedKeeps so_far (with_evaluated so_far result go)
 evaluated_keeps so_far (Err fault, read_flags) go kept = record { view = refl; cost = refl }
 evaluated_keeps so_far (Ok value, read_flags) go kept = kept value read_flags
 
@@ -34,14 +34,14 @@ pub all_notes : (exprs : List Expr) (so_far : StepState) → (later : List Bool)
 all_notes [] so_far = (so_far.read_flags, refl)
 all_notes (expr ∷ rest) so_far = first_notes so_far (valued so_far expr) (valued_all rest) (λ read_flags. all_notes rest (with_flags so_far read_flags))
 
-all_keeps : (so_far : StepState) (result : Result (List Value) Fault × StepState) (go : List Value → StepState → Turn) →
-    ((later : List Bool) × (result.1 ≡ with_flags so_far later)) → ((values : List Value) (read_flags : List Bool) → TurnKeeps so_far (go values (with_flags so_far read_flags))) →
-    TurnKeeps so_far (with_all result go)
+all_keeps : (so_far : StepState) (result : Result (List Value) Fault × StepState) (go : List Value → StepState → Acted) →
+    ((later : List Bool) × (result.1 ≡ with_flags so_far later)) → ((values : List Value) (read_flags : List Bool) → ActedKeeps so_far (go values (with_flags so_far read_flags))) →
+    ActedKeeps so_far (with_all result go)
 all_keeps so_far (Err fault, last) go is kept =
     record { view = λ i. (is.1 i).view; cost = λ i. (is.1 i).cost }
-all_keeps so_far (Ok values, last) go is kept = subst (λ c. TurnKeeps so_far (go values c)) (sym is.1) (kept values is.0)
+all_keeps so_far (Ok values, last) go is kept = subst (λ c. ActedKeeps so_far (go values c)) (sym is.1) (kept values is.0)
 
-pub act_keeps : (kind : BodyId) (at : ℕ) (stmt : Stmt-F Stmt) (so_far : StepState) → TurnKeeps so_far (act kind at stmt so_far)
+pub act_keeps : (kind : BodyId) (at : ℕ) (stmt : Stmt-F Stmt) (so_far : StepState) → ActedKeeps so_far (act kind at stmt so_far)
 act_keeps kind at (Stmt-F.Let slot expr) so_far = evaluated_keeps so_far (valued so_far expr) _ (λ value read_flags. record { view = refl; cost = refl })
 act_keeps kind at (Stmt-F.Assign slot expr) so_far = evaluated_keeps so_far (valued so_far expr) _ (λ value read_flags. record { view = refl; cost = refl })
 act_keeps kind at (Stmt-F.Emit cell what) so_far = evaluated_keeps so_far (valued so_far (emission_expr what)) _ (λ value read_flags. record { view = refl; cost = refl })

@@ -28,7 +28,6 @@ use Rattle.run_data.specs.laws.BatchFrames.{AnyFrame, Among, HasPath, Differ, Of
 use Rattle.run_data.specs.laws.Orders.{EachOf, EachTwo, AreApart}
 use Rattle.run_data.proofs.CellKinds.{cells_emitted}
 use Rattle.run_data.proofs.FramePaths.{IsOf, AllOf, MadeOf, both_true, same_number, under_itself, under_shorter, made_weaker, effect_of_all, child_of_all, items_of_all, within_of, never_both}
-use Rattle.run_data.proofs.Paying.{EachFrame}
 use Rattle.run_data.proofs.StepEndings.{nth_child, ChildrenGoOn, EndsWell, GoodJob, good_step}
 use Rattle.run_data.proofs.StepLeavings.{EffectsFit}
 
@@ -41,16 +40,16 @@ any_back : (P : Frame → Type 0) (first second : List Frame) → AnyFrame P sec
 any_back P [] second h = h
 any_back P (frame ∷ rest) second h = inr (any_back P rest second h)
 
-each_append : (P : Frame → Type 0) (first second : List Frame) → EachFrame P first → EachFrame P second → EachFrame P (first ++ second)
+each_append : (P : Frame → Type 0) (first second : List Frame) → EachOf P first → EachOf P second → EachOf P (first ++ second)
 each_append P [] second h k = k
 each_append P (frame ∷ rest) second h k = (h.0, each_append P rest second h.1 k)
 
-pub each_among : (P : Frame → Type 0) (frames : List Frame) (frame : Frame) → EachFrame P frames → Among frame frames → P frame
+pub each_among : (P : Frame → Type 0) (frames : List Frame) (frame : Frame) → EachOf P frames → Among frame frames → P frame
 each_among P [] frame each among = absurd among
 each_among P (first ∷ rest) frame each (inl e) = subst P e each.0
 each_among P (first ∷ rest) frame each (inr among) = each_among P rest frame each.1 among
 
-module _ (model : Parts) (valid : IsTrue (valid_model model)) (table : Table) (all : List Frame) (sound : EachFrame (λ frame. fault_in frame.status ≡ None) all) where
+module _ (model : Parts) (valid : IsTrue (valid_model model)) (table : Table) (all : List Frame) (sound : EachOf (λ frame. fault_in frame.status ≡ None) all) where
   -- how many children the task of a path had made
   abbrev pub made_at : List ℕ → ℕ
   made_at path = children_made (task_at table path)
@@ -90,7 +89,7 @@ module _ (model : Parts) (valid : IsTrue (valid_model model)) (table : Table) (a
     state : frame.before ≡ before
 
   record GoodMade (job : Job) (frames : List Frame) : Type 0 where
-    each : EachFrame Known frames
+    each : EachOf Known frames
     own : HasOwn job.path job.state
     differ : Differ frames
 
@@ -99,7 +98,7 @@ module _ (model : Parts) (valid : IsTrue (valid_model model)) (table : Table) (a
   Good job (Some made) = GoodMade job made.frames
 
   record GoodItemsMade (path : List ℕ) (number : ℕ) (items : List Item) (frames : List Frame) : Type 0 where
-    each : EachFrame Known frames
+    each : EachOf Known frames
     children : (count kind : ℕ) → nth_child items count ≡ Some kind → HasChild (child_path path (number + count)) kind
     differ : Differ frames
 
@@ -245,8 +244,8 @@ module _ (model : Parts) (valid : IsTrue (valid_model model)) (table : Table) (a
         later_of : MadeOf (λ path. IsOf (child_path maker.path number) 0 path → ⊥) (of_items model of_child maker.path (number + 1) view rest)
         later_of =
             items_of_all (λ path. IsOf (child_path maker.path number) 0 path → ⊥) model of_child maker.path (number + 1) (number + 1) view rest (omega arith)
-            (λ n k values seen less. made_weaker (IsOf (child_path maker.path n) 0) (λ path. IsOf (child_path maker.path number) 0 path → ⊥) (apart n less)
-            (of_child (child_job model maker.path n seen k values)) (child_of (child_job model maker.path n seen k values)))
+            (λ n k values value_read less. made_weaker (IsOf (child_path maker.path n) 0) (λ path. IsOf (child_path maker.path number) 0 path → ⊥) (apart n less)
+            (of_child (child_job model maker.path n value_read k values)) (child_of (child_job model maker.path n value_read k values)))
 
   -- ---- steps
 
@@ -255,9 +254,9 @@ module _ (model : Parts) (valid : IsTrue (valid_model model)) (table : Table) (a
       MadeOf (λ other. path ≡ other → ⊥) (of_items model of_child path number view items)
   items_elsewhere of_child child_of path number view items =
       items_of_all (λ other. path ≡ other → ⊥) model of_child path number number view items (omega arith)
-      (λ n kind arguments seen less. made_weaker (IsOf (child_path path n) 0) (λ other. path ≡ other → ⊥)
+      (λ n kind arguments value_read less. made_weaker (IsOf (child_path path n) 0) (λ other. path ≡ other → ⊥)
       (λ other is same. not_above path n (ap (is_prefix (child_path path n)) same ∙ of_prefix (child_path path n) other is))
-      (of_child (child_job model path n seen kind arguments)) (child_of (child_job model path n seen kind arguments)))
+      (of_child (child_job model path n value_read kind arguments)) (child_of (child_job model path n value_read kind arguments)))
 
   none_has : (path : List ℕ) (frames : List Frame) → AllOf (λ other. path ≡ other → ⊥) frames → HasPath path frames → ⊥
   none_has path [] each has = has
@@ -343,7 +342,7 @@ module _ (model : Parts) (valid : IsTrue (valid_model model)) (table : Table) (a
   -- ---- the jobs of a batch
 
   pub record JobsMade (frames : List Frame) : Type 0 where
-    pub each : EachFrame Known frames
+    pub each : EachOf Known frames
     pub differ : Differ frames
 
   abbrev pub GoodJobs : Making → Type 0

@@ -16,12 +16,12 @@ use Rattle.run_data.specs.Steps.{Stepped}
 use Rattle.run_data.specs.Frames.{Making, with_effect, with_child, with_frame, job_step, frame_of, child_job, of_items, of_step, too_deep, made_within, made_by, made_by_all, room_of}
 use Rattle.run_data.specs.laws.Generations.{child_jobs, deep_frame}
 use Rattle.run_data.specs.laws.Orders.{EachOf}
-use Rattle.run_data.proofs.Paying.{EachFrame, each_append}
+use Rattle.run_data.proofs.Paying.{each_append}
 
 -- each frame that is made has a property
 abbrev pub MadeEach : (Frame → Type 0) → Making → Type 0
 MadeEach P None = Unit {0}
-MadeEach P (Some made) = EachFrame P made.frames
+MadeEach P (Some made) = EachOf P made.frames
 
 module _ (P : Frame → Type 0) where
   effect_each : (cell : ℕ) (effect : Effect) (making : Making) → MadeEach P making → MadeEach P (with_effect cell effect making)
@@ -78,7 +78,7 @@ no_fault_here : (path : List ℕ) (fault : Option Fault) (rest : Option Blame) �
 no_fault_here path None rest e = (refl, e)
 no_fault_here path (Some fault) rest e = absurd (lesser_is_some (path, fault) rest e)
 
-pub none_faulted : (P : Frame → Type 0) (frames : List Frame) → least_fault frames ≡ None → EachFrame (λ frame. fault_in frame.status ≡ None → P frame) frames → EachFrame P frames
+pub none_faulted : (P : Frame → Type 0) (frames : List Frame) → least_fault frames ≡ None → EachOf (λ frame. fault_in frame.status ≡ None → P frame) frames → EachOf P frames
 none_faulted P [] e all = tt
 none_faulted P (frame ∷ rest) e all =
     let parts = no_fault_here frame.path (fault_in frame.status) (least_fault rest) e in

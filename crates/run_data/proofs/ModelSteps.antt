@@ -16,12 +16,13 @@ use Rattle.run_data.specs.declared.jobs.Job.{Job}
 use Rattle.run_data.specs.Frames.{job_step}
 use Rattle.run_data.specs.StepStates.{StepState, after_items, starting, valued, with_flags, paid}
 use Rattle.run_data.specs.Jobs.{is_state_of, AreCellsOf}
-use Rattle.run_data.specs.Steps.{Turn, onward, ended, act, Stepped, after, after_test, perform, steps}
+use Rattle.run_data.specs.Steps.{Acted, onward, ended, act, Stepped, after, after_test, perform, steps}
 use Rattle.run_data.specs.Typed.{AreLeft}
 use Rattle.run_data.specs.laws.ModelSteps.{AreChildrenOf, StaysOfModel, StepsKeepModel}
-use Rattle.run_data.proofs.Keeping.{TurnKeeps, act_keeps}
-use Rattle.run_data.proofs.TypedTurns.{TurnGoes}
-use Rattle.run_data.proofs.Typing.{states_begin, choice_runs_on, loop_runs_on, turn_there}
+use Rattle.run_data.proofs.Keeping.{ActedKeeps, act_keeps}
+use Rattle.run_data.proofs.TypedActs.{ActedGoes}
+use Rattle.run_data.proofs.Typing.{states_begin, acted_there}
+use Rattle.run_data.proofs.Performing.{performed_by}
 
 module _ (model : Parts) (valid : IsTrue (valid_model model)) (kind : BodyId) (view : List CellState) where
   -- what is to hold of a step
@@ -44,41 +45,28 @@ module _ (model : Parts) (valid : IsTrue (valid_model model)) (kind : BodyId) (v
   tested list so_far (Ok value, read_flags) go h goes = goes (truth_in value) read_flags
   tested list so_far (Err fault, read_flags) go h goes = faulted list so_far fault read_flags h
 
-  turned : (list : List Placed) (before : StepState) (rest : List Placed) (turn : Turn) (go : StepState → Stepped) → IsThere list before → TurnGoes model kind rest before turn → TurnKeeps before turn →
-      ((next : StepState) → IsThere rest next → Stays (go next)) → Stays (after turn go)
-  turned list before rest (onward next) go h on kept goes =
+  after_acted : (list : List Placed) (before : StepState) (rest : List Placed) (acted : Acted) (go : StepState → Stepped) → IsThere list before → ActedGoes model kind rest before acted → ActedKeeps before acted →
+      ((next : StepState) → IsThere rest next → Stays (go next)) → Stays (after acted go)
+  after_acted list before rest (onward next) go h on kept goes =
       goes next (record { left = on.0; cells = on.1; children = on.2 h.children; same = kept.view ∙ h.same })
-  turned list before rest (ended status last) go h on kept goes =
+  after_acted list before rest (ended status last) go h on kept goes =
       (record { next = on.0; waits = on.3; children = on.2 h.children; cells = on.1 }, kept.view ∙ h.same)
 
   module _ (here : Placed) (rest : List Placed) (so_far : StepState) (h : IsThere (here ∷ rest) so_far) (go : List Placed → StepState → Stepped)
       (goes : (list : List Placed) (next : StepState) → IsThere list next → Stays (go list next)) where
     simple_stays : (x : Stmt-F Stmt) → out-Stmt here.what ≡ x → Stays (after (act kind here.at x so_far) (go rest))
     simple_stays x e =
-        turned (here ∷ rest) so_far rest (act kind here.at x so_far) (go rest) h
-        (turn_there model kind here rest so_far valid h.left h.cells (act kind here.at x so_far) (ap (λ (y : Stmt-F Stmt). act kind here.at y so_far) e))
+        after_acted (here ∷ rest) so_far rest (act kind here.at x so_far) (go rest) h
+        (acted_there model kind here rest so_far valid h.left h.cells (act kind here.at x so_far) (ap (λ (y : Stmt-F Stmt). act kind here.at y so_far) e))
         (act_keeps kind here.at x so_far) (goes rest)
 
     there : (list : List Placed) (read_flags : List Bool) → AreLeft model kind list so_far.locals → IsThere list (with_flags so_far read_flags)
     there list read_flags left = record { left = left; cells = h.cells; children = h.children; same = h.same }
 
     performed : (x : Stmt-F Stmt) → out-Stmt here.what ≡ x → Stays (perform kind here rest x so_far go)
-    performed (Stmt-F.If test block other) e =
-        tested (here ∷ rest) so_far (valued so_far test) _ h (λ holds read_flags. goes _ (with_flags so_far read_flags)
-        (there ((if holds then placed (here.at + 1) block else placed (here.at + 2 + block_size block) other) ++ rest) read_flags
-        (choice_runs_on model kind here rest so_far.locals test block other holds valid h.left e)))
-    performed (Stmt-F.While test block) e =
-        tested (here ∷ rest) so_far (valued so_far test) _ h (λ holds read_flags. goes _ (with_flags so_far read_flags)
-        (there (if holds then placed (here.at + 1) block ++ here ∷ rest else rest) read_flags
-        (loop_runs_on model kind here rest so_far.locals test block holds valid h.left e)))
-    performed (Stmt-F.Let slot value) e = simple_stays (Stmt-F.Let slot value) e
-    performed (Stmt-F.Assign slot value) e = simple_stays (Stmt-F.Assign slot value) e
-    performed (Stmt-F.Emit cell what) e = simple_stays (Stmt-F.Emit cell what) e
-    performed (Stmt-F.Delay by) e = simple_stays (Stmt-F.Delay by) e
-    performed (Stmt-F.WaitUntil condition) e = simple_stays (Stmt-F.WaitUntil condition) e
-    performed (Stmt-F.Spawn child arguments) e = simple_stays (Stmt-F.Spawn child arguments) e
-    performed (Stmt-F.Call child arguments into) e = simple_stays (Stmt-F.Call child arguments into) e
-    performed (Stmt-F.Return value) e = simple_stays (Stmt-F.Return value) e
+    performed =
+        performed_by model kind here rest so_far go valid h.left Stays (λ test go_on. tested (here ∷ rest) so_far (valued so_far test) go_on h)
+        (λ list flags left. goes list (with_flags so_far flags) (there list flags left)) simple_stays
 
   steps_stay : (budget : ℕ) (list : List Placed) (so_far : StepState) → IsThere list so_far → Stays (steps kind budget list so_far)
   steps_stay budget [] so_far h = (record { next = tt; waits = tt; children = h.children; cells = h.cells }, h.same)

@@ -10,7 +10,7 @@ use Rattle.run_data.specs.Fresh.{due_time, least_due}
 use Rattle.run_data.specs.Tasks.{TaskPhase, anchored, ready, delayed, waiting, calling, over, Task, Table, task_at, with_task}
 use Rattle.run_data.specs.laws.NextTimes.{delay_in, least_delay, wake_in, least_wake, DueSplits, LeastDelayByNumber, LeastWakeByNumber, NoneDueBefore, LeastDueIs, NoneIsDue}
 use Rattle.run_data.specs.laws.NumberedTasks.{sorted_tasks, Distinct}
-use Rattle.run_data.proofs.NumberedTasks.{none_at, first_apart, distinct_rest}
+use Rattle.run_data.specs.NumberLaws.{none_at, first_apart, distinct_rest}
 
 -- ---- the least time of tasks, by number and in order
 

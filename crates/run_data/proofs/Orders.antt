@@ -18,8 +18,8 @@ use Rattle.effect_cells.specs.TreeRecursion.{part_gives, items_give}
 use Rattle.effect_cells.specs.TreeRecursionLaws.{gives-Child}
 use Rattle.effect_cells.specs.Worth.{Before, effect_beside, in_front, beside, part_worth, tree_worth, items_worth, worth_of, part_fits, tree_fits}
 use Rattle.run_data.specs.declared.jobs.Job.{Job}
-use Rattle.run_data.specs.declared.frames.Frame.{Frame}
 use Rattle.run_data.specs.Batches.{committed, judged, when_within, when_no_fault, unless_out, touched_from, Blame, least_fault, tree_of, cost_of, by_path}
+use Rattle.run_data.specs.Counts.{cost_append}
 use Rattle.run_data.specs.Frames.{Made, Making, with_child, made_by, made_by_all}
 use Rattle.run_data.specs.laws.Orders.{EachOf, EachTwo, AreApart, FitsCells, OrderDoesNotMatter}
 use Rattle.run_data.proofs.FramePaths.{NoPathInBoth, frames_apart}
@@ -172,10 +172,6 @@ alike_trans cells (Some first) (Some second) (Some third) h k = record {
   order = h.order ∙ k.order;
   worth = λ cell less. h.worth cell less ∙ k.worth cell less;
 }
-
-pub cost_append : (frames rest : List Frame) → cost_of (frames ++ rest) ≡ cost_of frames + cost_of rest
-cost_append [] rest = omega arith
-cost_append (frame ∷ frames) rest = omega (arith, cost_append frames rest)
 
 abbrev two_made : Made → Made → Made
 two_made child rest = record { frames = child.frames ++ rest.frames; tree = Child (tree_of child) ∷ rest.tree }

@@ -9,7 +9,7 @@ use Rattle.aerie_base.specs.Paths.{path_cmp}
 use Rattle.run_data.specs.declared.frames.Frame.{Frame}
 use Rattle.run_data.specs.Batches.{Blame, first_unless_greater, lesser, blamed, fault_in, least_fault, in_front_unless_greater, put_by_path, by_path}
 use Rattle.run_data.proofs.FramePaths.{HasPath}
-use Rattle.run_data.proofs.OrderedTables.{path_same, reversed}
+use Rattle.run_data.specs.TableLaws.{path_same, reversed}
 
 -- ---- the order of paths as a test
 

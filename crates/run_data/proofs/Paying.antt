@@ -17,12 +17,13 @@ use Rattle.run_data.specs.declared.frames.Item.TheVariants as item
 use Rattle.run_data.specs.declared.frames.Status.{Status}
 use Rattle.run_data.specs.declared.frames.Status.TheVariants.{Delayed, Waiting, Calling, Done, Faulted}
 use Rattle.run_data.specs.StepStates.{StepState, starting, valued, with_flags, paid}
-use Rattle.run_data.specs.Steps.{Turn, onward, ended, Stepped, act, after, after_test, perform, steps}
+use Rattle.run_data.specs.Steps.{Acted, onward, ended, Stepped, act, after, after_test, perform, steps}
 use Rattle.run_data.specs.Frames.{job_step, frame_of, Making, with_effect, with_child, with_frame, child_job, of_items, of_step, too_deep, made_within, made_by, made_by_all, room_of}
 use Rattle.run_data.specs.TaskStates.{body_of}
 use Rattle.run_data.proofs.FramePaths.{HasPath}
-use Rattle.run_data.proofs.Keeping.{TurnKeeps, act_keeps}
+use Rattle.run_data.proofs.Keeping.{ActedKeeps, act_keeps}
 use Rattle.run_data.proofs.Reading.{both_are}
+use Rattle.run_data.specs.laws.Orders.{EachOf}
 
 -- ---- steps
 
@@ -47,8 +48,8 @@ CostsMore go ending last = (so_far : StepState) → go so_far ≡ Some (ending, 
 ended_costs : (status ending : Status) (so_far last : StepState) → ◌≡◌ {A = Stepped} (Some (status, so_far)) (Some (ending, last)) → so_far.cost ≤ last.cost
 ended_costs status ending so_far last e = omega (arith, ap (λ c. c.cost) (both_are status ending so_far last e).1)
 
-after_costs : (so_far : StepState) (turn : Turn) (go : StepState → Stepped) (ending : Status) (last : StepState) → TurnKeeps so_far turn → CostsMore go ending last →
-    after turn go ≡ Some (ending, last) → so_far.cost ≤ last.cost
+after_costs : (so_far : StepState) (acted : Acted) (go : StepState → Stepped) (ending : Status) (last : StepState) → ActedKeeps so_far acted → CostsMore go ending last →
+    after acted go ≡ Some (ending, last) → so_far.cost ≤ last.cost
 after_costs so_far (onward next) go ending last keeps h e = omega (arith, h next e, keeps.cost)
 after_costs so_far (ended status c) go ending last keeps h e = omega (arith, ended_costs status ending c last e, keeps.cost)
 
@@ -86,22 +87,18 @@ steps_cost (suc budget) kind (here ∷ rest) ending last so_far e =
 
 -- ---- frames
 
-abbrev pub EachFrame : (Frame → Type 0) → List Frame → Type 0
-EachFrame P [] = Unit {0}
-EachFrame P (frame ∷ rest) = P frame × EachFrame P rest
-
 abbrev pub Pays : Frame → Type 0
 Pays frame = open_status frame.status ≤ frame.cost
 
 abbrev pub AllPay : Making → Type 0
 AllPay None = Unit {0}
-AllPay (Some made) = EachFrame Pays made.frames
+AllPay (Some made) = EachOf Pays made.frames
 
 abbrev pub HasFrameOf : List ℕ → Making → Type 0
 HasFrameOf path None = Unit {0}
 HasFrameOf path (Some made) = HasPath path made.frames
 
-pub each_append : (P : Frame → Type 0) (first second : List Frame) → EachFrame P first → EachFrame P second → EachFrame P (first ++ second)
+pub each_append : (P : Frame → Type 0) (first second : List Frame) → EachOf P first → EachOf P second → EachOf P (first ++ second)
 each_append P [] second h k = k
 each_append P (frame ∷ rest) second h k = (h.0, each_append P rest second h.1 k)
 

@@ -289,7 +289,7 @@ module _ (setting : Setting) (slots : ℕ) (scopes : List Scope) (leftovers : Li
               subst (λ (x : Stmt-F Stmt). Onward here rest scope next x) (sym (outs-While test body)) (taken, follows_from scope next rest to_next (follows next rest holds));
         },
       ) in
-      let turns = block_proved body in_body (at + 1) scope is.inner (here ∷ rest) is.body_is inner_small in_lists.0 in_parts.0
+      let iterations = block_proved body in_body (at + 1) scope is.inner (here ∷ rest) is.body_is inner_small in_lists.0 in_parts.0
       (holds_from is.inner scope (here ∷ rest) (beginning_suffices scope is.inner inner_goes) own)
       (after, in_parts.1.0, end_suffices scope is.inner inner_goes) in_lists.1.0 in (
         own,
@@ -297,7 +297,7 @@ module _ (setting : Setting) (slots : ℕ) (scopes : List Scope) (leftovers : Li
             (subst (λ (l : List Scope). AllHold l ((here ∷ rest) ∷ block_lefts body (at + 1) (here ∷ rest) ++ (here ∷ rest) ∷ [])) (sym form) (
               own,
               all_hold (block_scopes setting body scope) (after ∷ []) (block_lefts body (at + 1) (here ∷ rest)) ((here ∷ rest) ∷ [])
-                  turns.1 (holds_from after scope (here ∷ rest) (beginning_suffices scope after (goes_behind scope is.inner)) own, tt),
+                  iterations.1 (holds_from after scope (here ∷ rest) (beginning_suffices scope after (goes_behind scope is.inner)) own, tt),
             )),
       )
 

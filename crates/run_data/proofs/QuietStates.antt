@@ -21,7 +21,7 @@ use Rattle.run_data.specs.Endings.{is_open, has_begun, has_come}
 use Rattle.run_data.specs.declared.jobs.Job.{Job}
 use Rattle.run_data.specs.declared.runs.Run.{Run}
 use Rattle.run_data.specs.Batches.{Batch, limit, failed, committed, batch}
-use Rattle.run_data.specs.Fresh.{SimulationState, start as first_place_of, next_by, woken_or_moved, moved, to_time, to_end, after_outcome, least_due, below, IsReached}
+use Rattle.run_data.specs.Fresh.{SimulationState, start as first_point_of, next_by, woken_or_moved, moved, to_time, to_end, after_outcome, least_due, below, IsReached}
 use Rattle.run_data.specs.Transitions.{Next, more, finished, begins, onward}
 use Rattle.run_data.specs.laws.QuietStates.{ReachedIsQuiet}
 use Rattle.run_data.specs.Tasks.{TaskPhase, anchored, ready, delayed, waiting, calling, over, Task, Table, task_at, with_task, on_each, planned, with_directives, with_daemons, woken, woken_phase, rested, rested_phase, after_frames, ready_jobs}
@@ -31,7 +31,7 @@ use Rattle.run_data.specs.laws.OrderedTables.{IsOrderedTable}
 use Rattle.run_data.proofs.EndedTasks.{open_stops, stands_at}
 use Rattle.run_data.proofs.Ending.{rested_open, woken_open}
 use Rattle.run_data.proofs.FramePaths.{under_itself}
-use Rattle.run_data.proofs.OrderedTables.{at_with, path_itself, order_with}
+use Rattle.run_data.specs.TableLaws.{at_with, path_itself, order_with}
 use Rattle.run_data.proofs.QuietTasks.{quiet_each, go_on_once}
 use Rattle.run_data.proofs.Scoping.{both_hold}
 
@@ -195,44 +195,44 @@ module _ (model : Parts) (plan : Plan) where
     entries_quiet (entry ∷ rest) stands =
         (planned_quiet entry.0 entry.1.phase (all_planned.tasks entry.0 entry.1 (stands 0 entry.0 entry.1 refl)).phase, entries_quiet rest (λ n path task at. stands (suc n) path task at))
 
-    start_quiet : AllQuiet (first_place_of model plan).table (first_place_of model plan).table
+    start_quiet : AllQuiet (first_point_of model plan).table (first_point_of model plan).table
     start_quiet = all_rested_quiet 0 before (entries_quiet before (λ number path task at. stands_at before number path task all_planned.order at))
 
--- ---- each turn
+-- ---- each transition
 
 module _ (model : Parts) (plan : Plan) (bound : ℕ) where
-  abbrev QuietPlace : Next SimulationState Run → Type 0
-  QuietPlace (more at) = AllQuiet at.table at.table
-  QuietPlace (finished run) = Unit {0}
+  abbrev QuietPoint : Next SimulationState Run → Type 0
+  QuietPoint (more at) = AllQuiet at.table at.table
+  QuietPoint (finished run) = Unit {0}
 
-  outcome_quiet : (at : SimulationState) (outcome : Batch) → QuietPlace (after_outcome model plan bound at outcome)
+  outcome_quiet : (at : SimulationState) (outcome : Batch) → QuietPoint (after_outcome model plan bound at outcome)
   outcome_quiet at limit = tt
   outcome_quiet at (failed who fault) = tt
   outcome_quiet at (committed cells touched frames) = (go_on_once at.time at.time (after_frames at.time frames at.table)).0
 
-  time_quiet : (at : SimulationState) → AllQuiet at.table at.table → (time : ℕ) (cells : List CellState) (out : Option ℕ) → QuietPlace (to_time model plan bound at time cells out)
+  time_quiet : (at : SimulationState) → AllQuiet at.table at.table → (time : ℕ) (cells : List CellState) (out : Option ℕ) → QuietPoint (to_time model plan bound at time cells out)
   time_quiet at all time cells (Some cell) = tt
   time_quiet at all time cells None = all_rested_quiet time at.table all
 
-  end_quiet : (at : SimulationState) (out : Option ℕ) → QuietPlace (to_end model plan bound at out)
+  end_quiet : (at : SimulationState) (out : Option ℕ) → QuietPoint (to_end model plan bound at out)
   end_quiet at (Some cell) = tt
   end_quiet at None = tt
 
-  moved_quiet : (at : SimulationState) → AllQuiet at.table at.table → (time : Option ℕ) → QuietPlace (moved model plan bound at time)
+  moved_quiet : (at : SimulationState) → AllQuiet at.table at.table → (time : Option ℕ) → QuietPoint (moved model plan bound at time)
   moved_quiet at all None = end_quiet at (first_out (passed at.cells (plan.duration - at.time)))
   moved_quiet at all (Some time) = time_quiet at all time (passed at.cells (time - at.time)) (first_out (passed at.cells (time - at.time)))
 
-  turn_quiet : (at : SimulationState) → AllQuiet at.table at.table → (jobs : List (ℕ × Job)) → QuietPlace (woken_or_moved model plan bound at (on_each (woken at.cells) at.table) jobs)
-  turn_quiet at all [] = moved_quiet at all (below plan.duration (least_due at.time plan.duration at.cells at.table))
-  turn_quiet at all (job ∷ rest) = all_woken_quiet at.cells at.table all
+  transition_quiet : (at : SimulationState) → AllQuiet at.table at.table → (jobs : List (ℕ × Job)) → QuietPoint (woken_or_moved model plan bound at (on_each (woken at.cells) at.table) jobs)
+  transition_quiet at all [] = moved_quiet at all (below plan.duration (least_due at.time plan.duration at.cells at.table))
+  transition_quiet at all (job ∷ rest) = all_woken_quiet at.cells at.table all
 
-  next_quiet : (at : SimulationState) → AllQuiet at.table at.table → (jobs : List (ℕ × Job)) → QuietPlace (next_by model plan bound at jobs)
-  next_quiet at all [] = turn_quiet at all (ready_jobs at.cells (on_each (woken at.cells) at.table))
+  next_quiet : (at : SimulationState) → AllQuiet at.table at.table → (jobs : List (ℕ × Job)) → QuietPoint (next_by model plan bound at jobs)
+  next_quiet at all [] = transition_quiet at all (ready_jobs at.cells (on_each (woken at.cells) at.table))
   next_quiet at all (job ∷ rest) = outcome_quiet at (batch model bound at.spent at.cells (job ∷ rest))
 
-  quiet_reached : IsPlanOf model plan → (place : Next SimulationState Run) → IsReached model plan bound place → QuietPlace place
+  quiet_reached : IsPlanOf model plan → (point : Next SimulationState Run) → IsReached model plan bound point → QuietPoint point
   quiet_reached is (more at) begins = start_quiet model plan is
-  quiet_reached is place (onward {place = at} reached) = next_quiet at (quiet_reached is (more at) reached) (ready_jobs at.cells at.table)
+  quiet_reached is point (onward {point = at} reached) = next_quiet at (quiet_reached is (more at) reached) (ready_jobs at.cells at.table)
 
 pub reached_is_quiet : ReachedIsQuiet
 reached_is_quiet model plan bound at is reached = quiet_reached model plan bound is (more at) reached

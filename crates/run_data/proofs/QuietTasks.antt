@@ -12,7 +12,7 @@ use Rattle.run_data.specs.laws.GoingOn.{HasFrame, at_first, at_later, IsQuiet, A
 use Rattle.run_data.specs.laws.OrderedTables.{IsOrderedTable}
 use Rattle.run_data.proofs.EndedTasks.{ended_by_frames}
 use Rattle.run_data.proofs.Ending.{back_open, due_open}
-use Rattle.run_data.proofs.OrderedTables.{at_with, is_same}
+use Rattle.run_data.specs.TableLaws.{at_with, is_same}
 
 -- ---- by frames
 
@@ -109,11 +109,11 @@ none_goes_on now table all = none_changes now table table all
 -- a change that leaves bodies open and begun leaves what has ended and begun
 module _ (change : List ℕ → Task → Task) (open_ : (path : List ℕ) (task : Task) → is_open (change path task).phase ≡ is_open task.phase)
     (begun : (path : List ℕ) (task : Task) → (change path task).begun ≡ task.begun) where
-  ended_each : (table : Table) (path : List ℕ) → has_ended (on_each change table) path ≡ has_ended table path
+  pub ended_each : (table : Table) (path : List ℕ) → has_ended (on_each change table) path ≡ has_ended table path
   ended_each [] path = refl
   ended_each (entry ∷ rest) path = rw (open_ entry.0 entry.1, ended_each rest path) refl
 
-  begun_each : (table : Table) (path : List ℕ) → has_begun (task_at (on_each change table) path) ≡ has_begun (task_at table path)
+  pub begun_each : (table : Table) (path : List ℕ) → has_begun (task_at (on_each change table) path) ≡ has_begun (task_at table path)
   begun_each [] path = refl
   begun_each (entry ∷ rest) path = by (is_at (path_cmp path) entry.0) (begun_each rest path)
     where
@@ -122,7 +122,7 @@ module _ (change : List ℕ → Task → Task) (open_ : (path : List ℕ) (task 
       by true further = begun entry.0 entry.1
       by false further = further
 
-  come_each : (table : Table) (to : ℕ) (edge : Edge) → has_come (on_each change table) to edge ≡ has_come table to edge
+  pub come_each : (table : Table) (to : ℕ) (edge : Edge) → has_come (on_each change table) to edge ≡ has_come table to edge
   come_each table to Start = begun_each table (root to)
   come_each table to End = ended_each table (root to)
 

@@ -24,16 +24,15 @@ use Rattle.run_data.specs.laws.BatchFrames.{OfReady, OfChild, AreFramesOf, Batch
 use Rattle.run_data.specs.laws.Orders.{EachOf}
 use Rattle.run_data.specs.laws.ReachedStates.{IsTableOf, ReachedIsOfModel}
 use Rattle.run_data.proofs.EffectKinds.{MadeLeaves, jobs_leave, committed_are, passed_are}
-use Rattle.run_data.proofs.Ending.{sorted_each, sorted_cost}
-use Rattle.run_data.proofs.FramesByPath.{new_at, any_sorted, differ_sorted}
-use Rattle.run_data.proofs.OrderedTables.{at_with}
+use Rattle.run_data.proofs.FramesByPath.{new_at, differ_sorted}
+use Rattle.run_data.specs.FrameLaws.{any_sorted, each_sorted, sorted_cost}
+use Rattle.run_data.specs.TableLaws.{at_with}
 use Rattle.run_data.proofs.MadeByJobs.{MadeAmong, GoodJobs, Known, Begins, jobs_good}
-use Rattle.run_data.proofs.Paying.{EachFrame}
 use Rattle.run_data.proofs.ReadyJobs.{OfTable, none_to_come, jobs_of_table, jobs_apart, are_jobs, jobs_within, each_weaker}
 use Rattle.run_data.proofs.Rising.{stands_well}
 use Rattle.run_data.proofs.StartOfModel.{start_table, start_made, start_cells, start_in_range}
 use Rattle.run_data.proofs.StepEndings.{GoodJob}
-use Rattle.run_data.proofs.TableOfModel.{Keeps, found_at, table_changed, rested_keeps, woken_keeps, gone_keeps, batch_keeps_table}
+use Rattle.run_data.proofs.TableOfModel.{Keeps, found_at, table_changed, rested_keeps, woken_keeps, gone_keeps, called, batch_keeps_table}
 
 -- ---- no frame of a committed batch faulted
 
@@ -41,12 +40,12 @@ blame_stays : (path : List ℕ) (fault : Fault) (rest : Option Blame) → lesser
 blame_stays path fault None e = absurd (cc)
 blame_stays path fault (Some other) e = absurd (cc)
 
-none_faulted : (frames : List Frame) → least_fault frames ≡ None → EachFrame (λ frame. fault_in frame.status ≡ None) frames
+pub none_faulted : (frames : List Frame) → least_fault frames ≡ None → EachOf (λ frame. fault_in frame.status ≡ None) frames
 none_faulted [] e = tt
 none_faulted (frame ∷ rest) e = by (fault_in frame.status) refl e (none_faulted rest)
   where
-    by : (fault : Option Fault) → fault_in frame.status ≡ fault → blamed frame.path fault (least_fault rest) ≡ None → (least_fault rest ≡ None → EachFrame (λ one. fault_in one.status ≡ None) rest) →
-        EachFrame (λ one. fault_in one.status ≡ None) (frame ∷ rest)
+    by : (fault : Option Fault) → fault_in frame.status ≡ fault → blamed frame.path fault (least_fault rest) ≡ None → (least_fault rest ≡ None → EachOf (λ one. fault_in one.status ≡ None) rest) →
+        EachOf (λ one. fault_in one.status ≡ None) (frame ∷ rest)
     by None same none further = (same, further none)
     by (Some fault) same none further = absurd (blame_stays frame.path fault (least_fault rest) none)
 
@@ -69,7 +68,7 @@ frame_most now most frame table few all path task e = by (is_at (path_cmp path) 
         omega (arith, made, few, most_by most (task_at table frame.path) (λ old there. all frame.path old there))
     by false same = omega (arith, all path task same)
 
-frames_most : (now most : ℕ) (frames : List Frame) (table : Table) → EachFrame (λ frame. children_in frame.items ≤ frame.cost) frames → MadeMost most table →
+frames_most : (now most : ℕ) (frames : List Frame) (table : Table) → EachOf (λ frame. children_in frame.items ≤ frame.cost) frames → MadeMost most table →
     MadeMost (most + cost_of frames) (after_frames now frames table)
 frames_most now most [] table few all path task e = omega (arith, all path task e)
 frames_most now most (frame ∷ rest) table few all path task e =
@@ -81,11 +80,11 @@ changed_most model change table most keeps all path task e =
     let same : (change path found.old).made ≡ task.made = ap (λ (t : Task). t.made) found.is in
     omega (arith, all path found.old found.there, keeps.made path found.old, same)
 
-few_each : (P Q : Frame → Type 0) → ((frame : Frame) → P frame → Q frame) → (frames : List Frame) → EachFrame P frames → EachFrame Q frames
+few_each : (P Q : Frame → Type 0) → ((frame : Frame) → P frame → Q frame) → (frames : List Frame) → EachOf P frames → EachOf Q frames
 few_each P Q gives [] each = tt
 few_each P Q gives (frame ∷ rest) each = (gives frame each.0, few_each P Q gives rest each.1)
 
-each_of : (P : Frame → Type 0) (frames : List Frame) → EachFrame P frames → EachOf P frames
+each_of : (P : Frame → Type 0) (frames : List Frame) → EachOf P frames → EachOf P frames
 each_of P [] each = tt
 each_of P (frame ∷ rest) each = (each.0, each_of P rest each.1)
 
@@ -98,8 +97,8 @@ module _ (model : Parts) (valid : IsTrue (valid_model model)) (cells : List Cell
       (λ job of. record { state = of.good; view = subst (AreCellsOf model) (sym of.view) are }) (ready_jobs cells table) (jobs_of_table model cells table is)
 
   module _ (made : Made) (none : least_fault made.frames ≡ None) (budget : ℕ) (e : made_by_all model budget (ready_jobs cells table) ≡ Some made) (now : ℕ) where
-    sound : EachFrame (λ frame. fault_in frame.status ≡ None) (by_path made.frames)
-    sound = sorted_each (λ frame. fault_in frame.status ≡ None) made.frames (none_faulted made.frames none)
+    sound : EachOf (λ frame. fault_in frame.status ≡ None) (by_path made.frames)
+    sound = each_sorted (λ frame. fault_in frame.status ≡ None) made.frames (none_faulted made.frames none)
 
     begins_of : (job : ℕ × Job) → OfTable model cells table job → Begins model valid table (by_path made.frames) sound job.0 job.1
     begins_of job of = record {
@@ -127,21 +126,22 @@ module _ (model : Parts) (valid : IsTrue (valid_model model)) (cells : List Cell
     pub after_table : IsTableOf model (after_batch now (by_path made.frames) table)
     after_table =
         batch_keeps_table model valid table is (by_path made.frames) sound
-        (sorted_each (Known model valid table (by_path made.frames) sound) made.frames all_good.each) (differ_sorted made.frames all_good.differ) now
+        (each_sorted (Known model valid table (by_path made.frames) sound) made.frames all_good.each) (differ_sorted made.frames all_good.differ) now
 
     pub frames_are : AreFramesOf table (by_path made.frames)
     frames_are =
-        let all = sorted_each (Known model valid table (by_path made.frames) sound) made.frames all_good.each in record {
+        let all = each_sorted (Known model valid table (by_path made.frames) sound) made.frames all_good.each in record {
           differ = differ_sorted made.frames all_good.differ;
           origin = each_of (λ frame. OfReady table frame ⊎ OfChild table (by_path made.frames) frame) (by_path made.frames)
               (few_each (Known model valid table (by_path made.frames) sound) (λ frame. OfReady table frame ⊎ OfChild table (by_path made.frames) frame) (λ frame known. known.origin) (by_path made.frames) all);
           few = each_of (λ frame. children_in frame.items ≤ frame.cost) (by_path made.frames)
               (few_each (Known model valid table (by_path made.frames) sound) (λ frame. children_in frame.items ≤ frame.cost) (λ frame known. known.few) (by_path made.frames) all);
+          calls = called model valid table is (by_path made.frames) sound all (differ_sorted made.frames all_good.differ) now;
         }
 
     pub after_made : (most : ℕ) → MadeMost most table → MadeMost (most + cost_of (by_path made.frames)) (after_batch now (by_path made.frames) table)
     after_made most before =
-        let few = sorted_each (λ frame. children_in frame.items ≤ frame.cost) made.frames
+        let few = each_sorted (λ frame. children_in frame.items ≤ frame.cost) made.frames
         (few_each (Known model valid table (by_path made.frames) sound) (λ frame. children_in frame.items ≤ frame.cost) (λ frame known. known.few) made.frames all_good.each) in
         changed_most model (gone_on (after_frames now (by_path made.frames) table) now) (after_frames now (by_path made.frames) table) (most + cost_of (by_path made.frames))
         (gone_keeps model now (after_frames now (by_path made.frames) table)) (frames_most now most (by_path made.frames) table few before)
@@ -189,18 +189,18 @@ module _ (model : Parts) (plan : Plan) (bound : ℕ) (valid : IsTrue (valid_mode
     pub spent : at.spent ≤ bound
     pub made : MadeMost at.spent at.table
 
-  abbrev pub GoodPlace : Next SimulationState Run → Type 0
-  GoodPlace (more at) = Here at
-  GoodPlace (finished run) = Unit {0}
+  abbrev pub GoodPoint : Next SimulationState Run → Type 0
+  GoodPoint (more at) = Here at
+  GoodPoint (finished run) = Unit {0}
 
   outcome_good : (at : SimulationState) → (here : Here at) → (outcome : Batch) → BatchGood model valid at.cells here.cells at.table here.table bound at.spent at.time outcome →
-      GoodPlace (after_outcome model plan bound at outcome)
+      GoodPoint (after_outcome model plan bound at outcome)
   outcome_good at here limit good = tt
   outcome_good at here (failed who fault) good = tt
   outcome_good at here (committed cells touched frames) good = record { table = good.0; cells = good.1; in_range = good.2; spent = good.3; made = good.4 here.made }
 
   time_good : (at : SimulationState) → Here at → (time : ℕ) (cells : List CellState) → AreCellsOf model cells → (out : Option ℕ) → first_out cells ≡ out →
-      GoodPlace (to_time model plan bound at time cells out)
+      GoodPoint (to_time model plan bound at time cells out)
   time_good at here time cells are (Some cell) e = tt
   time_good at here time cells are None e = record {
     table = table_changed model (rested time) at.table here.table (rested_keeps model time at.table);
@@ -210,16 +210,16 @@ module _ (model : Parts) (plan : Plan) (bound : ℕ) (valid : IsTrue (valid_mode
     made = changed_most model (rested time) at.table at.spent (rested_keeps model time at.table) here.made;
   }
 
-  end_good : (at : SimulationState) (out : Option ℕ) → GoodPlace (to_end model plan bound at out)
+  end_good : (at : SimulationState) (out : Option ℕ) → GoodPoint (to_end model plan bound at out)
   end_good at (Some cell) = tt
   end_good at None = tt
 
-  moved_good : (at : SimulationState) → Here at → (time : Option ℕ) → GoodPlace (moved model plan bound at time)
+  moved_good : (at : SimulationState) → Here at → (time : Option ℕ) → GoodPoint (moved model plan bound at time)
   moved_good at here None = end_good at (first_out (passed at.cells (plan.duration - at.time)))
   moved_good at here (Some time) =
       time_good at here time (passed at.cells (time - at.time)) (passed_are model at.cells (time - at.time) here.cells) (first_out (passed at.cells (time - at.time))) refl
 
-  judged_good : (at : SimulationState) → Here at → (jobs : List (ℕ × Job)) → GoodPlace (woken_or_moved model plan bound at (on_each (woken at.cells) at.table) jobs)
+  judged_good : (at : SimulationState) → Here at → (jobs : List (ℕ × Job)) → GoodPoint (woken_or_moved model plan bound at (on_each (woken at.cells) at.table) jobs)
   judged_good at here [] = moved_good at here (below plan.duration (least_due at.time plan.duration at.cells at.table))
   judged_good at here (job ∷ rest) = record {
     table = table_changed model (woken at.cells) at.table here.table (woken_keeps model at.cells at.table);
@@ -229,7 +229,7 @@ module _ (model : Parts) (plan : Plan) (bound : ℕ) (valid : IsTrue (valid_mode
     made = changed_most model (woken at.cells) at.table at.spent (woken_keeps model at.cells at.table) here.made;
   }
 
-  next_by_good : (at : SimulationState) → Here at → (jobs : List (ℕ × Job)) → ready_jobs at.cells at.table ≡ jobs → GoodPlace (next_by model plan bound at jobs)
+  next_by_good : (at : SimulationState) → Here at → (jobs : List (ℕ × Job)) → ready_jobs at.cells at.table ≡ jobs → GoodPoint (next_by model plan bound at jobs)
   next_by_good at here [] e = judged_good at here (ready_jobs at.cells (on_each (woken at.cells) at.table))
   next_by_good at here (job ∷ rest) e =
       outcome_good at here (batch model bound at.spent at.cells (job ∷ rest))
@@ -239,9 +239,9 @@ module _ (model : Parts) (plan : Plan) (bound : ℕ) (valid : IsTrue (valid_mode
   start_good : IsPlanOf model plan → Here (start model plan)
   start_good is = record { table = start_table model valid plan is; cells = start_cells model valid; in_range = start_in_range model valid; spent = omega arith; made = start_made model valid plan is }
 
-  pub reached_good : IsPlanOf model plan → (place : Next SimulationState Run) → IsReached model plan bound place → GoodPlace place
+  pub reached_good : IsPlanOf model plan → (point : Next SimulationState Run) → IsReached model plan bound point → GoodPoint point
   reached_good is (more at) begins = start_good is
-  reached_good is place (onward {place = at} before) = next_by_good at (reached_good is (more at) before) (ready_jobs at.cells at.table) refl
+  reached_good is point (onward {point = at} before) = next_by_good at (reached_good is (more at) before) (ready_jobs at.cells at.table) refl
 
 pub reached_is_of_model : ReachedIsOfModel
 reached_is_of_model model plan bound at valid is reached =

@@ -23,13 +23,13 @@ use Rattle.run_data.specs.declared.frames.Item.{Item}
 use Rattle.run_data.specs.declared.frames.Item.TheVariants as item
 use Rattle.run_data.specs.declared.frames.Status.{Status}
 use Rattle.run_data.specs.declared.frames.Status.TheVariants.{Done, Faulted}
-use Rattle.run_data.specs.StepStates.{StepState, after_items, starting, seen, valued, with_flags, paid}
-use Rattle.run_data.specs.Steps.{Turn, onward, ended, Stepped, with_evaluated, with_value, with_first, first_of, valued_all, with_all, act, emission_expr, after, after_test, perform, steps}
+use Rattle.run_data.specs.StepStates.{StepState, after_items, starting, value_read, valued, with_flags, paid}
+use Rattle.run_data.specs.Steps.{Acted, onward, ended, Stepped, with_evaluated, with_value, with_first, first_of, valued_all, with_all, act, emission_expr, after, after_test, perform, steps}
 use Rattle.run_data.specs.Frames.{read_from}
 use Rattle.run_data.specs.Records.{Agrees}
 use Rattle.run_data.specs.TaskStates.{body_of}
 use Rattle.run_data.specs.laws.Reads.{seeing, StepDependsOnReads, FrameDependsOnReads}
-use Rattle.run_data.proofs.Keeping.{TurnKeeps, act_keeps}
+use Rattle.run_data.proofs.Keeping.{ActedKeeps, act_keeps}
 
 -- ---- cells that agree
 
@@ -78,45 +78,45 @@ agree_before before later view other more agree cell read_flags = agree cell (mo
 -- ---- expressions
 
 valued_grows : (so_far : StepState) (expr : Expr) → Grows so_far.read_flags (valued so_far expr).1
-valued_grows so_far expr = grows expr so_far.locals (seen so_far.view so_far.items) so_far.read_flags
+valued_grows so_far expr = grows expr so_far.locals (value_read so_far.view so_far.items) so_far.read_flags
 
 valued_same : (so_far : StepState) (other : List CellState) (expr : Expr) → AgreeOn (valued so_far expr).1 so_far.view other → valued (seeing other so_far) expr ≡ valued so_far expr
 valued_same so_far other expr agree =
-    depends expr so_far.locals (seen so_far.view so_far.items) (seen other so_far.items) so_far.read_flags
+    depends expr so_far.locals (value_read so_far.view so_far.items) (value_read other so_far.items) so_far.read_flags
     (λ read read_flags. ap (state_value read) (after_same so_far.view other so_far.items (cell_of read) (agree (cell_of read) read_flags)))
 
 -- ---- statements without blocks
 
-abbrev noted_in : Turn → List Bool
+abbrev noted_in : Acted → List Bool
 noted_in (onward so_far) = so_far.read_flags
 noted_in (ended status so_far) = so_far.read_flags
 
-abbrev turn_seeing : List CellState → Turn → Turn
-turn_seeing other (onward so_far) = onward (seeing other so_far)
-turn_seeing other (ended status so_far) = ended status (seeing other so_far)
+abbrev acted_seeing : List CellState → Acted → Acted
+acted_seeing other (onward so_far) = onward (seeing other so_far)
+acted_seeing other (ended status so_far) = ended status (seeing other so_far)
 
 -- what follows reads nothing more
-record ReadsNoMore {A : Type 0} (go : A → StepState → Turn) : Type 0 where
+record ReadsNoMore {A : Type 0} (go : A → StepState → Acted) : Type 0 where
   read_flags : (value : A) (so_far : StepState) → noted_in (go value so_far) ≡ so_far.read_flags
-  same : (value : A) (so_far : StepState) (other : List CellState) → go value (seeing other so_far) ≡ turn_seeing other (go value so_far)
+  same : (value : A) (so_far : StepState) (other : List CellState) → go value (seeing other so_far) ≡ acted_seeing other (go value so_far)
 
-noted_flags : (so_far : StepState) (result : Evaluated) (go : Value → StepState → Turn) → ReadsNoMore go → noted_in (with_evaluated so_far result go) ≡ result.1
+noted_flags : (so_far : StepState) (result : Evaluated) (go : Value → StepState → Acted) → ReadsNoMore go → noted_in (with_evaluated so_far result go) ≡ result.1
 noted_flags so_far (Err fault, read_flags) go plain = refl
 noted_flags so_far (Ok value, read_flags) go plain = plain.read_flags value (with_flags so_far read_flags)
 
-noted_same : (so_far : StepState) (other : List CellState) (result : Evaluated) (go : Value → StepState → Turn) → ReadsNoMore go →
-    with_evaluated (seeing other so_far) result go ≡ turn_seeing other (with_evaluated so_far result go)
+noted_same : (so_far : StepState) (other : List CellState) (result : Evaluated) (go : Value → StepState → Acted) → ReadsNoMore go →
+    with_evaluated (seeing other so_far) result go ≡ acted_seeing other (with_evaluated so_far result go)
 noted_same so_far other (Err fault, read_flags) go plain = refl
 noted_same so_far other (Ok value, read_flags) go plain = plain.same value (with_flags so_far read_flags) other
 
-value_same : (so_far : StepState) (other : List CellState) (expr : Expr) (go : Value → StepState → Turn) → ReadsNoMore go →
-    AgreeOn (noted_in (with_value so_far expr go)) so_far.view other → with_value (seeing other so_far) expr go ≡ turn_seeing other (with_value so_far expr go)
+value_same : (so_far : StepState) (other : List CellState) (expr : Expr) (go : Value → StepState → Acted) → ReadsNoMore go →
+    AgreeOn (noted_in (with_value so_far expr go)) so_far.view other → with_value (seeing other so_far) expr go ≡ acted_seeing other (with_value so_far expr go)
 value_same so_far other expr go plain agree =
     let read : AgreeOn (valued so_far expr).1 so_far.view other =
     subst (λ read_flags. AgreeOn read_flags so_far.view other) (noted_flags so_far (valued so_far expr) go plain) agree in
     ap (λ result. with_evaluated (seeing other so_far) result go) (valued_same so_far other expr read) ∙ noted_same so_far other (valued so_far expr) go plain
 
-value_grows : (so_far : StepState) (expr : Expr) (go : Value → StepState → Turn) → ReadsNoMore go → Grows so_far.read_flags (noted_in (with_value so_far expr go))
+value_grows : (so_far : StepState) (expr : Expr) (go : Value → StepState → Acted) → ReadsNoMore go → Grows so_far.read_flags (noted_in (with_value so_far expr go))
 value_grows so_far expr go plain = subst (Grows so_far.read_flags) (sym (noted_flags so_far (valued so_far expr) go plain)) (valued_grows so_far expr)
 
 first_grows : (so_far : StepState) (result : Evaluated) (go : StepState → Result (List Value) Fault × StepState) → ((read_flags : List Bool) → Grows read_flags (go (with_flags so_far read_flags)).1.read_flags) →
@@ -146,23 +146,23 @@ all_same (expr ∷ rest) so_far other agree =
     ap (λ result. first_of (seeing other so_far) result (valued_all rest)) (valued_same so_far other expr (agree_before _ _ so_far.view other more agree))
     ∙ first_same so_far other (valued so_far expr) (valued_all rest) (λ read_flags. all_same rest (with_flags so_far read_flags) other) agree
 
-all_flags : (result : Result (List Value) Fault × StepState) (go : List Value → StepState → Turn) → ReadsNoMore go → noted_in (with_all result go) ≡ result.1.read_flags
+all_flags : (result : Result (List Value) Fault × StepState) (go : List Value → StepState → Acted) → ReadsNoMore go → noted_in (with_all result go) ≡ result.1.read_flags
 all_flags (Err fault, so_far) go plain = refl
 all_flags (Ok values, so_far) go plain = plain.read_flags values so_far
 
-all_seeing : (result : Result (List Value) Fault × StepState) (go : List Value → StepState → Turn) (other : List CellState) → ReadsNoMore go →
-    with_all (pair_seeing other result) go ≡ turn_seeing other (with_all result go)
+all_seeing : (result : Result (List Value) Fault × StepState) (go : List Value → StepState → Acted) (other : List CellState) → ReadsNoMore go →
+    with_all (pair_seeing other result) go ≡ acted_seeing other (with_all result go)
 all_seeing (Err fault, so_far) go other plain = refl
 all_seeing (Ok values, so_far) go other plain = plain.same values so_far other
 
-values_same : (so_far : StepState) (other : List CellState) (exprs : List Expr) (go : List Value → StepState → Turn) → ReadsNoMore go →
+values_same : (so_far : StepState) (other : List CellState) (exprs : List Expr) (go : List Value → StepState → Acted) → ReadsNoMore go →
     AgreeOn (noted_in (with_all (valued_all exprs so_far) go)) so_far.view other →
-    with_all (valued_all exprs (seeing other so_far)) go ≡ turn_seeing other (with_all (valued_all exprs so_far) go)
+    with_all (valued_all exprs (seeing other so_far)) go ≡ acted_seeing other (with_all (valued_all exprs so_far) go)
 values_same so_far other exprs go plain agree =
     let read = subst (λ read_flags. AgreeOn read_flags so_far.view other) (all_flags (valued_all exprs so_far) go plain) agree in
     ap (λ result. with_all result go) (all_same exprs so_far other read) ∙ all_seeing (valued_all exprs so_far) go other plain
 
-values_grows : (so_far : StepState) (exprs : List Expr) (go : List Value → StepState → Turn) → ReadsNoMore go → Grows so_far.read_flags (noted_in (with_all (valued_all exprs so_far) go))
+values_grows : (so_far : StepState) (exprs : List Expr) (go : List Value → StepState → Acted) → ReadsNoMore go → Grows so_far.read_flags (noted_in (with_all (valued_all exprs so_far) go))
 values_grows so_far exprs go plain = subst (Grows so_far.read_flags) (sym (all_flags (valued_all exprs so_far) go plain)) (all_grows exprs so_far)
 
 act_grows : (kind : BodyId) (at : ℕ) (stmt : Stmt-F Stmt) (so_far : StepState) → Grows so_far.read_flags (noted_in (act kind at stmt so_far))
@@ -179,7 +179,7 @@ act_grows kind at (Stmt-F.Return None) so_far = unchanged so_far.read_flags
 act_grows kind at (Stmt-F.Return (Some expr)) so_far = value_grows so_far expr _ (record { read_flags = λ v c. refl; same = λ v c other. refl })
 
 act_same : (kind : BodyId) (at : ℕ) (stmt : Stmt-F Stmt) (so_far : StepState) (other : List CellState) → AgreeOn (noted_in (act kind at stmt so_far)) so_far.view other →
-    act kind at stmt (seeing other so_far) ≡ turn_seeing other (act kind at stmt so_far)
+    act kind at stmt (seeing other so_far) ≡ acted_seeing other (act kind at stmt so_far)
 act_same kind at (Stmt-F.Let slot expr) so_far other = value_same so_far other expr _ (record { read_flags = λ v c. refl; same = λ v c other. refl })
 act_same kind at (Stmt-F.Assign slot expr) so_far other = value_same so_far other expr _ (record { read_flags = λ v c. refl; same = λ v c other. refl })
 act_same kind at (Stmt-F.Emit cell what) so_far other = value_same so_far other (emission_expr what) _ (record { read_flags = λ v c. refl; same = λ v c other. refl })
@@ -203,7 +203,7 @@ both_are status ending so_far last e =
 abbrev NotesMore : (StepState → Stepped) → Status → StepState → Type 0
 NotesMore go ending last = (so_far : StepState) → go so_far ≡ Some (ending, last) → Grows so_far.read_flags last.read_flags
 
-after_grows : (turn : Turn) (go : StepState → Stepped) (ending : Status) (last : StepState) → NotesMore go ending last → after turn go ≡ Some (ending, last) → Grows (noted_in turn) last.read_flags
+after_grows : (acted : Acted) (go : StepState → Stepped) (ending : Status) (last : StepState) → NotesMore go ending last → after acted go ≡ Some (ending, last) → Grows (noted_in acted) last.read_flags
 after_grows (onward so_far) go ending last h e = h so_far e
 after_grows (ended status so_far) go ending last h e = subst (λ c. Grows so_far.read_flags c.read_flags) (both_are status ending so_far last e).1 (unchanged so_far.read_flags)
 
@@ -249,9 +249,9 @@ ended_same view other status ending so_far last is e =
     let both = both_are status ending so_far last e in
     ((λ i. Some (both.0 i, seeing other (both.1 i))), sym (ap (λ x. x.view) both.1) ∙ is)
 
-after_seeing : (view other : List CellState) (so_far : StepState) (turn : Turn) (go : StepState → Stepped) (ending : Status) (last : StepState) → so_far.view ≡ view → TurnKeeps so_far turn →
-    SameIn view other go ending last → after turn go ≡ Some (ending, last) → AgreeOn last.read_flags view other →
-    (after (turn_seeing other turn) go ≡ Some (ending, seeing other last)) × (last.view ≡ view)
+after_seeing : (view other : List CellState) (so_far : StepState) (acted : Acted) (go : StepState → Stepped) (ending : Status) (last : StepState) → so_far.view ≡ view → ActedKeeps so_far acted →
+    SameIn view other go ending last → after acted go ≡ Some (ending, last) → AgreeOn last.read_flags view other →
+    (after (acted_seeing other acted) go ≡ Some (ending, seeing other last)) × (last.view ≡ view)
 after_seeing view other so_far (onward next) go ending last is keeps h e agree = h next (keeps.view ∙ is) e agree
 after_seeing view other so_far (ended status c) go ending last is keeps h e agree = ended_same view other status ending c last (keeps.view ∙ is) e
 
@@ -263,7 +263,7 @@ simple_same view other kind at stmt so_far go ending last more h is e agree =
     let read : AgreeOn (noted_in (act kind at stmt so_far)) so_far.view other =
     subst (λ v. AgreeOn (noted_in (act kind at stmt so_far)) v other) (sym is) (agree_before _ _ view other up agree) in
     let again = after_seeing view other so_far (act kind at stmt so_far) go ending last is (act_keeps kind at stmt so_far) h e agree in
-    (ap (λ turn. after turn go) (act_same kind at stmt so_far other read) ∙ again.0, again.1)
+    (ap (λ acted. after acted go) (act_same kind at stmt so_far other read) ∙ again.0, again.1)
 
 test_seeing : (view other : List CellState) (so_far : StepState) (result : Evaluated) (go : Bool → StepState → Stepped) (ending : Status) (last : StepState) →
     ((holds : Bool) → SameIn view other (go holds) ending last) → so_far.view ≡ view → after_test so_far result go ≡ Some (ending, last) → AgreeOn last.read_flags view other →

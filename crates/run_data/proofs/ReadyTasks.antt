@@ -18,7 +18,7 @@ use Rattle.run_data.specs.Tasks.{TaskPhase, anchored, ready, delayed, waiting, c
 use Rattle.run_data.specs.laws.NumberedTasks.{sorted_tasks}
 use Rattle.run_data.specs.laws.OrderedTables.{Above, IsOrderedTable}
 use Rattle.run_data.specs.laws.ReadyTasks.{is_ready_phase, is_ready, jobs_by, ReadyByIndex}
-use Rattle.run_data.proofs.NumberedTasks.{at_number, in_order_sorted}
+use Rattle.run_data.specs.NumberLaws.{at_number, in_order_sorted}
 
 abbrev IsSorted : Table → Type 0
 IsSorted table = IsStrictlySortedBy path_cmp (keys_of table)

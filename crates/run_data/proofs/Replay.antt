@@ -23,15 +23,15 @@ use Rattle.run_data.specs.laws.Replay.{CellsAreReplayed}
 use Rattle.run_data.specs.laws.Rising.{AreBefore}
 use Rattle.run_data.proofs.DueTimes.{StillWaits, IsAfter, least_is_after, none_ready, passed_none}
 use Rattle.run_data.proofs.Rising.{StandsWell, stands_well, below_is}
-use Rattle.run_data.proofs.Tables.{Each}
+use Rattle.run_data.specs.TaskLaws.{Each}
 
 -- ---- cells that differ only where an effect was
 
-abbrev is_in : ℕ → List ℕ → Bool
+abbrev pub is_in : ℕ → List ℕ → Bool
 is_in cell touched = list_any (nat_eq cell) touched
 
 -- as many cells, and those that are not touched are the same; the first is cell `from`
-abbrev SameElsewhere : ℕ → List ℕ → List CellState → List CellState → Type 0
+abbrev pub SameElsewhere : ℕ → List ℕ → List CellState → List CellState → Type 0
 SameElsewhere from touched [] [] = Unit {0}
 SameElsewhere from touched [] (state ∷ states) = ⊥
 SameElsewhere from touched (state ∷ rest) [] = ⊥
@@ -139,15 +139,15 @@ with_last from cells (instant ∷ rest) last t before less =
 
 module _ (model : Parts) (plan : Plan) (bound : ℕ) where
   -- the cells with which this time began
-  abbrev cells_before : SimulationState → List CellState
+  abbrev pub cells_before : SimulationState → List CellState
   cells_before at = cells_from 0 (initial model) at.instants at.time
 
-  abbrev Follows : SimulationState → Type 0
+  abbrev pub Follows : SimulationState → Type 0
   Follows at = SameElsewhere 0 at.touched (cells_before at) at.cells
 
-  abbrev PlaceFollows : Next SimulationState Run → Type 0
-  PlaceFollows (more at) = Follows at
-  PlaceFollows (finished run) = Unit {0}
+  abbrev pub PointFollows : Next SimulationState Run → Type 0
+  PointFollows (more at) = Follows at
+  PointFollows (finished run) = Unit {0}
 
   pub replayed : (at : SimulationState) → StandsWell plan at → Follows at → (t : ℕ) → at.time ≤ t → cells_from 0 (initial model) (settled model plan bound at) t ≡ passed at.cells (t - at.time)
   replayed at well follows t less =
@@ -176,7 +176,7 @@ module _ (model : Parts) (plan : Plan) (bound : ℕ) where
   making_of_tree spent cells None = tt
   making_of_tree spent cells (Some made) = within_of_tree cells made (if nat_lt bound (spent + cost_of made.frames) then false else true)
 
-  outcome_follows : (at : SimulationState) (outcome : Batch) → OfTree at.cells outcome → Follows at → PlaceFollows (after_outcome model plan bound at outcome)
+  outcome_follows : (at : SimulationState) (outcome : Batch) → OfTree at.cells outcome → Follows at → PointFollows (after_outcome model plan bound at outcome)
   outcome_follows at limit of_tree follows = tt
   outcome_follows at (failed who fault) of_tree follows = tt
   outcome_follows at (committed cells touched frames) of_tree follows =
@@ -185,17 +185,17 @@ module _ (model : Parts) (plan : Plan) (bound : ℕ) where
       (changes_elsewhere 0 at.touched (touched_from 0 of_tree.0 at.cells) (worth_of of_tree.0) (cells_before at) at.cells
       (λ cell less. not_there of_tree.0 at.cells cell (omega arith)) follows))
 
-  time_follows : (at : SimulationState) (time : ℕ) (out : Option ℕ) → StandsWell plan at → Follows at → at.time < time → PlaceFollows (to_time model plan bound at time (passed at.cells (time - at.time)) out)
+  time_follows : (at : SimulationState) (time : ℕ) (out : Option ℕ) → StandsWell plan at → Follows at → at.time < time → PointFollows (to_time model plan bound at time (passed at.cells (time - at.time)) out)
   time_follows at time (Some cell) well follows later = tt
   time_follows at time None well follows later =
       subst (λ cells. SameElsewhere 0 [] cells (passed at.cells (time - at.time))) (sym (replayed at well follows time (omega arith))) (all_same 0 [] (passed at.cells (time - at.time)))
 
-  end_follows : (at : SimulationState) (out : Option ℕ) → PlaceFollows (to_end model plan bound at out)
+  end_follows : (at : SimulationState) (out : Option ℕ) → PointFollows (to_end model plan bound at out)
   end_follows at (Some cell) = tt
   end_follows at None = tt
 
   moved_follows : (at : SimulationState) (next_time : Option ℕ) → StandsWell plan at → Follows at → below plan.duration (least_due at.time plan.duration at.cells at.table) ≡ next_time →
-      Each (StillWaits at.cells) at.table → PlaceFollows (moved model plan bound at next_time)
+      Each (StillWaits at.cells) at.table → PointFollows (moved model plan bound at next_time)
   moved_follows at None well follows e waits = end_follows at (first_out (passed at.cells (plan.duration - at.time)))
   moved_follows at (Some time) well follows e waits =
       let is = below_is model plan bound plan.duration time (least_due at.time plan.duration at.cells at.table) e in
@@ -203,12 +203,12 @@ module _ (model : Parts) (plan : Plan) (bound : ℕ) where
       time_follows at time (first_out (passed at.cells (time - at.time))) well follows later
 
   judged_follows : (at : SimulationState) (jobs : List (ℕ × Job)) → ready_jobs at.cells (on_each (woken at.cells) at.table) ≡ jobs → StandsWell plan at → Follows at →
-      PlaceFollows (woken_or_moved model plan bound at (on_each (woken at.cells) at.table) jobs)
+      PointFollows (woken_or_moved model plan bound at (on_each (woken at.cells) at.table) jobs)
   judged_follows at [] e well follows =
       moved_follows at (below plan.duration (least_due at.time plan.duration at.cells at.table)) well follows refl (none_ready at.cells at.table e)
   judged_follows at (job ∷ rest) e well follows = follows
 
-  next_follows : (at : SimulationState) (jobs : List (ℕ × Job)) → StandsWell plan at → Follows at → PlaceFollows (next_by model plan bound at jobs)
+  next_follows : (at : SimulationState) (jobs : List (ℕ × Job)) → StandsWell plan at → Follows at → PointFollows (next_by model plan bound at jobs)
   next_follows at [] well follows = judged_follows at (ready_jobs at.cells (on_each (woken at.cells) at.table)) refl well follows
   next_follows at (job ∷ rest) well follows =
       outcome_follows at (batch model bound at.spent at.cells (job ∷ rest)) (making_of_tree at.spent at.cells (made_by_all model bound (job ∷ rest))) follows
@@ -216,10 +216,10 @@ module _ (model : Parts) (plan : Plan) (bound : ℕ) where
   start_follows : Follows (start model plan)
   start_follows = subst (λ cells. SameElsewhere 0 [] cells (initial model)) (sym (passed_none (initial model))) (all_same 0 [] (initial model))
 
-  place_follows : (place : Next SimulationState Run) → IsReached model plan bound place → PlaceFollows place
-  place_follows (more at) begins = start_follows
-  place_follows place (onward {place = at} before) =
-      next_follows at (ready_jobs at.cells at.table) (stands_well model plan bound (more at) before) (place_follows (more at) before)
+  pub point_follows : (point : Next SimulationState Run) → IsReached model plan bound point → PointFollows point
+  point_follows (more at) begins = start_follows
+  point_follows point (onward {point = at} before) =
+      next_follows at (ready_jobs at.cells at.table) (stands_well model plan bound (more at) before) (point_follows (more at) before)
 
 pub cells_are_replayed : CellsAreReplayed
-cells_are_replayed model plan bound at stands = replayed model plan bound at (stands_well model plan bound (more at) stands) (place_follows model plan bound (more at) stands)
+cells_are_replayed model plan bound at stands = replayed model plan bound at (stands_well model plan bound (more at) stands) (point_follows model plan bound (more at) stands)

@@ -22,21 +22,21 @@ use Rattle.run_data.specs.declared.frames.Status.{Status}
 use Rattle.run_data.specs.declared.frames.Status.TheVariants.{Done, Faulted}
 use Rattle.run_data.specs.declared.jobs.Job.{Job}
 use Rattle.run_data.specs.Frames.{job_step}
-use Rattle.run_data.specs.StepStates.{StepState, after_items, starting, seen, valued, with_flags, paid}
+use Rattle.run_data.specs.StepStates.{StepState, after_items, starting, value_read, valued, with_flags, paid}
 use Rattle.run_data.specs.Jobs.{is_state_of, AreCellsOf}
-use Rattle.run_data.specs.Steps.{Turn, onward, ended, act, with_evaluated, valued_all, emission_expr, delay_of, state_behind, Stepped, after, after_test, perform, steps}
+use Rattle.run_data.specs.Steps.{Acted, onward, ended, act, with_evaluated, valued_all, emission_expr, delay_of, state_behind, Stepped, after, after_test, perform, steps}
 use Rattle.run_data.specs.TaskStates.{body_of, activity_body}
 use Rattle.run_data.specs.Typed.{AreLeft, kind_here}
 use Rattle.run_data.specs.laws.Typing.{body_result}
 use Rattle.run_data.specs.laws.Results.{IsUnderWay, EndsAsDeclared, ResultsFit, BeginsUnderWay}
 use Rattle.run_data.proofs.Keeping.{all_notes}
-use Rattle.run_data.proofs.CellKinds.{seen_readings}
+use Rattle.run_data.proofs.CellKinds.{value_read_readings}
 use Rattle.run_data.proofs.ModelBodies.{IsBodyOf, activity_ends}
 use Rattle.run_data.proofs.PlacesHold.{Onward, IsLeft}
 use Rattle.run_data.proofs.BodyPlaces.{its_setting, its_scopes, its_lefts, get_is}
 use Rattle.run_data.proofs.TypedStatements.{Fits, stmt_fits}
-use Rattle.run_data.proofs.TypedTurns.{TurnGoes, all_turn}
-use Rattle.run_data.proofs.Typing.{Now, now, body_there, states_begin, choice_runs_on, loop_runs_on, turn_there}
+use Rattle.run_data.proofs.TypedActs.{ActedGoes, all_acts}
+use Rattle.run_data.proofs.Typing.{Now, now, body_there, states_begin, choice_runs_on, loop_runs_on, acted_there}
 use Rattle.run_data.proofs.Returns.{EndsReturn, in_front, left_ends, first_left}
 
 -- a result of which there is none in the case that there is one
@@ -48,11 +48,11 @@ not_some : (found : Option Kind) → found ≡ None → IsTrue (is_some found) �
 not_some None e h = absurd (cc)
 not_some (Some of) e h = absurd (cc)
 
-any_turn : (P : Turn → Type 0) (so_far : StepState) (result : Evaluated) (go : Value → StepState → Turn) →
+any_act : (P : Acted → Type 0) (so_far : StepState) (result : Evaluated) (go : Value → StepState → Acted) →
     ((fault : Fault) (read_flags : List Bool) → P (ended (Faulted fault) (with_flags so_far read_flags))) → ((value : Value) (read_flags : List Bool) → result.0 ≡ Ok value → P (go value (with_flags so_far read_flags))) →
     P (with_evaluated so_far result go)
-any_turn P so_far (Ok value, read_flags) go faulted goes = goes value read_flags refl
-any_turn P so_far (Err fault, read_flags) go faulted goes = faulted fault read_flags
+any_act P so_far (Ok value, read_flags) go faulted goes = goes value read_flags refl
+any_act P so_far (Err fault, read_flags) go faulted goes = faulted fault read_flags
 
 module _ (model : Parts) (valid : IsTrue (valid_model model)) (kind : BodyId) where
   -- where the body has a result, what is left ends in a `return`
@@ -73,7 +73,7 @@ module _ (model : Parts) (valid : IsTrue (valid_model model)) (kind : BodyId) wh
   not_return here x e differs h = let yes_it : is_return_step x ≡ true = sym (ap (λ (y : Stmt-F Stmt). is_return_step y) e) ∙ h in absurd (cc)
 
   -- what is to hold after a statement
-  abbrev Ended : Turn → Type 0
+  abbrev Ended : Acted → Type 0
   Ended (onward next) = Unit {0}
   Ended (ended status last) = EndsAsDeclared model kind status
 
@@ -82,7 +82,7 @@ module _ (model : Parts) (valid : IsTrue (valid_model model)) (kind : BodyId) wh
       kind_here so_far.locals (read_kind model.cells) expr ≡ Some of → (valued so_far expr).0 ≡ Ok value → value_kind value ≡ of
   value_has so_far expr of value cells e is =
       subst (λ (o : ValueOrFault). Gives of o) is
-      (sound expr so_far.locals (read_kind model.cells) (seen so_far.view so_far.items) so_far.read_flags of (seen_readings model so_far.view so_far.items cells) e)
+      (sound expr so_far.locals (read_kind model.cells) (value_read so_far.view so_far.items) so_far.read_flags of (value_read_readings model so_far.view so_far.items cells) e)
 
   delay_under : (by : ℤ) (next : TaskState) → IsUnderWay model next → EndsAsDeclared model kind (delay_of by next)
   delay_under (pos micros) next h = h
@@ -107,29 +107,29 @@ module _ (model : Parts) (valid : IsTrue (valid_model model)) (kind : BodyId) wh
         IsLeft (its_setting model kind n.is) n.is.slots (its_scopes model kind n.is) (its_lefts model kind n.is) (here.at + 1) rest → left (body_of model kind) (here.at + 1) ≡ [] → body_result model kind ≡ None
     goes_on x e differs h = under_way (here.at + 1) rest (next_left h) (rest_under here rest (not_return here x e differs) under)
 
-    turn_ends : (x : Stmt-F Stmt) → out-Stmt here.what ≡ x → FitsHere x → OnwardHere x → simple_step x ≡ true → Ended (act kind here.at x so_far)
-    turn_ends (Stmt-F.Let slot expr) e fit on simple = any_turn Ended so_far (valued so_far expr) _ (λ fault read_flags. tt) (λ value read_flags is. tt)
-    turn_ends (Stmt-F.Assign slot expr) e fit on simple = any_turn Ended so_far (valued so_far expr) _ (λ fault read_flags. tt) (λ value read_flags is. tt)
-    turn_ends (Stmt-F.Emit cell what) e fit on simple = any_turn Ended so_far (valued so_far (emission_expr what)) _ (λ fault read_flags. tt) (λ value read_flags is. tt)
-    turn_ends (Stmt-F.Delay expr) e fit on simple =
-        any_turn Ended so_far (valued so_far expr) _ (λ fault read_flags. tt)
+    acted_ends : (x : Stmt-F Stmt) → out-Stmt here.what ≡ x → FitsHere x → OnwardHere x → simple_step x ≡ true → Ended (act kind here.at x so_far)
+    acted_ends (Stmt-F.Let slot expr) e fit on simple = any_act Ended so_far (valued so_far expr) _ (λ fault read_flags. tt) (λ value read_flags is. tt)
+    acted_ends (Stmt-F.Assign slot expr) e fit on simple = any_act Ended so_far (valued so_far expr) _ (λ fault read_flags. tt) (λ value read_flags is. tt)
+    acted_ends (Stmt-F.Emit cell what) e fit on simple = any_act Ended so_far (valued so_far (emission_expr what)) _ (λ fault read_flags. tt) (λ value read_flags is. tt)
+    acted_ends (Stmt-F.Delay expr) e fit on simple =
+        any_act Ended so_far (valued so_far expr) _ (λ fault read_flags. tt)
         (λ value read_flags is. delay_under (number_in value) (state_behind kind here.at (with_flags so_far read_flags)) (goes_on (Stmt-F.Delay expr) e refl on.2))
-    turn_ends (Stmt-F.WaitUntil condition) e fit on simple = goes_on (Stmt-F.WaitUntil condition) e refl on.2
-    turn_ends (Stmt-F.Spawn child exprs) e fit on simple =
-        all_turn Ended (λ result. Unit {0}) so_far (valued_all exprs so_far) _ (all_notes exprs so_far) tt (λ fault read_flags. tt) (λ values read_flags given. tt)
-    turn_ends (Stmt-F.Call child exprs into) e fit on simple =
-        all_turn Ended (λ result. Unit {0}) so_far (valued_all exprs so_far) _ (all_notes exprs so_far) tt (λ fault read_flags. tt)
+    acted_ends (Stmt-F.WaitUntil condition) e fit on simple = goes_on (Stmt-F.WaitUntil condition) e refl on.2
+    acted_ends (Stmt-F.Spawn child exprs) e fit on simple =
+        all_acts Ended (λ result. Unit {0}) so_far (valued_all exprs so_far) _ (all_notes exprs so_far) tt (λ fault read_flags. tt) (λ values read_flags given. tt)
+    acted_ends (Stmt-F.Call child exprs into) e fit on simple =
+        all_acts Ended (λ result. Unit {0}) so_far (valued_all exprs so_far) _ (all_notes exprs so_far) tt (λ fault read_flags. tt)
         (λ values read_flags given. goes_on (Stmt-F.Call child exprs into) e refl on.2)
-    turn_ends (Stmt-F.If test block other) e fit on simple = absurd (cc)
-    turn_ends (Stmt-F.While test block) e fit on simple = absurd (cc)
-    turn_ends (Stmt-F.Return None) e fit on simple = sym (n.is.result_is ∙ fit.0)
-    turn_ends (Stmt-F.Return (Some expr)) e fit on simple =
-        any_turn Ended so_far (valued so_far expr) _ (λ fault read_flags. tt)
+    acted_ends (Stmt-F.If test block other) e fit on simple = absurd (cc)
+    acted_ends (Stmt-F.While test block) e fit on simple = absurd (cc)
+    acted_ends (Stmt-F.Return None) e fit on simple = sym (n.is.result_is ∙ fit.0)
+    acted_ends (Stmt-F.Return (Some expr)) e fit on simple =
+        any_act Ended so_far (valued so_far expr) _ (λ fault read_flags. tt)
         (λ value read_flags is. ap Some (value_has so_far expr fit.0 value cells fit.2 is) ∙ sym (n.is.result_is ∙ fit.1))
 
     pub act_ends : (x : Stmt-F Stmt) → out-Stmt here.what ≡ x → simple_step x ≡ true → Ended (act kind here.at x so_far)
     act_ends x e simple =
-        turn_ends x e
+        acted_ends x e
         (subst FitsHere e (stmt_fits model n.is.parameters n.is.result n.suits_it.scope so_far.locals n.few n.suits_it.suit here.what n.stands.next n.stands.checks))
         (subst OnwardHere e n.stands.onward) simple
 
@@ -148,18 +148,18 @@ module _ (model : Parts) (valid : IsTrue (valid_model model)) (kind : BodyId) wh
   tested so_far (Ok value, read_flags) go goes = goes (truth_in value) read_flags
   tested so_far (Err fault, read_flags) go goes = tt
 
-  turned : (before : StepState) (rest : List Placed) (turn : Turn) (go : StepState → Stepped) → Under rest → TurnGoes model kind rest before turn → Ended turn →
-      ((next : StepState) → IsThere rest next → Declared (go next)) → Declared (after turn go)
-  turned before rest (onward next) go under on ends goes = goes next (record { first = on.0; cells = on.1; under = under })
-  turned before rest (ended status last) go under on ends goes = ends
+  after_acted : (before : StepState) (rest : List Placed) (acted : Acted) (go : StepState → Stepped) → Under rest → ActedGoes model kind rest before acted → Ended acted →
+      ((next : StepState) → IsThere rest next → Declared (go next)) → Declared (after acted go)
+  after_acted before rest (onward next) go under on ends goes = goes next (record { first = on.0; cells = on.1; under = under })
+  after_acted before rest (ended status last) go under on ends goes = ends
 
   module _ (here : Placed) (rest : List Placed) (so_far : StepState) (h : IsThere (here ∷ rest) so_far) (go : List Placed → StepState → Stepped)
       (goes : (list : List Placed) (next : StepState) → IsThere list next → Declared (go list next)) where
     -- a `return` goes no further
     simple_returns : (x : Stmt-F Stmt) → out-Stmt here.what ≡ x → simple_step x ≡ true → (is_return_step x ≡ false) → Declared (after (act kind here.at x so_far) (go rest))
     simple_returns x e simple differs =
-        turned so_far rest (act kind here.at x so_far) (go rest) (rest_under here rest (not_return here x e differs) h.under)
-        (turn_there model kind here rest so_far valid h.first h.cells (act kind here.at x so_far) (ap (λ (y : Stmt-F Stmt). act kind here.at y so_far) e))
+        after_acted so_far rest (act kind here.at x so_far) (go rest) (rest_under here rest (not_return here x e differs) h.under)
+        (acted_there model kind here rest so_far valid h.first h.cells (act kind here.at x so_far) (ap (λ (y : Stmt-F Stmt). act kind here.at y so_far) e))
         (act_ends here rest so_far h.first h.cells h.under x e simple) (goes rest)
 
     returned : (value : Option Expr) → out-Stmt here.what ≡ Stmt-F.Return value → Ended (act {A = Stmt} kind here.at (Stmt-F.Return value) so_far) → Declared (after (act {A = Stmt} kind here.at (Stmt-F.Return value) so_far) (go rest))

@@ -24,7 +24,8 @@ use Rattle.run_data.specs.Fresh.{SimulationState, start, next_state, next_by, wo
 use Rattle.run_data.specs.TaskStates.{activity_begun}
 use Rattle.run_data.specs.Tasks.{TaskPhase, anchored, ready, delayed, waiting, calling, over, Table, task_at, on_each, planned, with_directives, with_daemons, children_made, children_in, after_delay, phase_after, task_after, after_frame, after_frames, ready_jobs, woken, woken_phase, rested, rested_phase}
 use Rattle.run_data.specs.laws.Rising.{RiseAbove, RiseFromStart, AreBefore, InstantsRise, InstantsAreBeforeEnd}
-use Rattle.run_data.proofs.Tables.{Each, each_with, each_changed}
+use Rattle.run_data.specs.DelayLaws.{batch_ends, woken_ends}
+use Rattle.run_data.specs.TaskLaws.{Each, each_with, each_changed}
 use Rattle.run_data.proofs.DueTimes.{EndsAfter, StillWaits, EndsNotBefore, IsAfter, least_is_after, none_ends_before, none_ready}
 
 -- ---- no delay ends before now
@@ -33,61 +34,11 @@ delay_after : (now by : ℕ) (state : TaskState) → EndsAfter now (after_delay 
 delay_after now zero state = tt
 delay_after now (suc less) state = omega arith
 
-status_after : (now made : ℕ) (ending : Status) → EndsAfter now (phase_after now made ending)
-status_after now made (status.Delayed by state) = delay_after now (nat_abs by) state
-status_after now made (status.Waiting condition state) = tt
-status_after now made (status.Calling into state) = tt
-status_after now made (status.Done result) = tt
-status_after now made (status.Faulted fault) = tt
-
-frames_after : (now : ℕ) (frames : List Frame) (table : Table) → Each (EndsAfter now) table → Each (EndsAfter now) (after_frames now frames table)
-frames_after now [] table each = each
-frames_after now (frame ∷ rest) table each =
-    frames_after now rest (after_frame now frame table)
-    (each_with (EndsAfter now) table frame.path (task_after now frame.status (children_made (task_at table frame.path) + children_in frame.items)) each
-    (status_after now (children_made (task_at table frame.path) + children_in frame.items) frame.status))
-
-back_after : (now : ℕ) (table : Table) (path : List ℕ) (phase : TaskPhase) → EndsAfter now phase → EndsAfter now (back table path phase)
-back_after now table path (calling child into state) h = by (has_ended table (child_path path child))
-  where
-    by : (ended : Bool) → EndsAfter now (if ended then ready (with_result into (result_of (task_at table (child_path path child))) state) else calling child into state)
-    by true = tt
-    by false = tt
-back_after now table path (anchored to edge start state) h = tt
-back_after now table path (ready state) h = tt
-back_after now table path (delayed until state) h = h
-back_after now table path (waiting condition state) h = tt
-back_after now table path (over result) h = tt
-
-due_after : (now : ℕ) (table : Table) (phase : TaskPhase) → EndsAfter now phase → EndsAfter now (due_phase table now phase)
-due_after now table (anchored to edge start state) h = by (has_come table to edge)
-  where
-    by : (come : Bool) → EndsAfter now (if come then after_delay now start state else anchored to edge start state)
-    by true = delay_after now start state
-    by false = tt
-due_after now table (ready state) h = tt
-due_after now table (delayed until state) h = h
-due_after now table (waiting condition state) h = tt
-due_after now table (calling child into state) h = tt
-due_after now table (over result) h = tt
-
-pub batch_after : (now : ℕ) (frames : List Frame) (table : Table) → Each (EndsAfter now) table → Each (EndsAfter now) (after_batch now frames table)
-batch_after now frames table each =
-    let whole = after_frames now frames table in
-    each_changed (EndsAfter now) (EndsAfter now) (gone_on whole now)
-    (λ path task h. due_after now whole (back whole path task.phase) (back_after now whole path task.phase h)) whole (frames_after now frames table each)
+batch_after : (now : ℕ) (frames : List Frame) (table : Table) → Each (EndsAfter now) table → Each (EndsAfter now) (after_batch now frames table)
+batch_after now = batch_ends (λ until. now < until) now (delay_after now)
 
 woken_after : (now : ℕ) (cells : List CellState) (phase : TaskPhase) → EndsAfter now phase → EndsAfter now (woken_phase cells phase)
-woken_after now cells (waiting condition state) h = by (holds_on cells condition)
-  where
-    by : (holds : Bool) → EndsAfter now (if holds then ready state else waiting condition state)
-    by true = tt
-    by false = tt
-woken_after now cells (anchored to edge start state) h = tt
-woken_after now cells (ready state) h = tt
-woken_after now cells (delayed until state) h = h
-woken_after now cells (calling child into state) h = tt
-woken_after now cells (over result) h = tt
+woken_after now = woken_ends (λ until. now < until)
 
 not_equal : (a b : ℕ) → nat_eq a b ≡ false → a ≡ b → ⊥
 not_equal a b e same = grind arith
@@ -263,9 +214,9 @@ module _ (model : Parts) (plan : Plan) (bound : ℕ) where
     within = λ some. some;
   }
 
-  pub stands_well : (place : Next SimulationState Run) → IsReached model plan bound place → GoesWell plan place
+  pub stands_well : (point : Next SimulationState Run) → IsReached model plan bound point → GoesWell plan point
   stands_well (more at) begins = start_well
-  stands_well place (onward {place = at} before) = next_well at (stands_well (more at) before)
+  stands_well point (onward {point = at} before) = next_well at (stands_well (more at) before)
 
 pub instants_rise : InstantsRise
 instants_rise model plan bound run fresh = (stands_well model plan bound (finished run) fresh).rise

@@ -36,7 +36,7 @@ use Rattle.effect_cells.specs.Reads.{state_kind}
 use Rattle.effect_cells.specs.States.{is_in_range}
 use Rattle.run_data.specs.declared.tasks.BodyId.TheVariants as body
 use Rattle.run_data.specs.declared.tasks.TaskState.{TaskState}
-use Rattle.run_data.specs.Fresh.{start as first_place_of}
+use Rattle.run_data.specs.Fresh.{start as first_point_of}
 use Rattle.run_data.specs.Jobs.{AreCellsOf}
 use Rattle.run_data.specs.Numbers.{HasNumber}
 use Rattle.run_data.specs.Scopes.{suits}
@@ -50,7 +50,7 @@ use Rattle.run_data.proofs.BodyPlaces.{first_place, its_state}
 use Rattle.run_data.proofs.Children.{HaveKinds, child_begins}
 use Rattle.run_data.proofs.KnownKinds.{kinds_agree}
 use Rattle.run_data.proofs.ModelBodies.{setting_of, IsBodyOf, daemon_good}
-use Rattle.run_data.proofs.OrderedTables.{at_with, is_same, order_with}
+use Rattle.run_data.specs.TableLaws.{at_with, is_same, order_with}
 use Rattle.run_data.proofs.Scoping.{both_hold}
 use Rattle.run_data.proofs.TableOfModel.{table_changed, rested_keeps, found_at}
 
@@ -202,13 +202,13 @@ module _ (model : Parts) (valid : IsTrue (valid_model model)) where
       with_directives_first plan plan.directives (with_daemons 0 model.daemons []) is.directives
       (with_daemons_first 0 model.daemons [] (λ k one e. (let place : k ≡ 0 + k = omega arith in subst (λ n. slice_get model.daemons n ≡ Some one) place e)) none_first)
 
-  pub start_made : (plan : Plan) → IsPlanOf model plan → (path : List ℕ) (task : Task) → task_at (first_place_of model plan).table path ≡ Some task → task.made ≤ 0
+  pub start_made : (plan : Plan) → IsPlanOf model plan → (path : List ℕ) (task : Task) → task_at (first_point_of model plan).table path ≡ Some task → task.made ≤ 0
   start_made plan is path task e =
       let found = found_at model (rested 0) (with_directives model plan.directives (with_daemons 0 model.daemons [])) path task e in
       let none : found.old.made ≡ 0 = (first_of plan is).made path found.old found.there in
       let same : found.old.made ≡ task.made = ap (λ (t : Task). t.made) found.is in omega (arith, none, same)
 
-  pub start_table : (plan : Plan) → IsPlanOf model plan → IsTableOf model (first_place_of model plan).table
+  pub start_table : (plan : Plan) → IsPlanOf model plan → IsTableOf model (first_point_of model plan).table
   start_table plan is =
       table_changed model (rested 0) (with_directives model plan.directives (with_daemons 0 model.daemons []))
       (table_of_first model _

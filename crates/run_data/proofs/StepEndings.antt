@@ -32,7 +32,7 @@ use Rattle.run_data.specs.laws.Results.{IsUnderWay, EndsAsDeclared}
 use Rattle.run_data.specs.laws.Typing.{last_child, or_this, result_kind}
 use Rattle.run_data.proofs.ModelSteps.{step_keeps}
 use Rattle.run_data.proofs.Results.{step_declared, begins_under_way}
-use Rattle.run_data.proofs.SmallTurns.{steps_are_small}
+use Rattle.run_data.proofs.SmallActs.{steps_are_small}
 use Rattle.run_data.proofs.StepLeavings.{EffectsFit, StaysIn, step_leaves}
 
 -- ---- the child that is called

@@ -19,17 +19,18 @@ use Rattle.run_data.specs.declared.frames.Item.{Item}
 use Rattle.run_data.specs.declared.frames.Item.TheVariants as item
 use Rattle.run_data.specs.declared.frames.Status.{Status}
 use Rattle.run_data.specs.declared.frames.Status.TheVariants.{Delayed, Waiting, Calling, Done, Faulted}
-use Rattle.run_data.specs.StepStates.{StepState, after_items, seen, starting, valued, with_flags, paid, giving}
+use Rattle.run_data.specs.StepStates.{StepState, after_items, value_read, starting, valued, with_flags, paid, giving}
 use Rattle.run_data.specs.Frames.{job_step}
 use Rattle.run_data.specs.Jobs.{is_state_of, AreCellsOf}
-use Rattle.run_data.specs.Steps.{Turn, onward, ended, Stepped, act, after, after_test, perform, steps, with_evaluated, valued_all, emission_expr, effect_of, delay_of, state_behind}
+use Rattle.run_data.specs.Steps.{Acted, onward, ended, Stepped, act, after, after_test, perform, steps, with_evaluated, valued_all, emission_expr, effect_of, delay_of, state_behind}
 use Rattle.run_data.specs.Typed.{AreLeft, kind_here, is_typed_stmt, is_typed_emission}
 use Rattle.run_data.specs.declared.jobs.Job.{Job}
 use Rattle.run_data.specs.laws.Typing.{last_child, or_this}
-use Rattle.run_data.proofs.CellKinds.{LeavesKinds, seen_readings}
+use Rattle.run_data.proofs.CellKinds.{LeavesKinds, value_read_readings}
 use Rattle.run_data.proofs.Keeping.{all_notes}
-use Rattle.run_data.proofs.TypedTurns.{all_turn, emission_leaves}
-use Rattle.run_data.proofs.Typing.{next_is_typed, states_begin, choice_runs_on, loop_runs_on, runs_on}
+use Rattle.run_data.proofs.TypedActs.{all_acts, emission_leaves}
+use Rattle.run_data.proofs.Typing.{next_is_typed, states_begin, runs_on}
+use Rattle.run_data.proofs.Performing.{performed_by}
 
 -- ---- effects
 
@@ -72,45 +73,45 @@ module _ (model : Parts) (valid : IsTrue (valid_model model)) (kind : BodyId) wh
   abbrev pub Leaves : Status → StepState → Type 0
   Leaves status last = EffectsFit model last.items × StaysIn kind last.items status
 
-  abbrev TurnLeaves : Turn → Type 0
-  TurnLeaves (onward next) = EffectsFit model next.items
-  TurnLeaves (ended status last) = Leaves status last
+  abbrev ActedLeaves : Acted → Type 0
+  ActedLeaves (onward next) = EffectsFit model next.items
+  ActedLeaves (ended status last) = Leaves status last
 
   abbrev StepLeaves : Stepped → Type 0
   StepLeaves None = Unit {0}
   StepLeaves (Some (status, last)) = Leaves status last
 
   module _ (here : Placed) (so_far : StepState) (cells : AreCellsOf model (after_items so_far.view so_far.items)) (fit : EffectsFit model so_far.items) where
-    value_leaves : (result : Evaluated) (go : Value → StepState → Turn) → ((value : Value) (read_flags : List Bool) → TurnLeaves (go value (with_flags so_far read_flags))) →
-        TurnLeaves (with_evaluated so_far result go)
+    value_leaves : (result : Evaluated) (go : Value → StepState → Acted) → ((value : Value) (read_flags : List Bool) → ActedLeaves (go value (with_flags so_far read_flags))) →
+        ActedLeaves (with_evaluated so_far result go)
     value_leaves (Ok value, read_flags) go goes = goes value read_flags
     value_leaves (Err fault, read_flags) go goes = (fit, tt)
 
     emit_leaves : (cell : ℕ) (what : Emission) → IsTrue (is_typed_emission model so_far.locals cell what) → (result : Evaluated) →
         ((of : Kind) → kind_here so_far.locals (read_kind model.cells) (emission_expr what) ≡ Some of → Gives of result.0) →
-        TurnLeaves (with_evaluated so_far result (λ value c. onward (giving c (item.Emit cell (effect_of what value)))))
+        ActedLeaves (with_evaluated so_far result (λ value c. onward (giving c (item.Emit cell (effect_of what value)))))
     emit_leaves cell what typed (Err fault, read_flags) gives = (fit, tt)
     emit_leaves cell what typed (Ok value, read_flags) gives =
         effect_more model so_far.items cell (effect_of what value) fit
         (λ others are. (let leaves = emission_leaves model so_far.locals others cell what are typed in leaves.2 value (gives leaves.0 leaves.1)))
 
-    delay_leaves : (by : ℤ) (read_flags : List Bool) → TurnLeaves (ended (delay_of by (state_behind kind here.at (with_flags so_far read_flags))) (with_flags so_far read_flags))
+    delay_leaves : (by : ℤ) (read_flags : List Bool) → ActedLeaves (ended (delay_of by (state_behind kind here.at (with_flags so_far read_flags))) (with_flags so_far read_flags))
     delay_leaves (pos micros) read_flags = (fit, refl)
     delay_leaves (negsuc below) read_flags = (fit, tt)
 
-    act_leaves : (x : Stmt-F Stmt) → IsTrue (is_typed_stmt model so_far.locals x) → TurnLeaves (act kind here.at x so_far)
+    act_leaves : (x : Stmt-F Stmt) → IsTrue (is_typed_stmt model so_far.locals x) → ActedLeaves (act kind here.at x so_far)
     act_leaves (Stmt-F.Let slot expr) typed = value_leaves (valued so_far expr) _ (λ value read_flags. fit)
     act_leaves (Stmt-F.Assign slot expr) typed = value_leaves (valued so_far expr) _ (λ value read_flags. fit)
     act_leaves (Stmt-F.Emit cell what) typed =
         emit_leaves cell what typed (valued so_far (emission_expr what))
-        (λ of e. sound (emission_expr what) so_far.locals (read_kind model.cells) (seen so_far.view so_far.items) so_far.read_flags of (seen_readings model so_far.view so_far.items cells) e)
+        (λ of e. sound (emission_expr what) so_far.locals (read_kind model.cells) (value_read so_far.view so_far.items) so_far.read_flags of (value_read_readings model so_far.view so_far.items cells) e)
     act_leaves (Stmt-F.Delay expr) typed = value_leaves (valued so_far expr) _ (λ value read_flags. delay_leaves (number_in value) read_flags)
     act_leaves (Stmt-F.WaitUntil condition) typed = (fit, refl)
     act_leaves (Stmt-F.Spawn child exprs) typed =
-        all_turn TurnLeaves (λ result. Unit {0}) so_far (valued_all exprs so_far) _ (all_notes exprs so_far) tt (λ fault read_flags. (fit, tt))
+        all_acts ActedLeaves (λ result. Unit {0}) so_far (valued_all exprs so_far) _ (all_notes exprs so_far) tt (λ fault read_flags. (fit, tt))
         (λ values read_flags given. child_more model so_far.items child values fit)
     act_leaves (Stmt-F.Call child exprs into) typed =
-        all_turn TurnLeaves (λ result. Unit {0}) so_far (valued_all exprs so_far) _ (all_notes exprs so_far) tt (λ fault read_flags. (fit, tt))
+        all_acts ActedLeaves (λ result. Unit {0}) so_far (valued_all exprs so_far) _ (all_notes exprs so_far) tt (λ fault read_flags. (fit, tt))
         (λ values read_flags given. (child_more model so_far.items child values fit, (refl, (child, made_last so_far.items child values))))
     act_leaves (Stmt-F.If test block other) typed = (fit, tt)
     act_leaves (Stmt-F.While test body) typed = (fit, tt)
@@ -131,37 +132,24 @@ module _ (model : Parts) (valid : IsTrue (valid_model model)) (kind : BodyId) wh
 
   module _ (here : Placed) (rest : List Placed) (so_far : StepState) (h : IsHere (here ∷ rest) so_far) (go : List Placed → StepState → Stepped)
       (goes : (list : List Placed) (next : StepState) → IsHere list next → StepLeaves (go list next)) where
-    turned : (turn : Turn) → act kind here.at (out-Stmt here.what) so_far ≡ turn → TurnLeaves turn → StepLeaves (after turn (go rest))
-    turned (onward next) e leaves =
+    after_acted : (acted : Acted) → act kind here.at (out-Stmt here.what) so_far ≡ acted → ActedLeaves acted → StepLeaves (after acted (go rest))
+    after_acted (onward next) e leaves =
         let on = runs_on model kind here rest so_far next valid h.left h.cells e in
         goes rest next (record { left = on.0; cells = on.1; fit = leaves })
-    turned (ended status last) e leaves = leaves
+    after_acted (ended status last) e leaves = leaves
 
     simple : (x : Stmt-F Stmt) → out-Stmt here.what ≡ x → StepLeaves (after (act kind here.at x so_far) (go rest))
     simple x e =
-        turned (act kind here.at x so_far) (ap (λ (y : Stmt-F Stmt). act kind here.at y so_far) e)
+        after_acted (act kind here.at x so_far) (ap (λ (y : Stmt-F Stmt). act kind here.at y so_far) e)
         (act_leaves here so_far h.cells h.fit x (subst (λ (y : Stmt-F Stmt). IsTrue (is_typed_stmt model so_far.locals y)) e (next_is_typed model kind here rest so_far.locals valid h.left)))
 
     there : (list : List Placed) (read_flags : List Bool) → AreLeft model kind list so_far.locals → IsHere list (with_flags so_far read_flags)
     there list read_flags left = record { left = left; cells = h.cells; fit = h.fit }
 
     performed : (x : Stmt-F Stmt) → out-Stmt here.what ≡ x → StepLeaves (perform kind here rest x so_far go)
-    performed (Stmt-F.If test block other) e =
-        tested so_far (valued so_far test) _ h.fit (λ holds read_flags. goes _ (with_flags so_far read_flags)
-        (there ((if holds then placed (here.at + 1) block else placed (here.at + 2 + block_size block) other) ++ rest) read_flags
-        (choice_runs_on model kind here rest so_far.locals test block other holds valid h.left e)))
-    performed (Stmt-F.While test block) e =
-        tested so_far (valued so_far test) _ h.fit (λ holds read_flags. goes _ (with_flags so_far read_flags)
-        (there (if holds then placed (here.at + 1) block ++ here ∷ rest else rest) read_flags
-        (loop_runs_on model kind here rest so_far.locals test block holds valid h.left e)))
-    performed (Stmt-F.Let slot value) e = simple (Stmt-F.Let slot value) e
-    performed (Stmt-F.Assign slot value) e = simple (Stmt-F.Assign slot value) e
-    performed (Stmt-F.Emit cell what) e = simple (Stmt-F.Emit cell what) e
-    performed (Stmt-F.Delay by) e = simple (Stmt-F.Delay by) e
-    performed (Stmt-F.WaitUntil condition) e = simple (Stmt-F.WaitUntil condition) e
-    performed (Stmt-F.Spawn child arguments) e = simple (Stmt-F.Spawn child arguments) e
-    performed (Stmt-F.Call child arguments into) e = simple (Stmt-F.Call child arguments into) e
-    performed (Stmt-F.Return value) e = simple (Stmt-F.Return value) e
+    performed =
+        performed_by model kind here rest so_far go valid h.left StepLeaves (λ test go_on. tested so_far (valued so_far test) go_on h.fit)
+        (λ list flags left. goes list (with_flags so_far flags) (there list flags left)) simple
 
   steps_leave : (budget : ℕ) (list : List Placed) (so_far : StepState) → IsHere list so_far → StepLeaves (steps kind budget list so_far)
   steps_leave budget [] so_far h = (h.fit, tt)

@@ -24,11 +24,11 @@ use Rattle.run_data.specs.laws.ReachedStates.{MayGoOn, IsResultOf, IsTaskOf, Has
 use Rattle.run_data.proofs.EndedTasks.{open_stops}
 use Rattle.run_data.proofs.Ending.{order_frames}
 use Rattle.run_data.proofs.FramePaths.{under_itself}
-use Rattle.run_data.proofs.FramesByPath.{frame_of_path, either_path, new_at, at_no_frame, at_one_frame}
+use Rattle.run_data.proofs.FramesByPath.{frame_of_path, path_of, either_path, new_at, at_no_frame, at_one_frame}
 use Rattle.run_data.proofs.MadeByJobs.{each_among, Known, HasChild}
-use Rattle.run_data.proofs.OrderedTables.{is_same, order_each}
-use Rattle.run_data.proofs.Paying.{EachFrame}
+use Rattle.run_data.specs.TableLaws.{is_same, order_each}
 use Rattle.run_data.proofs.StepEndings.{last_is, EndsWell}
+use Rattle.run_data.specs.laws.Orders.{EachOf}
 
 -- ---- a task that stays in its body
 
@@ -262,8 +262,8 @@ module _ (model : Parts) where
 
 -- ---- frames
 
-module _ (model : Parts) (valid : IsTrue (valid_model model)) (table : Table) (is : IsTableOf model table) (all : List Frame) (sound : EachFrame (λ frame. fault_in frame.status ≡ None) all)
-    (each : EachFrame (Known model valid table all sound) all) (differ : Differ all) (now : ℕ) where
+module _ (model : Parts) (valid : IsTrue (valid_model model)) (table : Table) (is : IsTableOf model table) (all : List Frame) (sound : EachOf (λ frame. fault_in frame.status ≡ None) all)
+    (each : EachOf (Known model valid table all sound) all) (differ : Differ all) (now : ℕ) where
   abbrev whole : Table
   whole = after_frames now all table
 
@@ -339,6 +339,23 @@ module _ (model : Parts) (valid : IsTrue (valid_model model)) (table : Table) (i
       (child_stands frame (children_made (task_at table frame.path) + last.number) h.child among ((known frame among).children last.number h.child last.is) into next h.goes_on)
   after_goes frame among (status.Done result) e h = tt
   after_goes frame among (status.Faulted fault) e h = tt
+
+  -- the child that a frame calls has a frame too
+  called_by : (frame : Frame) → Among frame all → (how : Status) → EndsWell model frame.before.kind frame.items how → (into : Option ℕ) (next : TaskState) → how ≡ status.Calling into next →
+      HasPath (child_path frame.path (made_after frame - 1)) all
+  called_by frame among (status.Delayed by next) h slot state e = absurd (cc)
+  called_by frame among (status.Waiting condition next) h slot state e = absurd (cc)
+  called_by frame among (status.Calling into next) h slot state e =
+      let last = last_is frame.items h.child h.last in
+      let place : children_made (task_at table frame.path) + last.number ≡ made_after frame - 1 = omega (arith, last.count) in
+      let has = (known frame among).children last.number h.child last.is in
+      subst (λ (n : ℕ). HasPath (child_path frame.path n) all) place (subst (λ p. HasPath p all) has.is (path_of has.frame all has.among))
+  called_by frame among (status.Done result) h slot state e = absurd (cc)
+  called_by frame among (status.Faulted fault) h slot state e = absurd (cc)
+
+  pub called : (frame : Frame) → Among frame all → (into : Option ℕ) (next : TaskState) → frame.status ≡ status.Calling into next →
+      HasPath (child_path frame.path (children_made (task_at table frame.path) + children_in frame.items - 1)) all
+  called frame among into next e = called_by frame among frame.status (known frame among).well into next e
 
   origin_moves : (frame : Frame) → OfReady table frame ⊎ OfChild table all frame → ComesFrom whole frame.path
   origin_moves frame (inl from) = maker_moves model table whole grows frame.path (is.makers frame.path from.task from.there)

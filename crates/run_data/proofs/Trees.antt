@@ -23,8 +23,7 @@ use Rattle.run_data.specs.laws.Orders.{EachOf, EachTwo, AreApart}
 use Rattle.run_data.specs.laws.Trees.{frame_at, parts_by, parts_of, rebuilt, rebuilt_all, tree_by_frames, TreeOfFrames, CommittedByFrames}
 use Rattle.run_data.proofs.FramePaths.{HasPath, NoPathInBoth, IsOf, MadeOf, made_weaker, effect_of_all, child_of_all, has_is_of, within_of, frames_apart, below_is, under_of}
 use Rattle.run_data.proofs.Makings.{none_faulted}
-use Rattle.run_data.proofs.OrderedTables.{path_itself, path_same}
-use Rattle.run_data.proofs.Paying.{EachFrame}
+use Rattle.run_data.specs.TableLaws.{path_itself, path_same}
 use Rattle.run_data.proofs.PathsApart.{not_above_itself, one_number}
 
 -- ---- frames that are found
@@ -176,7 +175,7 @@ module _ (frames : List Frame) where
 -- ---- where no frame has faulted each is found
 
 abbrev NoneFaults : List Frame → Type 0
-NoneFaults frames = EachFrame (λ frame. fault_in frame.status ≡ None) frames
+NoneFaults frames = EachOf (λ frame. fault_in frame.status ≡ None) frames
 
 none_split : (first second : List Frame) → NoneFaults (first ++ second) → NoneFaults first × NoneFaults second
 none_split [] second none = (tt, none)
@@ -332,7 +331,7 @@ all_find model budget (job ∷ rest) apart =
 all_none : (frames : List Frame) → least_fault frames ≡ None → NoneFaults frames
 all_none frames e = none_faulted (λ frame. fault_in frame.status ≡ None) frames e (each_same frames)
   where
-    each_same : (frames : List Frame) → EachFrame (λ frame. fault_in frame.status ≡ None → fault_in frame.status ≡ None) frames
+    each_same : (frames : List Frame) → EachOf (λ frame. fault_in frame.status ≡ None → fault_in frame.status ≡ None) frames
     each_same [] = tt
     each_same (frame ∷ rest) = ((λ none. none), each_same rest)
 

@@ -9,14 +9,14 @@ use Rattle.aerie_base.specs.statements.Places.{Placed, placed, block_size}
 use Rattle.run_data.specs.declared.tasks.BodyId.{BodyId}
 use Rattle.run_data.specs.StepStates.{StepState, after_items}
 use Rattle.run_data.specs.Jobs.{is_state_of, AreCellsOf}
-use Rattle.run_data.specs.Steps.{Turn, onward, ended, act}
+use Rattle.run_data.specs.Steps.{Acted, onward, ended, act}
 use Rattle.run_data.specs.TaskStates.{body_of}
 use Rattle.run_data.specs.Typed.{AreLeft}
 use Rattle.run_data.specs.laws.Typing.{StatesBegin, NextIsTyped, RunsOn, ChoiceRunsOn, LoopRunsOn, StepEndsWell}
 use Rattle.run_data.proofs.Scoping.{longer}
 use Rattle.run_data.proofs.CheckedForms.{stmt_goes}
 use Rattle.run_data.proofs.TypedStatements.{stmt_fits, fits_typed}
-use Rattle.run_data.proofs.TypedTurns.{TurnGoes, turn_goes}
+use Rattle.run_data.proofs.TypedActs.{ActedGoes, acted_goes}
 use Rattle.run_data.proofs.ModelBodies.{IsBodyOf, body_found, Suits}
 use Rattle.run_data.proofs.PlacesHold.{Follows, IsReached, Onward}
 use Rattle.run_data.proofs.BodyPlaces.{its_setting, its_scopes, its_lefts, its_scope, its_lefts_are, its_beginning, its_next}
@@ -52,23 +52,23 @@ next_is_typed model kind here rest locals valid left =
     fits_typed model n.is.parameters n.is.result w.scope locals n.few w.suit (out-Stmt here.what) s.next (omega (arith, s.small, w.count))
     (stmt_fits model n.is.parameters n.is.result w.scope locals n.few w.suit here.what s.next s.checks)
 
-pub turn_there : (model : Parts) (kind : BodyId) (here : Placed) (rest : List Placed) (so_far : StepState) → (valid : IsTrue (valid_model model)) →
-    AreLeft model kind (here ∷ rest) so_far.locals → AreCellsOf model (after_items so_far.view so_far.items) → (turn : Turn) → act kind here.at (out-Stmt here.what) so_far ≡ turn →
-    TurnGoes model kind rest so_far turn
-turn_there model kind here rest so_far valid left cells turn e =
+pub acted_there : (model : Parts) (kind : BodyId) (here : Placed) (rest : List Placed) (so_far : StepState) → (valid : IsTrue (valid_model model)) →
+    AreLeft model kind (here ∷ rest) so_far.locals → AreCellsOf model (after_items so_far.view so_far.items) → (acted : Acted) → act kind here.at (out-Stmt here.what) so_far ≡ acted →
+    ActedGoes model kind rest so_far acted
+acted_there model kind here rest so_far valid left cells acted e =
     let n = now model kind here rest so_far.locals valid left in
     let w = n.suits_it in
     let s = n.stands in
-    subst (λ (t : Turn). TurnGoes model kind rest so_far t) e
-    (turn_goes model valid kind n.is here rest w.scope s.next so_far w.count w.suit n.few s.small cells (out-Stmt here.what)
+    subst (λ (t : Acted). ActedGoes model kind rest so_far t) e
+    (acted_goes model valid kind n.is here rest w.scope s.next so_far w.count w.suit n.few s.small cells (out-Stmt here.what)
     (stmt_fits model n.is.parameters n.is.result w.scope so_far.locals n.few w.suit here.what s.next s.checks) s.onward)
 
 pub runs_on : RunsOn
 runs_on model kind here rest so_far next valid left cells e =
-    let on = turn_there model kind here rest so_far valid left cells (onward next) e in (on.0, on.1)
+    let on = acted_there model kind here rest so_far valid left cells (onward next) e in (on.0, on.1)
 
 pub step_ends_well : StepEndsWell
-step_ends_well model kind here rest so_far last status valid left cells e = (turn_there model kind here rest so_far valid left cells (ended status last) e).0
+step_ends_well model kind here rest so_far last status valid left cells e = (acted_there model kind here rest so_far valid left cells (ended status last) e).0
 
 onward_there : (model : Parts) (kind : BodyId) (here : Placed) (rest : List Placed) (locals : List Value) (n : Now model kind here rest locals) (x : Stmt-F Stmt) → out-Stmt here.what ≡ x →
     Onward (its_setting model kind n.is) n.is.slots (its_scopes model kind n.is) (its_lefts model kind n.is) here rest n.suits_it.scope n.stands.next x

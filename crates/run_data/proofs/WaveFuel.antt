@@ -18,7 +18,7 @@ use Rattle.run_data.specs.laws.Generations.{PendingStep, Generation, child_jobs,
 use Rattle.run_data.specs.laws.WaveFuel.{WaveTellsFrames, SpentIsLimit}
 use Rattle.run_data.proofs.AlikeGenerations.{alike_by_generations}
 use Rattle.run_data.proofs.Budgets.{cost_is_within, same_within_cost}
-use Rattle.run_data.proofs.Orders.{cost_append}
+use Rattle.run_data.specs.Counts.{cost_append}
 
 module _ (model : Parts) (fuel bound : ℕ) (least : fuel ≤ bound) where
   -- a step within the fuel is the same within the bound

@@ -156,6 +156,6 @@ module _ (model : Parts) (plan : Plan) (bound : ℕ) where
   abbrev pub IsFresh : Run → Type 0
   IsFresh run = IsReached (finished run)
 
-  -- where the run stands after so many turns
-  abbrev pub after_turns : ℕ → Next SimulationState Run
-  after_turns count = iterate SimulationState Run next_state count (more (start model plan))
+  -- where the run stands after so many transitions
+  abbrev pub after_transitions : ℕ → Next SimulationState Run
+  after_transitions count = iterate SimulationState Run next_state count (more (start model plan))

@@ -36,12 +36,12 @@ abbrev pub starting : List CellState → List Value → StepState
 starting view locals = record { view = view; locals = locals; items = []; read_flags = replicate (length view) false; cost = 0 }
 
 -- what a read has: the step sees its own effects, and none of its children's
-abbrev pub seen : List CellState → List Item → CellRead → Value
-seen view items read = value_on (after_items view items) read
+abbrev pub value_read : List CellState → List Item → CellRead → Value
+value_read view items read = value_on (after_items view items) read
 
 -- the outcome of an expression, and the cells read by then
 abbrev pub valued : StepState → Expr → Evaluated
-valued so_far expr = evaluated expr so_far.locals (seen so_far.view so_far.items) so_far.read_flags
+valued so_far expr = evaluated expr so_far.locals (value_read so_far.view so_far.items) so_far.read_flags
 
 abbrev pub with_flags : StepState → List Bool → StepState
 with_flags so_far read_flags = record so_far { read_flags = read_flags }

@@ -45,16 +45,16 @@ effect_of (emission.Rate expr) value = Flow (pos 0) (number_in value)
 -- ---- one statement
 
 -- after a statement the step goes on or has ended
-pub data Turn : Type 0 where
-  onward : StepState → Turn
-  ended : Status → StepState → Turn
+pub data Acted : Type 0 where
+  onward : StepState → Acted
+  ended : Status → StepState → Acted
 
 -- on with a value, where there is one; a fault ends the step
-abbrev pub with_evaluated : StepState → Evaluated → (Value → StepState → Turn) → Turn
+abbrev pub with_evaluated : StepState → Evaluated → (Value → StepState → Acted) → Acted
 with_evaluated so_far (Ok value, read_flags) go = go value (with_flags so_far read_flags)
 with_evaluated so_far (Err fault, read_flags) go = ended (Faulted fault) (with_flags so_far read_flags)
 
-abbrev pub with_value : StepState → Expr → (Value → StepState → Turn) → Turn
+abbrev pub with_value : StepState → Expr → (Value → StepState → Acted) → Acted
 with_value so_far expr go = with_evaluated so_far (valued so_far expr) go
 
 abbrev pub with_first : Value → Result (List Value) Fault → Result (List Value) Fault
@@ -70,11 +70,11 @@ abbrev pub valued_all : List Expr → StepState → Result (List Value) Fault ×
 valued_all [] so_far = (Ok [], so_far)
 valued_all (expr ∷ rest) so_far = first_of so_far (valued so_far expr) (valued_all rest)
 
-abbrev pub with_all : Result (List Value) Fault × StepState → (List Value → StepState → Turn) → Turn
+abbrev pub with_all : Result (List Value) Fault × StepState → (List Value → StepState → Acted) → Acted
 with_all (Ok values, so_far) go = go values so_far
 with_all (Err fault, so_far) go = ended (Faulted fault) so_far
 
-abbrev pub with_values : StepState → List Expr → (List Value → StepState → Turn) → Turn
+abbrev pub with_values : StepState → List Expr → (List Value → StepState → Acted) → Acted
 with_values so_far exprs go = with_all (valued_all exprs so_far) go
 
 -- the state directly behind a place
@@ -82,7 +82,7 @@ abbrev pub state_behind : BodyId → ℕ → StepState → TaskState
 state_behind kind at so_far = record { kind = kind; at = at + 1; locals = so_far.locals }
 
 -- a statement without blocks, at its place
-abbrev pub act : {A : Type 0} → BodyId → ℕ → Stmt-F A → StepState → Turn
+abbrev pub act : {A : Type 0} → BodyId → ℕ → Stmt-F A → StepState → Acted
 act kind at (Stmt-F.Let slot expr) so_far = with_value so_far expr (λ value c. onward (assigned c slot value))
 act kind at (Stmt-F.Assign slot expr) so_far = with_value so_far expr (λ value c. onward (assigned c slot value))
 act kind at (Stmt-F.Emit cell what) so_far =
@@ -106,7 +106,7 @@ act kind at (Stmt-F.While test body) so_far = ended (Done None) so_far
 abbrev pub Stepped : Type 0
 Stepped = Option (Status × StepState)
 
-abbrev pub after : Turn → (StepState → Stepped) → Stepped
+abbrev pub after : Acted → (StepState → Stepped) → Stepped
 after (onward so_far) go = go so_far
 after (ended status so_far) go = Some (status, so_far)
 

@@ -1,8 +1,9 @@
 pub mod Anchors
 pub mod Children
-pub mod Missions
+pub mod SmallModels
 pub mod Parts
 pub mod Ranges
 pub mod Registers
+pub mod Reuse
 pub mod Simple
 pub mod Waits

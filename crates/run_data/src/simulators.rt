@@ -18,7 +18,7 @@ pub trait Simulator {
     ghost bound: { Self → ℕ };
     /// The address of the data that it borrows, which no call changes: by it a caller finds its own data again in a simulator
     /// that it made over them.
-    ghost anchor: { Self → ℕ };
+    ghost address: { Self → ℕ };
     /// Evidence that what its threads share may be shared between threads; nothing where it starts none.
     ghost shares: { Type 0 };
 
@@ -40,5 +40,5 @@ pub trait Simulator {
         ensures looks { looks.old ≤ looks.new }
         ensures same_model { model self.new ≡ model self.old }
         ensures same_bound { bound self.new ≡ bound self.old }
-        ensures anchor { anchor self.new ≡ anchor self.old };
+        ensures address { address self.new ≡ address self.old };
 }

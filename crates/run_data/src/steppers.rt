@@ -38,7 +38,7 @@ pub trait Stepper {
     ghost opened: { Self → ℕ };
     /// The address of the data that it borrows, which no call changes: by it a caller finds its own data again in a stepper
     /// that it made over them.
-    ghost anchor: { Self → ℕ };
+    ghost address: { Self → ℕ };
     /// Evidence that what its threads share may be shared between threads; nothing where it starts none.
     ghost shares: { Type 0 };
 
@@ -70,5 +70,5 @@ pub trait Stepper {
         ensures opened { RoseAlike (opened self.old) steps.old (opened self.new) steps.new }
         ensures same_models { (of : Parts) → (is_of self.old of → is_of self.new of) × (is_of self.new of → is_of self.old of) }
         ensures same_records { records self.new ≡ records self.old }
-        ensures anchor { anchor self.new ≡ anchor self.old };
+        ensures address { address self.new ≡ address self.old };
 }

@@ -34,7 +34,7 @@ impl<'a> Simulator for Counting<'a> {
 
     ghost bound = { λ counting. counting.bench.bound };
 
-    ghost anchor = { λ counting. counting.bench.model_at };
+    ghost address = { λ counting. counting.bench.model_at };
 
     ghost shares = { Unit {0} };
 

@@ -5,8 +5,6 @@
 #[cfg(test)]
 mod counting;
 #[cfg(test)]
-mod plans;
-#[cfg(test)]
 mod rules;
 #[cfg(test)]
 mod schedules;

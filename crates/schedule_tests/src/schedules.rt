@@ -6,10 +6,9 @@ ghost use Rattle.aerie_base.specs.plans.OfModel.{IsPlanOf};
 ghost use Rattle.goals.specs.OfModel.{is_goal};
 
 use crate::counting::Counting;
-use crate::plans::{Outline, Planned, compiled_in, plan_of};
 use crate::rules::goals_in;
 use crate::telling::told;
-use aerie_base::{Plan, Steps};
+use aerie_base::{Plan, Shared, Steps};
 use bench::CompiledModel;
 use goals::Goal;
 use scheduler::{Schedule, schedule};
@@ -17,12 +16,13 @@ use std::alloc::Global;
 use std::marker::Brand;
 use std::process::Abort;
 use std::sync::ledger::{Blank, Ledger};
+use test_worlds::{Outline, Planned, model_in, plan_of};
 
 /// A plan of a model with goals.
 #[derive(Clone, Copy)]
-struct Case {
+struct Case<'a> {
     model: &'static str,
-    outline: Outline,
+    outline: Outline<'a>,
     goals: &'static str,
 }
 
@@ -60,6 +60,12 @@ fn scheduled<L: Ledger, K: Ledger>(
     Some((made.copy(alloc).ok()?, counting.runs))
 }
 
+/// The model of a text, with its bodies compiled.
+fn compiled_in(alloc: Global, text: &str) -> Option<CompiledModel> {
+    let model = Shared::new(alloc, model_in(alloc, text)?).ok()?;
+    CompiledModel::new(alloc, model).ok()
+}
+
 /// The schedule of a case.
 fn schedule_of(alloc: Global, case: &Case) -> Option<Counted> {
     let compiled = compiled_in(alloc, case.model)?;
@@ -95,21 +101,33 @@ model m {
 ";
 
 /// An hour is 3,600,000,000 microseconds.
-const FOUR_HOURS: Outline = Outline {
+const FOUR_HOURS: Outline<'static> = Outline {
     duration: 14_400_000_000,
     first_id: 1,
-    planned: &[(1_800_000_000, "Tick", None)],
+    planned: &[Planned {
+        start: 1_800_000_000,
+        kind: "Tick",
+        argument: None,
+        anchor: None,
+    }],
+};
+
+const BUMP: Planned = Planned {
+    start: 5,
+    kind: "Bump",
+    argument: Some(("by", 3)),
+    anchor: None,
 };
 
 /// Each hour a tick.
-const HOURLY: Case = Case {
+const HOURLY: Case<'static> = Case {
     model: TICKS,
     outline: FOUR_HOURS,
     goals: "g: recurrence Tick() every 1h in [0us, 4h);",
 };
 
 /// A plan of 100 microseconds with these directives.
-fn short(first_id: u32, planned: &'static [Planned], goals: &'static str) -> Case {
+fn short<'a>(first_id: u32, planned: &'a [Planned], goals: &'static str) -> Case<'a> {
     Case {
         model: BUMPS,
         outline: Outline {
@@ -132,12 +150,7 @@ fn no_plan_is_simulated_twice_in_a_row(rt: HostRuntime) {
         "g met [2 3 4]; 3 trials, 4 runs; 1@1800000000 2@5400000000 3@9000000000 4@12600000000",
     );
     // without goals nothing is simulated
-    gives(
-        &rt,
-        alloc,
-        &short(1, &[(5, "Bump", Some(3))], ""),
-        "0 trials, 0 runs; 1@5",
-    );
+    gives(&rt, alloc, &short(1, &[BUMP], ""), "0 trials, 0 runs; 1@5");
     // with its last id the plan is full, and what cannot be added is no trial
     gives(
         &rt,

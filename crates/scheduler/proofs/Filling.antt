@@ -8,38 +8,38 @@ use Rattle.constraints.specs.declared.types.Constraint.{Constraint}
 use Rattle.goals.specs.declared.gap.Gap.{Gap}
 use Rattle.goals.specs.declared.types.Goal.{Goal}
 use Rattle.goals.specs.Goals.{first_gap, candidates_of}
-use Rattle.scheduler.specs.Scheduling.{Placing, with_found, found_for, after_gap, gaps_filled, all_filled}
+use Rattle.scheduler.specs.Scheduling.{GoalPlaced, with_found, found_for, after_gap, gaps_filled, all_filled}
 use Rattle.scheduler.proofs.Verdicts.{took_one}
 
 module _ (model : Parts) (constraints : List Constraint) (run_of : Plan → Run) (goal : Goal) where
-  abbrev filled_with : ℕ → Placing → Placing
+  abbrev filled_with : ℕ → GoalPlaced → GoalPlaced
   filled_with gaps at = gaps_filled model constraints run_of gaps goal at
 
-  abbrev searched : (Placing → Placing) → Placing → Option Plan → ℕ → Placing
+  abbrev searched : (GoalPlaced → GoalPlaced) → GoalPlaced → Option Plan → ℕ → GoalPlaced
   searched again at found left = with_found model constraints run_of again at found left
 
-  abbrev gone_on : (Placing → Placing) → Placing → Option Gap → Placing
+  abbrev gone_on : (GoalPlaced → GoalPlaced) → GoalPlaced → Option Gap → GoalPlaced
   gone_on again at gap = after_gap model constraints run_of again goal at gap
 
-  pub found_took : (at : Placing) (gap : Gap) (plan : Plan) → (found_for model constraints run_of goal at gap).plan ≡ Some plan →
+  pub found_took : (at : GoalPlaced) (gap : Gap) (plan : Plan) → (found_for model constraints run_of goal at gap).plan ≡ Some plan →
       (found_for model constraints run_of goal at gap).left < at.left
   found_took at gap plan e =
       took_one model constraints run_of goal gap at.plan (candidates_of model goal (run_of at.plan) gap) at.left plan e
 
-  pub enough : (gaps others : ℕ) (at : Placing) → at.left < gaps → at.left < others → filled_with gaps at ≡ filled_with others at
+  pub enough : (gaps others : ℕ) (at : GoalPlaced) → at.left < gaps → at.left < others → filled_with gaps at ≡ filled_with others at
   enough zero others at less more = absurd (omega (arith, less))
   enough (suc gaps) zero at less more = absurd (omega (arith, more))
   enough (suc gaps) (suc others) at less more = by (first_gap model goal (run_of at.plan)) (enough gaps others)
     where
       further : (found : Option Plan) (left : ℕ) → ((plan : Plan) → found ≡ Some plan → left < at.left) →
-          ((next : Placing) → next.left < gaps → next.left < others → filled_with gaps next ≡ filled_with others next) →
+          ((next : GoalPlaced) → next.left < gaps → next.left < others → filled_with gaps next ≡ filled_with others next) →
           searched (filled_with gaps) at found left ≡ searched (filled_with others) at found left
       further None left took same = refl
       further (Some plan) left took same =
           let one : left < at.left = took plan refl in
           same (record { plan = plan; placed = at.placed ++ at.plan.next_id ∷ []; left = left }) (omega (arith, one, less)) (omega (arith, one, more))
 
-      by : (gap : Option Gap) → ((next : Placing) → next.left < gaps → next.left < others → filled_with gaps next ≡ filled_with others next) →
+      by : (gap : Option Gap) → ((next : GoalPlaced) → next.left < gaps → next.left < others → filled_with gaps next ≡ filled_with others next) →
           gone_on (filled_with gaps) at gap ≡ gone_on (filled_with others) at gap
       by None same = refl
       by (Some gap) same = let found = found_for model constraints run_of goal at gap in further found.plan found.left (found_took at gap) same
@@ -47,7 +47,7 @@ module _ (model : Parts) (constraints : List Constraint) (run_of : Plan → Run)
   -- ---- by the first gap
 
   -- where nothing is found the goal ends
-  pub none_found : (at : Placing) (gap : Gap) → first_gap model goal (run_of at.plan) ≡ Some gap →
+  pub none_found : (at : GoalPlaced) (gap : Gap) → first_gap model goal (run_of at.plan) ≡ Some gap →
       (found_for model constraints run_of goal at gap).plan ≡ None →
       all_filled model constraints run_of goal at ≡ record at { left = (found_for model constraints run_of goal at gap).left }
   none_found at gap some none =
@@ -55,7 +55,7 @@ module _ (model : Parts) (constraints : List Constraint) (run_of : Plan → Run)
       ∙ ap (λ (found : Option Plan). searched (filled_with at.left) at found (found_for model constraints run_of goal at gap).left) none
 
   -- where a plan is found, it goes on there
-  pub one_found : (at : Placing) (gap : Gap) (plan : Plan) → first_gap model goal (run_of at.plan) ≡ Some gap →
+  pub one_found : (at : GoalPlaced) (gap : Gap) (plan : Plan) → first_gap model goal (run_of at.plan) ≡ Some gap →
       (found_for model constraints run_of goal at gap).plan ≡ Some plan →
       all_filled model constraints run_of goal at
       ≡ all_filled model constraints run_of goal

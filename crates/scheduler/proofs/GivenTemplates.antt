@@ -31,7 +31,7 @@ use Rattle.aerie_base.specs.plans.OfModel.{are_values_of, takes}
 use Rattle.plan_edit.specs.declared.errors.EditError.{EditError}
 use Rattle.plan_edit.specs.Answers.{then_made_of}
 use Rattle.plan_edit.specs.Arguments.{arguments_of, first_bad, is_given, parameter_value, unless_bad, value_for, value_for_parameter, value_given, value_in_front, value_or_default, values_filled, variant_written, written_variant}
-use Rattle.plan_edit.specs.Editing.{given_at_place, given_of, given_to, if_met, unless_unmet}
+use Rattle.plan_edit.specs.Editing.{given_at_position, given_of, given_to, if_met, unless_unmet}
 use Rattle.plan_edit.specs.Requires.{unmet_of_type}
 use Rattle.plan_edit.specs.ShownPlan.{word_of_variant}
 use Rattle.goals.specs.declared.types.Template.{Template}
@@ -57,8 +57,8 @@ same_itself name = (bytes_decides name name).1 refl
 same_is : (one other : List ℕ) → same_name one other ≡ true → one ≡ other
 same_is one other h = (bytes_decides one other).0 h
 
-same_turned : (one other : List ℕ) → same_name one other ≡ false → same_name other one ≡ false
-same_turned one other h = go (same_name other one) refl
+same_swapped : (one other : List ℕ) → same_name one other ≡ false → same_name other one ≡ false
+same_swapped one other h = go (same_name other one) refl
   where
     go : (t : Bool) → same_name other one ≡ t → t ≡ false
     go true e = absurd (true≢false (sym (same_itself one) ∙ ap (same_name one) (sym (same_is other one e)) ∙ h))
@@ -72,22 +72,22 @@ apart_at name (first ∷ rest) zero other none here =
 apart_at name (first ∷ rest) (suc at) other none here = apart_at name rest at other (neither (same_name name first) (is_name_among name rest) none).1 here
 
 -- of names that differ, one stands at one place
-one_place : (names : List (List ℕ)) (i j : ℕ) (name : List ℕ) → IsTrue (are_distinct names) → slice_get names i ≡ Some name → slice_get names j ≡ Some name → i ≡ j
-one_place [] i j name distinct here there = absurd (none-some name here)
-one_place (first ∷ rest) zero zero name distinct here there = refl
-one_place (first ∷ rest) zero (suc j) name distinct here there =
+one_position : (names : List (List ℕ)) (i j : ℕ) (name : List ℕ) → IsTrue (are_distinct names) → slice_get names i ≡ Some name → slice_get names j ≡ Some name → i ≡ j
+one_position [] i j name distinct here there = absurd (none-some name here)
+one_position (first ∷ rest) zero zero name distinct here there = refl
+one_position (first ∷ rest) zero (suc j) name distinct here there =
     let none = is_not (is_name_among first rest) (both_hold (not (is_name_among first rest)) (are_distinct rest) distinct).0 in
     absurd (true≢false (sym (same_itself first) ∙ ap (same_name first) (same_Some first name here) ∙ apart_at first rest j name none there))
-one_place (first ∷ rest) (suc i) zero name distinct here there =
+one_position (first ∷ rest) (suc i) zero name distinct here there =
     let none = is_not (is_name_among first rest) (both_hold (not (is_name_among first rest)) (are_distinct rest) distinct).0 in
     absurd (true≢false (sym (same_itself first) ∙ ap (same_name first) (same_Some first name there) ∙ apart_at first rest i name none here))
-one_place (first ∷ rest) (suc i) (suc j) name distinct here there =
-    ap suc (one_place rest i j name (both_hold (not (is_name_among first rest)) (are_distinct rest) distinct).1 here there)
+one_position (first ∷ rest) (suc i) (suc j) name distinct here there =
+    ap suc (one_position rest i j name (both_hold (not (is_name_among first rest)) (are_distinct rest) distinct).1 here there)
 
-only_place : {A : Type 0} (name : A → List ℕ) (xs : List A) (at : ℕ) (x : A) → IsTrue (are_distinct (map name xs)) → slice_get xs at ≡ Some x →
+only_position : {A : Type 0} (name : A → List ℕ) (xs : List A) (at : ℕ) (x : A) → IsTrue (are_distinct (map name xs)) → slice_get xs at ≡ Some x →
     (k : ℕ) (y : A) → slice_get xs k ≡ Some y → same_name (name y) (name x) ≡ true → k ≡ at
-only_place name xs at x distinct here k y there same =
-    one_place (map name xs) k at (name x) distinct
+only_position name xs at x distinct here k y there same =
+    one_position (map name xs) k at (name x) distinct
     (slice_get-map name xs k ∙ ap (option_map name) there ∙ ap Some (same_is (name y) (name x) same))
     (slice_get-map name xs at ∙ ap (option_map name) here)
 
@@ -101,23 +101,23 @@ other_fails test first rest at only = go (test first) refl
     go true e = let none = only 0 first refl e in absurd (omega (arith, none))
     go false e = refl
 
-place_found : {A : Type 0} (test : A → Bool) (xs : List A) (from at : ℕ) (x : A) → slice_get xs at ≡ Some x → test x ≡ true →
+found_at_position : {A : Type 0} (test : A → Bool) (xs : List A) (from at : ℕ) (x : A) → slice_get xs at ≡ Some x → test x ≡ true →
     ((k : ℕ) (y : A) → slice_get xs k ≡ Some y → test y ≡ true → k ≡ at) → position_from test from xs ≡ Some (from + at)
-place_found test [] from at x here passes only = absurd (none-some x here)
-place_found test (first ∷ rest) from zero x here passes only =
+found_at_position test [] from at x here passes only = absurd (none-some x here)
+found_at_position test (first ∷ rest) from zero x here passes only =
     let same : from ≡ from + 0 = omega arith in
     ap (λ (t : Bool). cond t (Some from) (position_from test (from + 1) rest)) (ap test (same_Some first x here) ∙ passes) ∙ ap Some same
-place_found test (first ∷ rest) from (suc at) x here passes only =
+found_at_position test (first ∷ rest) from (suc at) x here passes only =
     let same : from + 1 + at ≡ from + suc at = omega arith in
     ap (λ (t : Bool). cond t (Some from) (position_from test (from + 1) rest)) (other_fails test first rest at only)
-    ∙ place_found test rest (from + 1) at x here passes (λ k y there is. let next = only (suc k) y there is in omega (arith, next))
+    ∙ found_at_position test rest (from + 1) at x here passes (λ k y there is. let next = only (suc k) y there is in omega (arith, next))
     ∙ ap Some same
 
 position_found : {A : Type 0} (test : A → Bool) (xs : List A) (at : ℕ) (x : A) → slice_get xs at ≡ Some x → test x ≡ true →
     ((k : ℕ) (y : A) → slice_get xs k ≡ Some y → test y ≡ true → k ≡ at) → position test xs ≡ Some at
 position_found test xs at x here passes only =
     let same : 0 + at ≡ at = omega arith in
-    position_from-zero test xs ∙ place_found test xs 0 at x here passes only ∙ ap Some same
+    position_from-zero test xs ∙ found_at_position test xs 0 at x here passes only ∙ ap Some same
 
 one_found : {A : Type 0} (test : A → Bool) (xs : List A) (at : ℕ) (x : A) → slice_get xs at ≡ Some x → test x ≡ true →
     ((k : ℕ) (y : A) → slice_get xs k ≡ Some y → test y ≡ true → k ≡ at) → find test xs ≡ Some x
@@ -161,7 +161,7 @@ variant_found : (enum : EnumType) (at : ℕ) (variant : List ℕ) → IsTrue (ar
 variant_found enum at variant distinct here =
     position_found (λ (other : List ℕ). same_name (written_variant enum other) (written_variant enum variant)) enum.variants at variant here
     (same_itself (written_variant enum variant))
-    (λ k other there same. one_place enum.variants k at variant distinct (there ∙ ap Some (same_behind enum.name other variant same)) here)
+    (λ k other there same. one_position enum.variants k at variant distinct (there ∙ ap Some (same_behind enum.name other variant same)) here)
 
 module _ (enums : List EnumType) (good : IsTrue (list_all is_enum enums)) where
   variant_there : (at number : ℕ) → IsTrue (nat_lt number (variant_count enums at)) →
@@ -271,7 +271,7 @@ module _ (enums : List EnumType) (good : IsTrue (list_all is_enum enums)) where
       ∙ none_bad all (front ++ one ∷ []) rest values parts.1
       (λ at other there.
       list_any-append (λ (argument : RawArgument). same_name other.name argument.name) front (one ∷ [])
-      ∙ (λ i. apart (suc at) other there i || (same_turned parameter.name other.name
+      ∙ (λ i. apart (suc at) other there i || (same_swapped parameter.name other.name
       (apart_at parameter.name (map name_of rest) at other.name none (slice_get-map name_of rest at ∙ ap (option_map name_of) there)) i || false)))
       each.1
 
@@ -283,7 +283,7 @@ module _ (enums : List EnumType) (good : IsTrue (list_all is_enum enums)) where
         (λ at parameter given here there is.
         ap (λ (place : Option ℕ). value_for_parameter enums (option_and_then (slice_get parameters) place) (raw_of enums given))
         (position_found (λ (p : Parameter). same_name p.name parameter.name) parameters at parameter here (same_itself parameter.name)
-        (only_place name_of parameters at parameter distinct here))
+        (only_position name_of parameters at parameter distinct here))
         ∙ ap (λ (found : Option Parameter). value_for_parameter enums found (raw_of enums given)) here
         ∙ given_again enums good parameter.kind given is)
 
@@ -296,7 +296,7 @@ module _ (enums : List EnumType) (good : IsTrue (list_all is_enum enums)) where
         (raw_at parameters values at parameter given here there) (same_itself parameter.name)
         (λ k one found same.
         let of = parameter_at parameters values k one found in
-        only_place name_of parameters at parameter distinct here k of.0 of.1.0 (ap (λ (name : List ℕ). same_name name parameter.name) of.1.1 ∙ same)))
+        only_position name_of parameters at parameter distinct here k of.0 of.1.0 (ap (λ (name : List ℕ). same_name name parameter.name) of.1.1 ∙ same)))
         ∙ given_again enums good parameter.kind given is)
 
     given_values : arguments_of enums parameters (raws_for enums parameters values) ≡ Ok values
@@ -352,9 +352,9 @@ template_given model template valid good =
           name = activity.name;
           arguments = raws;
           gives =
-              ap (given_at_place model raws)
+              ap (given_at_position model raws)
               (position_found (λ (other : Activity). same_name other.name activity.name) model.activities template.kind activity here (same_itself activity.name)
-              (only_place (λ (other : Activity). other.name) model.activities template.kind activity (types_differ model valid) here))
+              (only_position (λ (other : Activity). other.name) model.activities template.kind activity (types_differ model valid) here))
               ∙ ap (given_to model template.kind raws) here
               ∙ ap (λ (r : Result (List Value) EditError). then_made_of (λ values. Ok (record { kind = template.kind; arguments = values })) (then_made_of (if_met activity) r))
               (given_values model.enums (enums_good model valid) activity.parameters template.arguments taken (parameters_differ model valid template.kind activity here))

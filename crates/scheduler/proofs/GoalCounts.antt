@@ -12,8 +12,8 @@ use Rattle.goals.specs.declared.types.Goal.{Goal}
 use Rattle.scheduler.specs.declared.progress.GoalProgress.{GoalProgress}
 use Rattle.scheduler.specs.FreshRuns.{fresh_run}
 use Rattle.scheduler.specs.Scheduling.{GoalsPlaced, goal_placed, goals_placed, statuses_on, with_statuses, trial_limit, schedule_of}
-use Rattle.scheduler.specs.Standing.{IsKeptOf, all_shown, placed_behind, schedule_after}
-use Rattle.scheduler.proofs.GoalTurns.{run_is}
+use Rattle.scheduler.specs.InProgram.{IsKeptOf, all_shown, placed_behind, schedule_after}
+use Rattle.scheduler.proofs.GoalIterations.{run_is}
 
 -- one of those that all are
 pub one_of_all : {X : Type 0} (p : X → Bool) (xs : List X) (i : ℕ) (d : X) → i < length xs → IsTrue (list_all p xs) → IsTrue (p (get_or xs i d))

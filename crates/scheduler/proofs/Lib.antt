@@ -4,7 +4,7 @@ pub mod Filling
 pub mod FreshRunFacts
 pub mod GivenTemplates
 pub mod GoalCounts
-pub mod GoalTurns
+pub mod GoalIterations
 pub mod MadePlans
 pub mod OnlyAdded
 pub mod Placed

@@ -6,11 +6,11 @@ use Rattle.std.proofs.lemmas.List.Folds.{list_any-append}
 use Rattle.aerie_base.specs.declared.models.model.Parts.{Parts}
 use Rattle.aerie_base.specs.declared.plans.Directive.{Directive}
 use Rattle.aerie_base.specs.declared.plans.Plan.{Plan}
-use Rattle.aerie_base.specs.plans.OfModel.{directive_limit, ids_of, rise_to, takes, with_id, anchored_to, anchor_of, followed, is_there, is_directive_of, IsPlanOf}
-use Rattle.aerie_base.specs.plans.RisingIds.{rise_pushed, ids_pushed}
+use Rattle.aerie_base.specs.plans.OfModel.{directive_limit, ids_of, rise_to, takes, with_id, anchored_to, anchor_of, followed, is_there, is_directive_of, IsPlanOf, is_dangling, is_id_of}
+use Rattle.aerie_base.specs.plans.RisingIds.{all_pushed, and_too, both, ids_pushed, or_first, rise_pushed, there_more}
 use Rattle.plan_edit.specs.declared.errors.EditError.TheVariants.{OutsidePlan, TooMany, NoAnchor}
 use Rattle.plan_edit.specs.Answers.{then_made_of, unless_refused}
-use Rattle.plan_edit.specs.Editing.{is_outside, is_full, is_loose, with_added}
+use Rattle.plan_edit.specs.Editing.{is_outside, is_full, with_added}
 use Rattle.goals.specs.declared.types.Template.{Template}
 use Rattle.goals.specs.OfModel.{is_template}
 use Rattle.scheduler.specs.Trials.{directive_with, unless_refusal, made_with}
@@ -25,7 +25,7 @@ pub record IsMadeWith (plan next : Plan) (template : Template) (time : ℕ) : Ty
   pub is : next ≡ with_added plan (directive_with plan template time)
 
 pub placed_there : (plan next : Plan) (template : Template) (time : ℕ) → made_with plan template time ≡ Some next → IsMadeWith plan next template time
-placed_there plan next template time e = by (is_outside plan time) (is_full plan) (is_loose plan None) refl refl e
+placed_there plan next template time e = by (is_outside plan time) (is_full plan) (is_dangling (is_id_of plan.directives) None) refl refl e
   where
     by : (outside full loose : Bool) → is_outside plan time ≡ outside → is_full plan ≡ full →
         unless_refusal (then_made_of (λ directive. Ok (with_added plan directive))
@@ -38,19 +38,6 @@ placed_there plan next template time e = by (is_outside plan time) (is_full plan
 
 -- ---- a directive more
 
-both : (a b : Bool) → IsTrue (a && b) → IsTrue a × IsTrue b
-both true true h = (refl, refl)
-both true false h = absurd (cc)
-both false b h = absurd (cc)
-
-and_too : (a b : Bool) → IsTrue a → IsTrue b → IsTrue (a && b)
-and_too true b h k = k
-and_too false b h k = absurd (cc)
-
-or_first : (a b : Bool) → a ≡ true → (a || b) ≡ true
-or_first true b h = refl
-or_first false b h = absurd (cc)
-
 not_false : (a : Bool) → not a ≡ false → a ≡ true
 not_false true e = refl
 not_false false e = absurd (cc)
@@ -61,17 +48,17 @@ neither true false e = absurd (cc)
 neither false b e = absurd (cc)
 
 module _ (more : Directive) (loose : more.anchor ≡ None) where
-  no_lead : anchored_to more ≡ None
-  no_lead = ap (option_map (λ anchor. anchor.to)) loose
+  no_anchor_id : anchored_to more ≡ None
+  no_anchor_id = ap (option_map (λ anchor. anchor.to)) loose
 
   -- a directive without an anchor leads nowhere
-  lead_same : (directives : List Directive) (id : ℕ) → anchor_of (directives ++ more ∷ []) id ≡ anchor_of directives id
-  lead_same [] id = by (nat_eq more.id id)
+  anchor_same : (directives : List Directive) (id : ℕ) → anchor_of (directives ++ more ∷ []) id ≡ anchor_of directives id
+  anchor_same [] id = by (nat_eq more.id id)
     where
       by : (here : Bool) → option_and_then anchored_to (if here then Some more else None) ≡ None
-      by true = no_lead
+      by true = no_anchor_id
       by false = refl
-  lead_same (first ∷ rest) id = by (nat_eq first.id id) (lead_same rest id)
+  anchor_same (first ∷ rest) id = by (nat_eq first.id id) (anchor_same rest id)
     where
       by : (here : Bool) → anchor_of (rest ++ more ∷ []) id ≡ anchor_of rest id →
           option_and_then anchored_to (if here then Some first else with_id (rest ++ more ∷ []) id) ≡ option_and_then anchored_to (if here then Some first else with_id rest id)
@@ -81,24 +68,12 @@ module _ (more : Directive) (loose : more.anchor ≡ None) where
   followed_same : (directives : List Directive) (steps id : ℕ) → followed (directives ++ more ∷ []) steps id ≡ followed directives steps id
   followed_same directives zero id = refl
   followed_same directives (suc steps) id =
-      ap (option_and_then (followed (directives ++ more ∷ []) steps)) (lead_same directives id) ∙ by (anchor_of directives id) (followed_same directives steps)
+      ap (option_and_then (followed (directives ++ more ∷ []) steps)) (anchor_same directives id) ∙ by (anchor_of directives id) (followed_same directives steps)
     where
       by : (next : Option ℕ) → ((id : ℕ) → followed (directives ++ more ∷ []) steps id ≡ followed directives steps id) →
           option_and_then (followed (directives ++ more ∷ []) steps) next ≡ option_and_then (followed directives steps) next
       by None e = refl
       by (Some next) e = e next
-
-there_more : (directives : List Directive) (more : Directive) (lead : Option ℕ) → IsTrue (is_there directives lead) → IsTrue (is_there (directives ++ more ∷ []) lead)
-there_more directives more None h = refl
-there_more directives more (Some id) h =
-    ap (list_any (nat_eq id)) (ids_pushed directives more) ∙ list_any-append (nat_eq id) (ids_of directives) (more.id ∷ [])
-    ∙ or_first (list_any (nat_eq id) (ids_of directives)) (list_any (nat_eq id) (more.id ∷ [])) h
-
-all_pushed : (test : Directive → Bool) (directives : List Directive) (more : Directive) → IsTrue (list_all test directives) → IsTrue (test more) → IsTrue (list_all test (directives ++ more ∷ []))
-all_pushed test [] more all one = and_too (test more) true one refl
-all_pushed test (first ∷ rest) more all one =
-    let parts = both (test first) (list_all test rest) all in
-    and_too (test first) (list_all test (rest ++ more ∷ [])) parts.0 (all_pushed test rest more parts.1 one)
 
 module _ (model : Parts) (plan : Plan) (of : IsPlanOf model plan) (more : Directive) where
   still_good : (directives : List Directive) → IsTrue (list_all (is_directive_of model plan) directives) → IsTrue (list_all (is_directive_of model (with_added plan more)) directives)
@@ -123,7 +98,7 @@ module _ (model : Parts) (plan : Plan) (of : IsPlanOf model plan) (more : Direct
         (and_too (takes model.enums (slice_get model.activities more.kind) more.arguments && nat_lt more.start plan.duration)
         (is_there (plan.directives ++ more ∷ []) (anchored_to more))
         (and_too (takes model.enums (slice_get model.activities more.kind) more.arguments) (nat_lt more.start plan.duration) good start)
-        (subst (λ (lead : Option ℕ). IsTrue (is_there (plan.directives ++ more ∷ []) lead)) (sym (no_lead more loose)) refl));
+        (subst (λ (anchor_id : Option ℕ). IsTrue (is_there (plan.directives ++ more ∷ []) anchor_id)) (sym (no_anchor_id more loose)) refl));
     anchors = λ id steps e. of.anchors id steps (sym (followed_same more loose plan.directives (suc steps) id) ∙ e);
   }
 

@@ -28,7 +28,7 @@ use Rattle.span_table.specs.PlannedSpans.{IsOneOf, IsSpanOf, PlannedHaveSpans}
 use Rattle.scheduler.specs.declared.scheduled.Schedule.{Schedule}
 use Rattle.scheduler.specs.FreshRuns.{fresh_run}
 use Rattle.scheduler.specs.Trials.{directive_with, made_with, is_accepted, verdict_if, verdict_on, found_by, first_accepted}
-use Rattle.scheduler.specs.Scheduling.{Placing, GoalsPlaced, with_found, found_for, after_gap, gaps_filled, all_filled, unless_open, ended, goal_placed, goals_placed, goal_status, statuses_on, trial_limit, schedule_of}
+use Rattle.scheduler.specs.Scheduling.{GoalPlaced, GoalsPlaced, with_found, found_for, after_gap, gaps_filled, all_filled, unless_open, ended, goal_placed, goals_placed, goal_status, statuses_on, trial_limit, schedule_of}
 use Rattle.scheduler.specs.Told.{EachWith, IsTold, IsPlaced, AreAllPlaced, IsLikePlan}
 use Rattle.scheduler.proofs.MadePlans.{placed_there}
 
@@ -127,12 +127,12 @@ module _ (model : Parts) (constraints : List Constraint) (run_of : Plan → Run)
   -- ---- one goal
 
   -- the plan has grown, and has all that was placed for the goal
-  pub record HasPlaced (goal : Goal) (before : Plan) (at : Placing) : Type 0 where
+  pub record HasPlaced (goal : Goal) (before : Plan) (at : GoalPlaced) : Type 0 where
     pub grows : Grows before at.plan
     pub like : IsLikePlan before at.plan
     pub has : EachOf (IsIn at.plan goal.template) at.placed
 
-  placed_more : (goal : Goal) (before : Plan) (at : Placing) (next : Plan) (left time : ℕ) → HasPlaced goal before at → made_with at.plan goal.template time ≡ Some next →
+  placed_more : (goal : Goal) (before : Plan) (at : GoalPlaced) (next : Plan) (left time : ℕ) → HasPlaced goal before at → made_with at.plan goal.template time ≡ Some next →
       HasPlaced goal before (record { plan = next; placed = at.placed ++ at.plan.next_id ∷ []; left = left })
   placed_more goal before at next left time has e = record {
     grows = λ directive among. made_grows at.plan next goal.template time e directive (has.grows directive among);
@@ -142,26 +142,26 @@ module _ (model : Parts) (constraints : List Constraint) (run_of : Plan → Run)
         (made_is_in at.plan next goal.template time e);
   }
 
-  filled_has : (gaps : ℕ) (goal : Goal) (before : Plan) (at : Placing) → HasPlaced goal before at → HasPlaced goal before (gaps_filled model constraints run_of gaps goal at)
+  filled_has : (gaps : ℕ) (goal : Goal) (before : Plan) (at : GoalPlaced) → HasPlaced goal before at → HasPlaced goal before (gaps_filled model constraints run_of gaps goal at)
   filled_has zero goal before at has = has
   filled_has (suc gaps) goal before at has = by (first_gap model goal (run_of at.plan)) (λ next. filled_has gaps goal before next)
     where
       found : (plan : Option Plan) (left : ℕ) → ((next : Plan) → plan ≡ Some next → (time : ℕ) × (made_with at.plan goal.template time ≡ Some next)) →
-          ((next : Placing) → HasPlaced goal before next → HasPlaced goal before (gaps_filled model constraints run_of gaps goal next)) →
+          ((next : GoalPlaced) → HasPlaced goal before next → HasPlaced goal before (gaps_filled model constraints run_of gaps goal next)) →
           HasPlaced goal before (with_found model constraints run_of (gaps_filled model constraints run_of gaps goal) at plan left)
       found None left made further = record { grows = has.grows; like = has.like; has = has.has }
       found (Some next) left made further =
           let trial = made next refl in
           further (record { plan = next; placed = at.placed ++ at.plan.next_id ∷ []; left = left }) (placed_more goal before at next left trial.0 has trial.1)
 
-      by : (gap : Option Gap) → ((next : Placing) → HasPlaced goal before next → HasPlaced goal before (gaps_filled model constraints run_of gaps goal next)) →
+      by : (gap : Option Gap) → ((next : GoalPlaced) → HasPlaced goal before next → HasPlaced goal before (gaps_filled model constraints run_of gaps goal next)) →
           HasPlaced goal before (after_gap model constraints run_of (gaps_filled model constraints run_of gaps goal) goal at gap)
       by None further = has
       by (Some gap) further =
           let search = found_for model constraints run_of goal at gap in
           found search.plan search.left (λ next. made_at goal gap at.plan (candidates_of model goal (run_of at.plan) gap) at.left next) further
 
-  ended_has : (goal : Goal) (before : Plan) (at : Placing) → HasPlaced goal before at → HasPlaced goal before (ended model constraints run_of goal before at)
+  ended_has : (goal : Goal) (before : Plan) (at : GoalPlaced) → HasPlaced goal before at → HasPlaced goal before (ended model constraints run_of goal before at)
   ended_has goal before at has = by goal.rollback (first_gap model goal (run_of at.plan))
     where
       by : (back : Bool) (gap : Option Gap) → HasPlaced goal before (unless_open model constraints run_of back before at gap)

@@ -9,7 +9,7 @@ use Rattle.goals.specs.declared.types.Goal.{Goal}
 use Rattle.goals.specs.declared.types.Template.{Template}
 use Rattle.goals.specs.Goals.{first_gap, candidates_of}
 use Rattle.scheduler.specs.Trials.{made_with}
-use Rattle.scheduler.specs.Scheduling.{Placing, with_found, found_for, after_gap, gaps_filled, all_filled, unless_open, ended, goal_placed}
+use Rattle.scheduler.specs.Scheduling.{GoalPlaced, with_found, found_for, after_gap, gaps_filled, all_filled, unless_open, ended, goal_placed}
 use Rattle.scheduler.proofs.Placed.{made_at}
 
 -- of a plan, the plan that is made of it, and the ids that were placed on the way
@@ -21,16 +21,16 @@ pub record IsOfTrials (template : Template) (R : Relation) : Type 0 where
   pub more : (old plan next : Plan) (placed : List ℕ) (time : ℕ) → made_with plan template time ≡ Some next → R old plan placed → R old next (placed ++ plan.next_id ∷ [])
 
 module _ (model : Parts) (constraints : List Constraint) (run_of : Plan → Run) (goal : Goal) (R : Relation) (of : IsOfTrials goal.template R) where
-  filled_by : (gaps : ℕ) (before : Plan) (at : Placing) → R before at.plan at.placed →
+  filled_by : (gaps : ℕ) (before : Plan) (at : GoalPlaced) → R before at.plan at.placed →
       R before (gaps_filled model constraints run_of gaps goal at).plan (gaps_filled model constraints run_of gaps goal at).placed
   filled_by zero before at is = is
   filled_by (suc gaps) before at is = by (first_gap model goal (run_of at.plan)) (λ next. filled_by gaps before next)
     where
-      again : Placing → Placing
+      again : GoalPlaced → GoalPlaced
       again = gaps_filled model constraints run_of gaps goal
 
       found : (plan : Option Plan) (left : ℕ) → ((next : Plan) → plan ≡ Some next → (time : ℕ) × (made_with at.plan goal.template time ≡ Some next)) →
-          ((next : Placing) → R before next.plan next.placed → R before (again next).plan (again next).placed) →
+          ((next : GoalPlaced) → R before next.plan next.placed → R before (again next).plan (again next).placed) →
           R before (with_found model constraints run_of again at plan left).plan (with_found model constraints run_of again at plan left).placed
       found None left made further = is
       found (Some next) left made further =
@@ -38,14 +38,14 @@ module _ (model : Parts) (constraints : List Constraint) (run_of : Plan → Run)
           further (record { plan = next; placed = at.placed ++ at.plan.next_id ∷ []; left = left })
           (of.more before at.plan next at.placed trial.0 trial.1 is)
 
-      by : (gap : Option Gap) → ((next : Placing) → R before next.plan next.placed → R before (again next).plan (again next).placed) →
+      by : (gap : Option Gap) → ((next : GoalPlaced) → R before next.plan next.placed → R before (again next).plan (again next).placed) →
           R before (after_gap model constraints run_of again goal at gap).plan (after_gap model constraints run_of again goal at gap).placed
       by None further = is
       by (Some gap) further =
           let search = found_for model constraints run_of goal at gap in
           found search.plan search.left (λ next. made_at model constraints run_of goal gap at.plan (candidates_of model goal (run_of at.plan) gap) at.left next) further
 
-  ended_by : (before : Plan) (at : Placing) → R before at.plan at.placed →
+  ended_by : (before : Plan) (at : GoalPlaced) → R before at.plan at.placed →
       R before (ended model constraints run_of goal before at).plan (ended model constraints run_of goal before at).placed
   ended_by before at is = by goal.rollback (first_gap model goal (run_of at.plan))
     where

@@ -6,7 +6,7 @@ use Rattle.plan_edit.specs.Requires.{unmet_of_type}
 use Rattle.goals.specs.declared.types.Template.{Template}
 use Rattle.goals.specs.OfModel.{is_template, is_goal_kind}
 use Rattle.scheduler.specs.declared.requests.GoalRequest.{GoalRequest}
-use Rattle.scheduler.specs.Standing.{IsRequest}
+use Rattle.scheduler.specs.InProgram.{IsRequest}
 
 pub both_hold : (a b : Bool) → IsTrue (a && b) → IsTrue a × IsTrue b
 both_hold true b h = (refl, h)

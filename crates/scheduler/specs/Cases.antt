@@ -14,7 +14,7 @@ use Rattle.aerie_base.specs.expressions.Evaluation.{evaluated}
 use Rattle.aerie_base.specs.statements.Places.{left, lefts, size}
 use Rattle.effect_cells.specs.declared.trees.Part.TheBlock.{hidden-the_row-Part-0, shape-the_row-Part-0}
 use denote.Hole.Carrier.{hidden, shown, out}
-use Rattle.run_data.specs.cases.Missions.{number, add, plain, bump, mission, directive, ints}
+use Rattle.run_data.specs.cases.SmallModels.{number, add, plain, bump, small_model, directive, ints}
 use Rattle.constraints.specs.declared.types.Constraint.{Constraint}
 use Rattle.constraints.specs.declared.types.Reading.TheVariants as reading
 use Rattle.constraints.specs.declared.types.Rule.TheVariants.{Plain}
@@ -31,7 +31,7 @@ use Rattle.scheduler.specs.Scheduling.{schedule_by}
 
 -- a model of `n`, which is a resource too, and one activity type
 abbrev model_of : Activity → Parts
-model_of activity = record (mission [] (activity ∷ []) []) { resources = (codes "n", resource.Discrete (read.Counter 0)) ∷ [] }
+model_of activity = record (small_model [] (activity ∷ []) []) { resources = (codes "n", resource.Discrete (read.Counter 0)) ∷ [] }
 
 -- the sums `n` and a number
 abbrev the_count : RuleSum

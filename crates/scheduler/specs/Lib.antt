@@ -7,6 +7,6 @@ pub mod OnlyAddsCases
 pub mod Running
 pub mod ScheduleLaws
 pub mod Scheduling
-pub mod Standing
+pub mod InProgram
 pub mod Told
 pub mod Trials

@@ -3,7 +3,7 @@ use Rattle.std.specs.Prelude.{ℕ, List, [], ◌∷◌, refl}
 use Rattle.std.proofs.Common.{subst}
 use Rattle.aerie_base.specs.declared.plans.Directive.{Directive}
 use Rattle.aerie_base.specs.declared.plans.Plan.{Plan}
-use Rattle.run_data.specs.cases.Missions.{directive}
+use Rattle.run_data.specs.cases.SmallModels.{directive}
 use Rattle.scheduler.specs.OnlyAdds.{OnlyAdds}
 
 -- a plan of 40 microseconds with these directives

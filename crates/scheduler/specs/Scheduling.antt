@@ -17,7 +17,7 @@ abbrev pub trial_limit : ℕ
 trial_limit = 10_000
 
 -- where a goal stands: the plan so far, the ids that were placed for it, and how many trials are left
-pub record Placing : Type 0 where
+pub record GoalPlaced : Type 0 where
   pub plan : Plan
   pub placed : List ℕ
   pub left : ℕ
@@ -42,45 +42,45 @@ module _ (model : Parts) (constraints : List Constraint) (run_of : Plan → Run)
   -- ---- one goal
 
   -- the next gap is looked for where a trial was accepted, and the goal ends where none was
-  abbrev pub with_found : (Placing → Placing) → Placing → Option Plan → ℕ → Placing
+  abbrev pub with_found : (GoalPlaced → GoalPlaced) → GoalPlaced → Option Plan → ℕ → GoalPlaced
   with_found again at None left = record at { left = left }
   with_found again at (Some plan) left = again (record { plan = plan; placed = at.placed ++ at.plan.next_id ∷ []; left = left })
 
-  abbrev pub after_search : (Placing → Placing) → Placing → Found → Placing
+  abbrev pub after_search : (GoalPlaced → GoalPlaced) → GoalPlaced → Found → GoalPlaced
   after_search again at found = with_found again at found.plan found.left
 
-  abbrev pub found_for : Goal → Placing → Gap → Found
+  abbrev pub found_for : Goal → GoalPlaced → Gap → Found
   found_for goal at gap =
       first_accepted model constraints run_of goal gap at.plan (candidates_of model goal (run_of at.plan) gap) at.left
 
   -- the goal ends too where it has no gap
-  abbrev pub after_gap : (Placing → Placing) → Goal → Placing → Option Gap → Placing
+  abbrev pub after_gap : (GoalPlaced → GoalPlaced) → Goal → GoalPlaced → Option Gap → GoalPlaced
   after_gap again goal at None = at
   after_gap again goal at (Some gap) = after_search again at (found_for goal at gap)
 
   -- at most so many gaps, one after another
-  abbrev pub gaps_filled : ℕ → Goal → Placing → Placing
+  abbrev pub gaps_filled : ℕ → Goal → GoalPlaced → GoalPlaced
   gaps_filled zero goal at = at
   gaps_filled (suc gaps) goal at = after_gap (gaps_filled gaps goal) goal at (first_gap model goal (run_of at.plan))
 
   -- each gap takes a trial at least, so there are no more than trials, and one that is left open
-  abbrev pub all_filled : Goal → Placing → Placing
+  abbrev pub all_filled : Goal → GoalPlaced → GoalPlaced
   all_filled goal at = gaps_filled (suc at.left) goal at
 
   -- the plan as it was before the goal
-  abbrev pub taken_back : Plan → Placing → Placing
+  abbrev pub taken_back : Plan → GoalPlaced → GoalPlaced
   taken_back before at = record { plan = before; placed = []; left = at.left }
 
-  abbrev pub unless_open : Bool → Plan → Placing → Option Gap → Placing
+  abbrev pub unless_open : Bool → Plan → GoalPlaced → Option Gap → GoalPlaced
   unless_open true before at (Some gap) = taken_back before at
   unless_open true before at None = at
   unless_open false before at gap = at
 
   -- with `rollback` a goal that ends with a gap left gives back the plan as it was when it began
-  abbrev pub ended : Goal → Plan → Placing → Placing
+  abbrev pub ended : Goal → Plan → GoalPlaced → GoalPlaced
   ended goal before at = unless_open goal.rollback before at (first_gap model goal (run_of at.plan))
 
-  abbrev pub goal_placed : Goal → Plan → ℕ → Placing
+  abbrev pub goal_placed : Goal → Plan → ℕ → GoalPlaced
   goal_placed goal plan left = ended goal plan (all_filled goal (record { plan = plan; placed = []; left = left }))
 
   -- ---- all goals
@@ -88,7 +88,7 @@ module _ (model : Parts) (constraints : List Constraint) (run_of : Plan → Run)
   abbrev pub with_placed : List ℕ → GoalsPlaced → GoalsPlaced
   with_placed placed others = record others { placed = placed ∷ others.placed }
 
-  abbrev pub then_others : (Plan → ℕ → GoalsPlaced) → Placing → GoalsPlaced
+  abbrev pub then_others : (Plan → ℕ → GoalsPlaced) → GoalPlaced → GoalsPlaced
   then_others others at = with_placed at.placed (others at.plan at.left)
 
   -- one goal after another, each on the plan that those before it left

@@ -4,7 +4,7 @@ ghost use Rattle.std.specs.Prelude.{◌≡◌, ◌<◌, Some, true, false, IfOk}
 ghost use Rattle.goals.specs.Goals.{first_gap};
 ghost use Rattle.scheduler.specs.FreshRuns.{kept_run};
 ghost use Rattle.scheduler.specs.Running.{OnlyRanPlans};
-ghost use Rattle.scheduler.specs.Standing.{IsEither, IsKeptOf, IsRequest, goal_ended, goal_filled, goal_placed_for, placed_after, placed_with, search_for, searched_of, shown, turns_left};
+ghost use Rattle.scheduler.specs.InProgram.{IsEither, IsKeptOf, IsRequest, IsRequestTo, goal_ended, goal_filled, goal_placed_for, placed_after, placed_with, search_for, searched_of, shown, most_gaps_left};
 
 use crate::laws::fresh_runs_are_given;
 use crate::requests::GoalRequest;
@@ -97,12 +97,14 @@ fn search<M: Simulator, L: Ledger, K: Ledger>(
     looks: &mut Steps<K>,
 ) -> Result<Search, OutOfMemory>
     requires shares { M.shares }
-    requires model { M.model simulator.old ≡ request.now.model.now }
-    requires request { IsRequest request.now }
+    requires request { IsRequestTo (M.model simulator.old) request.now }
     requires kept { IsKeptOf request.now.model.now (M.bound simulator.old) placing.now.kept }
     requires gap { first_gap request.now.model.now request.now.goal.now placing.now.kept.run ≡ Some gap.now }
-    ensures found { IfOk result (λ found. found ≡ searched_of (kept_run request.now.model.now (M.bound simulator.old)) (search_for (M.bound simulator.old) request.now placing.now gap.now)) }
-    ensures ran { OnlyRanPlans M.model M.bound M.anchor (simulator.old, steps.old, looks.old)
+    ensures found { IfOk result (λ found.
+        found
+        ≡ searched_of (kept_run request.now.model.now (M.bound simulator.old))
+        (search_for (M.bound simulator.old) request.now placing.now gap.now)) }
+    ensures ran { OnlyRanPlans M.model M.bound M.address (simulator.old, steps.old, looks.old)
         (simulator.new, steps.new, looks.new) }
 {
     let run = placing.kept.run();
@@ -132,14 +134,15 @@ fn fill_gap<M: Simulator, L: Ledger, K: Ledger>(
     looks: &mut Steps<K>,
 ) -> Result<Placing, OutOfMemory>
     requires shares { M.shares }
-    requires model { M.model simulator.old ≡ request.now.model.now }
-    requires request { IsRequest request.now }
+    requires request { IsRequestTo (M.model simulator.old) request.now }
     requires kept { IsKeptOf request.now.model.now (M.bound simulator.old) placing.kept }
     requires goes_on { placing.goes_on ≡ true }
-    ensures filled { IfOk result (λ made. goal_filled (M.bound simulator.old) request.now made ≡ goal_filled (M.bound simulator.old) request.now placing) }
-    ensures fewer { IfOk result (λ made. turns_left made < turns_left placing) }
+    ensures filled { IfOk result (λ made.
+        goal_filled (M.bound simulator.old) request.now made
+        ≡ goal_filled (M.bound simulator.old) request.now placing) }
+    ensures fewer { IfOk result (λ made. most_gaps_left made < most_gaps_left placing) }
     ensures kept { IfOk result (λ made. IsKeptOf request.now.model.now (M.bound simulator.old) made.kept) }
-    ensures ran { OnlyRanPlans M.model M.bound M.anchor (simulator.old, steps.old, looks.old)
+    ensures ran { OnlyRanPlans M.model M.bound M.address (simulator.old, steps.old, looks.old)
         (simulator.new, steps.new, looks.new) }
 {
     fresh_runs_are_given();
@@ -167,12 +170,12 @@ fn fill_gaps<M: Simulator, L: Ledger, K: Ledger>(
     looks: &mut Steps<K>,
 ) -> Result<Placing, OutOfMemory>
     requires shares { M.shares }
-    requires model { M.model simulator.old ≡ request.now.model.now }
-    requires request { IsRequest request.now }
+    requires request { IsRequestTo (M.model simulator.old) request.now }
     requires kept { IsKeptOf request.now.model.now (M.bound simulator.old) placing.kept }
-    ensures filled { IfOk result (λ made. shown made ≡ goal_filled (M.bound simulator.old) request.now placing) }
+    ensures filled { IfOk result (λ made.
+        shown made ≡ goal_filled (M.bound simulator.old) request.now placing) }
     ensures kept { IfOk result (λ made. IsKeptOf request.now.model.now (M.bound simulator.old) made.kept) }
-    ensures ran { OnlyRanPlans M.model M.bound M.anchor (simulator.old, steps.old, looks.old)
+    ensures ran { OnlyRanPlans M.model M.bound M.address (simulator.old, steps.old, looks.old)
         (simulator.new, steps.new, looks.new) }
 {
     let mut placing = placing;
@@ -221,12 +224,12 @@ pub(crate) fn place_goal<M: Simulator, L: Ledger, K: Ledger>(
     looks: &mut Steps<K>,
 ) -> Result<Placing, OutOfMemory>
     requires shares { M.shares }
-    requires model { M.model simulator.old ≡ request.now.model.now }
-    requires request { IsRequest request.now }
+    requires request { IsRequestTo (M.model simulator.old) request.now }
     requires kept { IsKeptOf request.now.model.now (M.bound simulator.old) kept }
-    ensures placed { IfOk result (λ made. shown made ≡ goal_placed_for (M.bound simulator.old) request.now kept.run.plan left) }
+    ensures placed { IfOk result (λ made.
+        shown made ≡ goal_placed_for (M.bound simulator.old) request.now kept.run.plan left) }
     ensures kept { IfOk result (λ made. IsKeptOf request.now.model.now (M.bound simulator.old) made.kept) }
-    ensures ran { OnlyRanPlans M.model M.bound M.anchor (simulator.old, steps.old, looks.old)
+    ensures ran { OnlyRanPlans M.model M.bound M.address (simulator.old, steps.old, looks.old)
         (simulator.new, steps.new, looks.new) }
 {
     let before = kept.share()?;

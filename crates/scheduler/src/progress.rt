@@ -9,7 +9,7 @@ ghost use Rattle.goals.specs.OfModel.{is_goal};
 ghost use Rattle.scheduler.specs.FreshRuns.{fresh_run};
 ghost use Rattle.scheduler.specs.Running.{OnlyRanPlans};
 ghost use Rattle.scheduler.specs.Scheduling.{goals_placed, goal_status as goal_status_by, statuses_on, trial_limit};
-ghost use Rattle.scheduler.specs.Standing.{IsKeptOf, IsRequest, all_shown, next_placed};
+ghost use Rattle.scheduler.specs.InProgram.{IsKeptOf, IsRequestTo, all_shown, next_placed};
 
 use crate::placing::place_goal;
 use crate::requests::GoalRequest;
@@ -46,12 +46,12 @@ fn place_next<M: Simulator, L: Ledger, K: Ledger>(
     looks: &mut Steps<K>,
 ) -> Result<GoalProgress, OutOfMemory>
     requires shares { M.shares }
-    requires model { M.model simulator.old ≡ request.now.model.now }
-    requires request { IsRequest request.now }
+    requires request { IsRequestTo (M.model simulator.old) request.now }
     requires kept { IsKeptOf request.now.model.now (M.bound simulator.old) progress.kept }
-    ensures placed { IfOk result (λ made. all_shown made ≡ next_placed (M.bound simulator.old) request.now progress) }
+    ensures placed { IfOk result (λ made.
+        all_shown made ≡ next_placed (M.bound simulator.old) request.now progress) }
     ensures kept { IfOk result (λ made. IsKeptOf request.now.model.now (M.bound simulator.old) made.kept) }
-    ensures ran { OnlyRanPlans M.model M.bound M.anchor (simulator.old, steps.old, looks.old)
+    ensures ran { OnlyRanPlans M.model M.bound M.address (simulator.old, steps.old, looks.old)
         (simulator.new, steps.new, looks.new) }
 {
     let GoalProgress {
@@ -84,10 +84,13 @@ pub(crate) fn place_goals<M: Simulator, L: Ledger, K: Ledger>(
     requires goals { IsTrue (list_all (is_goal model.now) goals.now) }
     requires constraints { IsTrue (list_all (is_constraint model.now) constraints.now) }
     requires kept { IsKeptOf model.now (M.bound simulator.old) kept }
-    ensures placed { IfOk result (λ made. all_shown made ≡ goals_placed model.now constraints.now (fresh_run model.now (M.bound simulator.old)) goals.now kept.run.plan trial_limit) }
+    ensures placed { IfOk result (λ made.
+        all_shown made
+        ≡ goals_placed model.now constraints.now (fresh_run model.now (M.bound simulator.old))
+        goals.now kept.run.plan trial_limit) }
     ensures each { IfOk result (λ made. length made.placed ≡ length goals.now) }
     ensures kept { IfOk result (λ made. IsKeptOf model.now (M.bound simulator.old) made.kept) }
-    ensures ran { OnlyRanPlans M.model M.bound M.anchor (simulator.old, steps.old, looks.old)
+    ensures ran { OnlyRanPlans M.model M.bound M.address (simulator.old, steps.old, looks.old)
         (simulator.new, steps.new, looks.new) }
 {
     let mut progress = GoalProgress {

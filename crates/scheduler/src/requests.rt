@@ -1,6 +1,6 @@
 //! What a goal is scheduled by.
 
-use aerie_base::Model;
+use aerie_base::{Model, Plan};
 use constraints::Constraint;
 use goals::Goal;
 
@@ -13,4 +13,17 @@ pub(crate) struct GoalRequest<'a> {
     pub(crate) constraints: &'a [Constraint],
     /// The goal.
     pub(crate) goal: &'a Goal,
+}
+
+/// What a schedule is made of.
+#[derive(Drop)]
+pub(crate) struct ScheduleRequest<'a> {
+    /// The model.
+    pub(crate) model: &'a Model,
+    /// The plan that is added to.
+    pub(crate) plan: &'a Plan,
+    /// The goals, one after another.
+    pub(crate) goals: &'a [Goal],
+    /// The model's constraints.
+    pub(crate) constraints: &'a [Constraint],
 }

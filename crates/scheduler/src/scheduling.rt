@@ -10,11 +10,12 @@ ghost use Rattle.scheduler.specs.ClientAdds.{IsMadeByAdds};
 ghost use Rattle.scheduler.specs.OnlyAdds.{OnlyAddsTo};
 ghost use Rattle.scheduler.specs.Running.{OnlyRanPlans};
 ghost use Rattle.scheduler.specs.Scheduling.{schedule_of};
-ghost use Rattle.scheduler.specs.Standing.{schedule_after};
+ghost use Rattle.scheduler.specs.InProgram.{IsScheduleRequest, schedule_after, schedule_for};
 ghost use Rattle.scheduler.specs.Told.{HasPlacedFor, IsLikePlan, TellsOf};
 
 use crate::laws::fresh_runs_are_given;
 use crate::progress::{GoalProgress, TRIAL_LIMIT, place_goals, statuses};
+use crate::requests::ScheduleRequest;
 use crate::scheduled::Schedule;
 use crate::trials::simulated;
 use aerie_base::{List, Model, OutOfMemory, Plan, Steps};
@@ -60,27 +61,25 @@ fn finished(
     })
 }
 
-/// The schedule of a plan. Where there are no goals nothing is simulated.
+/// The schedule that is asked for. Where there are no goals nothing is simulated.
 fn scheduled<M: Simulator, L: Ledger, K: Ledger>(
     alloc: Global,
-    model: &Model,
-    plan: &Plan,
-    goals: &[Goal],
-    constraints: &[Constraint],
+    request: &ScheduleRequest,
     simulator: &mut M,
     steps: &mut Steps<L>,
     looks: &mut Steps<K>,
 ) -> Result<Schedule, OutOfMemory>
     requires shares { M.shares }
-    requires model { M.model simulator.old ≡ model.now }
-    requires plan { IsPlanOf model.now plan.now }
-    requires goals { IsTrue (list_all (is_goal model.now) goals.now) }
-    requires constraints { IsTrue (list_all (is_constraint model.now) constraints.now) }
-    ensures scheduled { IfOk result (λ made. made ≡ schedule_of model.now (M.bound simulator.old) constraints.now goals.now plan.now) }
-    ensures plan { IfOk result (λ made. IsPlanOf model.now made.plan) }
-    ensures ran { OnlyRanPlans M.model M.bound M.anchor (simulator.old, steps.old, looks.old)
+    requires model { M.model simulator.old ≡ request.now.model.now }
+    requires request { IsScheduleRequest request.now }
+    ensures scheduled { IfOk result (λ made. made ≡ schedule_for (M.bound simulator.old) request.now) }
+    ensures plan { IfOk result (λ made. IsPlanOf request.now.model.now made.plan) }
+    ensures ran { OnlyRanPlans M.model M.bound M.address (simulator.old, steps.old, looks.old)
         (simulator.new, steps.new, looks.new) }
 {
+    let model = request.model;
+    let plan = request.plan;
+    let goals = request.goals;
     if goals.is_empty() {
         let made = unscheduled(alloc, plan)?;
         return Ok(made);
@@ -91,7 +90,7 @@ fn scheduled<M: Simulator, L: Ledger, K: Ledger>(
         alloc,
         model,
         goals,
-        constraints,
+        request.constraints,
         kept,
         simulator,
         steps,
@@ -118,29 +117,27 @@ pub fn schedule<M: Simulator, L: Ledger, K: Ledger>(
     requires plan { IsPlanOf model.now plan.now }
     requires goals { IsTrue (list_all (is_goal model.now) goals.now) }
     requires constraints { IsTrue (list_all (is_constraint model.now) constraints.now) }
-    ensures scheduled { IfOk result (λ made. made ≡ schedule_of model.now (M.bound simulator.old) constraints.now goals.now plan.now) }
+    ensures scheduled { IfOk result (λ made.
+        made ≡ schedule_of model.now (M.bound simulator.old) constraints.now goals.now plan.now) }
     ensures plan { IfOk result (λ made. IsPlanOf model.now made.plan) }
-    ensures same_place { IfOk result (λ made. IsLikePlan plan.now made.plan) }
+    ensures same_position { IfOk result (λ made. IsLikePlan plan.now made.plan) }
     ensures told { IfOk result (TellsOf model.now (M.bound simulator.old) goals.now) }
     ensures placed { IfOk result (HasPlacedFor model.now (M.bound simulator.old) goals.now) }
     ensures only_adds { IfOk result (OnlyAddsTo plan.now) }
     ensures asked { IfOk result (HasRowsFor model.now goals.now) }
     ensures by_adds { IfOk result (λ made. IsMadeByAdds model.now plan.now made.plan) }
-    ensures ran { OnlyRanPlans M.model M.bound M.anchor (simulator.old, steps.old, looks.old)
+    ensures ran { OnlyRanPlans M.model M.bound M.address (simulator.old, steps.old, looks.old)
         (simulator.new, steps.new, looks.new) }
 {
     planned_directives_have_spans();
     fresh_runs_are_given();
     let _valid = model.name();
-    let whole = scheduled(
-        alloc,
+    let request = ScheduleRequest {
         model,
         plan,
         goals,
         constraints,
-        simulator,
-        steps,
-        looks,
-    )?;
+    };
+    let whole = scheduled(alloc, &request, simulator, steps, looks)?;
     Ok(whole)
 }

@@ -4,7 +4,7 @@ ghost use Rattle.std.specs.Prelude.{◌≡◌, IfOk};
 ghost use Rattle.aerie_base.specs.plans.OfModel.{IsPlanOf};
 ghost use Rattle.scheduler.specs.FreshRuns.{kept_run};
 ghost use Rattle.scheduler.specs.Running.{OnlyRanPlans};
-ghost use Rattle.scheduler.specs.Standing.{IsRequest, first_accepted_for, searched_of};
+ghost use Rattle.scheduler.specs.InProgram.{IsRequestTo, first_accepted_for, searched_of};
 
 use crate::requests::GoalRequest;
 use crate::runs_with_spans::RunWithSpans;
@@ -37,11 +37,13 @@ pub(crate) fn first_accepted<M: Simulator, L: Ledger, K: Ledger>(
     looks: &mut Steps<K>,
 ) -> Result<Search, OutOfMemory>
     requires shares { M.shares }
-    requires model { M.model simulator.old ≡ request.now.model.now }
-    requires request { IsRequest request.now }
+    requires request { IsRequestTo (M.model simulator.old) request.now }
     requires plan { IsPlanOf request.now.model.now plan.now }
-    ensures found { IfOk result (λ found. found ≡ searched_of (kept_run request.now.model.now (M.bound simulator.old)) (first_accepted_for (M.bound simulator.old) request.now gap.now plan.now times.now left)) }
-    ensures ran { OnlyRanPlans M.model M.bound M.anchor (simulator.old, steps.old, looks.old)
+    ensures found { IfOk result (λ found.
+        found
+        ≡ searched_of (kept_run request.now.model.now (M.bound simulator.old))
+        (first_accepted_for (M.bound simulator.old) request.now gap.now plan.now times.now left)) }
+    ensures ran { OnlyRanPlans M.model M.bound M.address (simulator.old, steps.old, looks.old)
         (simulator.new, steps.new, looks.new) }
 {
     let mut left = left;

@@ -9,7 +9,7 @@ ghost use Rattle.span_table.specs.SpanLaws.{AreSpansOf};
 ghost use Rattle.plan_edit.specs.Editing.{is_full as is_full_plan, is_outside as is_outside_plan};
 ghost use Rattle.scheduler.specs.FreshRuns.{kept_run};
 ghost use Rattle.scheduler.specs.Running.{OnlyRanPlans};
-ghost use Rattle.scheduler.specs.Standing.{IsKeptOf, IsRequest, trial_of, verdict_for};
+ghost use Rattle.scheduler.specs.InProgram.{IsKeptOf, IsRequest, IsRequestTo, trial_of, verdict_for};
 ghost use Rattle.scheduler.specs.Trials.{is_accepted as accepts, is_kept as is_kept_by, is_kept_well as is_kept_well_by, directive_with, keeps as keeps_all, made_with};
 
 use crate::requests::GoalRequest;
@@ -175,7 +175,9 @@ fn is_accepted(
     requires request { IsRequest request.now }
     requires fresh { IsFresh request.now.model.now run.now.plan run.now.bound run.now }
     requires spans { AreSpansOf request.now.model.now run.now spans.now }
-    ensures { IfOk result (λ yes. yes ≡ accepts request.now.model.now request.now.constraints.now request.now.goal.now gap.now run.now) }
+    ensures { IfOk result (λ yes.
+        yes
+        ≡ accepts request.now.model.now request.now.constraints.now request.now.goal.now gap.now run.now) }
 {
     if !is_filled(alloc, request.model, request.goal, gap, run, spans)? {
         return Ok(false);
@@ -200,9 +202,10 @@ pub(crate) fn simulated<M: Simulator, L: Ledger, K: Ledger>(
 ) -> Result<RunWithSpans, OutOfMemory>
     requires shares { M.shares }
     requires plan { IsPlanOf (M.model simulator.old) plan.now }
-    ensures kept { IfOk result (λ kept. kept ≡ kept_run (M.model simulator.old) (M.bound simulator.old) plan.now) }
+    ensures kept { IfOk result (λ kept.
+        kept ≡ kept_run (M.model simulator.old) (M.bound simulator.old) plan.now) }
     ensures of_model { IfOk result (IsKeptOf (M.model simulator.old) (M.bound simulator.old)) }
-    ensures ran { OnlyRanPlans M.model M.bound M.anchor (simulator.old, steps.old, looks.old)
+    ensures ran { OnlyRanPlans M.model M.bound M.address (simulator.old, steps.old, looks.old)
         (simulator.new, steps.new, looks.new) }
 {
     simulation_ends();
@@ -223,11 +226,13 @@ pub(crate) fn tried<M: Simulator, L: Ledger, K: Ledger>(
     looks: &mut Steps<K>,
 ) -> Result<Trial, OutOfMemory>
     requires shares { M.shares }
-    requires model { M.model simulator.old ≡ request.now.model.now }
-    requires request { IsRequest request.now }
+    requires request { IsRequestTo (M.model simulator.old) request.now }
     requires plan { IsPlanOf request.now.model.now plan.now }
-    ensures trial { IfOk result (λ trial. trial ≡ trial_of (kept_run request.now.model.now (M.bound simulator.old)) (verdict_for (M.bound simulator.old) request.now gap.now plan.now time)) }
-    ensures ran { OnlyRanPlans M.model M.bound M.anchor (simulator.old, steps.old, looks.old)
+    ensures trial { IfOk result (λ trial.
+        trial
+        ≡ trial_of (kept_run request.now.model.now (M.bound simulator.old))
+        (verdict_for (M.bound simulator.old) request.now gap.now plan.now time)) }
+    ensures ran { OnlyRanPlans M.model M.bound M.address (simulator.old, steps.old, looks.old)
         (simulator.new, steps.new, looks.new) }
 {
     let Some(next) = tried_plan(alloc, request, plan, time)? else {

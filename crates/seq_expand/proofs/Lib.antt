@@ -1,5 +1,5 @@
 pub mod BySpans
-pub mod Places
+pub mod Positions
 pub mod Shifts
 pub mod TimeOrders
 pub mod Values

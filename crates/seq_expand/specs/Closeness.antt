@@ -20,12 +20,12 @@ abbrev pub is_too_close : List (List ℕ × ℕ) → List Sent → Sent → Bool
 is_too_close spacings before sent =
     list_any (λ spacing. same_name spacing.0 sent.name && is_soon sent.at spacing.1 (last_time_of spacing.0 before)) spacings
 
--- the places of such commands, counted from one on, behind others of which the later come first
+-- the positions of such commands, counted from one on, behind others of which the later come first
 abbrev pub close_from : List (List ℕ × ℕ) → ℕ → List Sent → List Sent → List ℕ
-close_from spacings place before [] = []
-close_from spacings place before (sent ∷ rest) =
-    if is_too_close spacings before sent then place ∷ close_from spacings (place + 1) (sent ∷ before) rest
-    else close_from spacings (place + 1) (sent ∷ before) rest
+close_from spacings position before [] = []
+close_from spacings position before (sent ∷ rest) =
+    if is_too_close spacings before sent then position ∷ close_from spacings (position + 1) (sent ∷ before) rest
+    else close_from spacings (position + 1) (sent ∷ before) rest
 
-abbrev pub close_places : List (List ℕ × ℕ) → List Sent → List ℕ
-close_places spacings commands = close_from spacings 0 [] commands
+abbrev pub close_positions : List (List ℕ × ℕ) → List Sent → List ℕ
+close_positions spacings commands = close_from spacings 0 [] commands

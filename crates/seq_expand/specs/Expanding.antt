@@ -9,7 +9,7 @@ use Rattle.seq_expand.specs.declared.rules.Sequencing.{Sequencing}
 use Rattle.seq_expand.specs.declared.sequence.Sent.{Sent}
 use Rattle.seq_expand.specs.declared.sequence.Sequence.{Sequence}
 use Rattle.seq_expand.specs.Sending.{sent_by_spans}
-use Rattle.seq_expand.specs.Closeness.{close_places}
+use Rattle.seq_expand.specs.Closeness.{close_positions}
 
 -- ---- order
 
@@ -39,7 +39,7 @@ abbrev pub sequence_by : Sequencing → ℕ → List Sent → Sequence
 sequence_by rules duration sent = record {
   commands = commands_within duration sent;
   outside = commands_outside duration sent;
-  close = close_places rules.spacings (commands_within duration sent);
+  close = close_positions rules.spacings (commands_within duration sent);
 }
 
 abbrev pub sequence_of : Parts → Sequencing → Run → Sequence

@@ -4,7 +4,7 @@ ghost use Rattle.std.specs.Prelude.{◌≡◌, ℕ, List, Some, IfOk, OnOk, cond
 ghost use Rattle.std.specs.HashMap as hash;
 ghost use Rattle.aerie_base.specs.models.Names.{same_name};
 ghost use Rattle.seq_expand.specs.declared.sequence.Sent.{Sent};
-ghost use Rattle.seq_expand.specs.Closeness.{is_soon as is_soon_after, is_too_close as is_too_close_by, close_places as close_places_by, last_time_of};
+ghost use Rattle.seq_expand.specs.Closeness.{is_soon as is_soon_after, is_too_close as is_too_close_by, close_positions as close_positions_by, last_time_of};
 
 use crate::sequence::Sent;
 use aerie_base::{List, Name, OutOfMemory, Time};
@@ -67,23 +67,23 @@ fn is_too_close(spacings: &[(Name, Time)], last: &HashMap<Name, i64>, sent: &Sen
     false
 }
 
-/// The places of the commands, which stand in the order of time, that are too close behind the last one of their name. It takes
+/// The positions of the commands, which stand in the order of time, that are too close behind the last one of their name. It takes
 /// a look at each spacing for each command.
-pub(crate) fn close_places(
+pub(crate) fn close_positions(
     alloc: Global,
     spacings: &[(Name, Time)],
     commands: &[Sent],
 ) -> Result<List<u64>, OutOfMemory>
-    ensures { IfOk result (λ places. places ≡ close_places_by spacings.now commands.now) }
+    ensures { IfOk result (λ positions. positions ≡ close_positions_by spacings.now commands.now) }
 {
-    let mut places = List::new(alloc);
+    let mut positions = List::new(alloc);
     let mut last = HashMap::new(alloc);
     for at in 0..commands.len() {
         let sent = &commands[at];
         if is_too_close(spacings, &last, sent) {
-            places.push(at as u64)?;
+            positions.push(at as u64)?;
         }
         put_time(alloc, &mut last, sent)?;
     }
-    Ok(places)
+    Ok(positions)
 }

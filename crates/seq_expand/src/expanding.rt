@@ -8,7 +8,7 @@ ghost use Rattle.seq_expand.specs.Expanding.{sequence_of, is_in_plan};
 ghost use Rattle.seq_expand.specs.OfModel.{have_shifts};
 ghost use Rattle.seq_expand.specs.Sending.{sent_by_spans as sent_by_all};
 
-use crate::closeness::close_places;
+use crate::closeness::close_positions;
 use crate::order::by_time;
 use crate::rules::Sequencing;
 use crate::sending::{send_steps, steps_for};
@@ -86,7 +86,7 @@ pub fn expand(
     let sent = sent_by_spans(alloc, rules, &spans)?;
     let Parted { within, outside } = parted_by_time(alloc, run.plan.duration, sent)?;
     let commands = List::from_vec(by_time(within)?);
-    let close = close_places(alloc, rules.spacings.as_slice(), commands.as_slice())?;
+    let close = close_positions(alloc, rules.spacings.as_slice(), commands.as_slice())?;
     Ok(Sequence {
         commands,
         outside: List::from_vec(by_time(outside)?),

@@ -22,6 +22,6 @@ pub struct Sequence {
     pub commands: List<Sent>,
     /// The others, in the same order.
     pub outside: List<Sent>,
-    /// The places of those commands, counted from 0 and rising, that stand too close behind the one before of their name.
+    /// The positions of those commands, counted from 0 and rising, that stand too close behind the one before of their name.
     pub close: List<u64>,
 }

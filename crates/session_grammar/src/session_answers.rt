@@ -1,11 +1,9 @@
 //! Sessions in a text that is cut into tokens.
 
-ghost use Rattle.std.specs.Prelude.{◌≡◌, ◌<◌, IfOk, length};
+ghost use Rattle.std.specs.Prelude.{◌<◌, IfOk, length};
 ghost use Rattle.aerie_text.specs.Marks.{AreTokensWithin};
-ghost use Rattle.model_reader.specs.ModelAnswers.{place_left, IfSyntax, IfTooMany, UnlessOutOfMemory};
-ghost use Rattle.model_reader.specs.declared.read_error.ReadError.TheVariants.{TooMany};
+ghost use Rattle.model_reader.specs.ModelAnswers.{IfSyntax, IfTooMany, UnlessOutOfMemory};
 ghost use Rattle.readers.specs.Marks.{marks_of};
-ghost use Rattle.readers.specs.Words.{word_of};
 ghost use Rattle.session_grammar.specs.SessionAnswers.{answer_of_session, AreSession, IsFirstRefusedOfSession, IsSessionAnswer, IsSessionReadThrough};
 ghost use Rattle.session_grammar.specs.SessionLimits.{IsLimitedSession};
 ghost use Rattle.session_grammar.specs.reading.Sessions.{whole_session_at};
@@ -13,10 +11,9 @@ ghost use Rattle.session_grammar.specs.reading.Sessions.{whole_session_at};
 use crate::laws::{sessions_are_limited, sessions_conform};
 use crate::raw::RawSession;
 use crate::reading::whole_session;
-use aerie_base::{OutOfMemory, Place, Text};
-use aerie_text::{Token, place_of};
-use model_reader::ReadError;
-use readers::{Limit, Reader, Refusal};
+use aerie_text::Token;
+use model_reader::{ReadError, error_of};
+use readers::Reader;
 use std::alloc::Global;
 
 /// Reads the session that the text is. It takes time linear in the text up to where reading ends: a mark is made when the
@@ -41,33 +38,13 @@ pub fn read_raw_session(
 }
 
 /// Reads the session that the tokens are.
+#[tactic(auto, using(model_reader::proofs::Answered::error_answers))]
 fn read_marks(alloc: Global, text: &str, reader: &mut Reader) -> Result<RawSession, ReadError>
     requires { length text.now < 4_294_967_295 }
     ensures { UnlessOutOfMemory (answer_of_session text.now (whole_session_at reader.old)) result }
 {
     match whole_session(alloc, reader) {
         Ok(raw) => Ok(raw),
-        Err(Refusal::Syntax) => Err(ReadError::Syntax(place_left(text, reader))),
-        Err(Refusal::TooMany(limit)) => Err(too_many(alloc, limit, place_left(text, reader))?),
-        Err(Refusal::OutOfMemory) => Err(ReadError::OutOfMemory),
+        Err(refusal) => Err(error_of(alloc, text, reader, refusal)?),
     }
-}
-
-/// The place of the first token that is left, or of the end.
-fn place_left(text: &str, reader: &Reader) -> Place
-    requires { length text.now < 4_294_967_295 }
-    ensures { result ≡ place_left text.now reader.now }
-{
-    match reader.place() {
-        Some(at) => at,
-        None => place_of(text, text.len()),
-    }
-}
-
-/// The error where a limit is passed.
-fn too_many(alloc: Global, limit: Limit, place: Place) -> Result<ReadError, OutOfMemory>
-    ensures { IfOk result (λ error. error ≡ TooMany (word_of limit) place) }
-{
-    let what = Text::new(alloc, limit.word())?;
-    Ok(ReadError::TooMany { what, place })
 }

@@ -1,7 +1,7 @@
 //! The line of a session that is accepted.
 
 ghost use Rattle.std.specs.Prelude.{◌≡◌, IfOk, string_bytes};
-ghost use Rattle.aerie_text.specs.Json.{line_of as line_of_by};
+ghost use Rattle.json_line.specs.Json.{line_of as line_of_by};
 ghost use Rattle.session_reader.specs.FewClients.{AreFewClients, HasFewClients};
 ghost use Rattle.session_judge.specs.Accepted.{accepted_data, counts_data, command_count as command_count_by};
 

@@ -21,6 +21,7 @@ use crate::telling::{named_refusal, told_offset, told_session};
 use aerie_base::{List, Shared};
 use aerie_text::{TextError, Token, tokens};
 use constraints::Constraint;
+use constraints::laws::read_series_may_be_given;
 use goals::Goal;
 use session_reader::{Session, SessionError, read_cut_session, read_session};
 use std::alloc::Global;
@@ -83,6 +84,7 @@ fn with_goals(
     ensures goals { IfOk result HasGoalsOfModels }
     ensures sequences { IfOk result HasSequencesOfModels }
 {
+    read_series_may_be_given();
     match session_goals(alloc, text, tokens, &session, constraints.as_slice())? {
         Ok(goals) => with_sequences(alloc, text, tokens, session, constraints, goals),
         Err(refusal) => Err(JudgeError::Refused(refusal)),
@@ -108,6 +110,7 @@ fn with_rules(
     ensures goals { IfOk result HasGoalsOfModels }
     ensures sequences { IfOk result HasSequencesOfModels }
 {
+    read_series_may_be_given();
     match session_constraints(alloc, text, tokens, &session)? {
         Ok(constraints) => with_goals(alloc, text, tokens, session, constraints),
         Err(refusal) => Err(JudgeError::Refused(refusal)),

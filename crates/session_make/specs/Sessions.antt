@@ -70,21 +70,21 @@ tail =
 abbrev pub week : ℕ
 week = 604_800_000_000
 
--- The activities in the order of the model; the twelve take turns.
+-- The activities in the order of the model; the twelve come one after another.
 abbrev pub activities : List (List ℕ)
 activities =
     codes "Slew" ∷ codes "Image" ∷ codes "ImageSet" ∷ codes "HeaterOn" ∷ codes "HeaterOff" ∷ codes "Downlink" ∷ codes "Charge"
     ∷ codes "Calibrate" ∷ codes "SafeCheck" ∷ codes "Track" ∷ codes "Burst" ∷ codes "Mark" ∷ []
 
--- what stands in the brackets: a Slew turns to the directive's place, the others have the model's defaults
+-- what stands in the brackets: a Slew turns to the directive's position, the others have the model's defaults
 abbrev pub arguments : ℕ → List ℕ
-arguments place = if nat_eq (place % 12) 0 then codes "target = " ++ decimal place else []
+arguments position = if nat_eq (position % 12) 0 then codes "target = " ++ decimal position else []
 
--- the line of the directive at a place from 0, where directives follow one another after so many microseconds
+-- the line of the directive at a position from 0, where directives follow one another after so many microseconds
 abbrev pub directive : ℕ → ℕ → List ℕ
-directive spacing place =
-    codes "  at " ++ decimal (place * spacing) ++ codes "us " ++ slice_index_or activities (place % 12) [] ++ codes "("
-    ++ arguments place ++ codes ");\n"
+directive spacing position =
+    codes "  at " ++ decimal (position * spacing) ++ codes "us " ++ slice_index_or activities (position % 12) [] ++ codes "("
+    ++ arguments position ++ codes ");\n"
 
 -- the lines of so many directives
 abbrev pub directives : ℕ → ℕ → List ℕ

@@ -35,8 +35,8 @@ pub fn make(alloc: Global, number: u32) -> Result<String, OutOfMemory>
 {
     let mut text = String::from_str(alloc, HEAD)?;
     let spacing = spacing_of(number);
-    for place in 0..u64::from(number) {
-        push_directive(&mut text, spacing, place)?;
+    for position in 0..u64::from(number) {
+        push_directive(&mut text, spacing, position)?;
     }
     text.push_str(TAIL)?;
     Ok(text)
@@ -50,16 +50,16 @@ fn spacing_of(number: u32) -> u64
     WEEK / u64::from(number)
 }
 
-/// Writes the line of the directive at a place from 0.
-fn push_directive(text: &mut String, spacing: u64, place: u64) -> Result<(), OutOfMemory>
-    requires { place * spacing < 2 ^ 64 }
-    ensures { IfOk result (λ _. string_bytes text.new ≡ string_bytes text.old ++ directive spacing place) }
+/// Writes the line of the directive at a position from 0.
+fn push_directive(text: &mut String, spacing: u64, position: u64) -> Result<(), OutOfMemory>
+    requires { position * spacing < 2 ^ 64 }
+    ensures { IfOk result (λ _. string_bytes text.new ≡ string_bytes text.old ++ directive spacing position) }
 {
-    let at = place * spacing;
-    let turn = (place % 12) as usize;
-    let activity = ACTIVITIES[turn];
-    if turn == 0 {
-        writeln!(text, "  at {at}us {activity}(target = {place});")?;
+    let at = position * spacing;
+    let which = (position % 12) as usize;
+    let activity = ACTIVITIES[which];
+    if which == 0 {
+        writeln!(text, "  at {at}us {activity}(target = {position});")?;
     } else {
         writeln!(text, "  at {at}us {activity}();")?;
     }

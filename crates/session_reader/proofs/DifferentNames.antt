@@ -7,16 +7,16 @@ use Rattle.aerie_base.specs.models.Names.{is_name_among, are_distinct}
 use Rattle.model_check.specs.CheckAnswers.{told}
 use Rattle.model_check.specs.ModelDiagnostics.{first_refused}
 use Rattle.model_check.specs.ModelMeaning.{model_of, names_of}
-use Rattle.model_check.specs.NameLists.{with_name}
-use Rattle.model_check.proofs.Sound.Empty.{front_empty, back_empty}
+use Rattle.diagnostics.specs.NameLists.{with_name}
+use Rattle.diagnostics.specs.NotedInTurn.{front_empty, back_empty, holds_if_empty}
 use Rattle.model_reader.specs.declared.raw.models.RawModel.{RawModel}
 use Rattle.model_reader.specs.declared.raw.names.RawName.{RawName}
 use Rattle.session_reader.specs.Answers.{Answer, in_front}
 use Rattle.session_reader.specs.CheckedModels.{model_answer, models_answer, of_check}
-use Rattle.session_reader.specs.Diagnostics.{refused_unless}
+use Rattle.diagnostics.specs.Diagnostics.{refused_unless}
 use Rattle.session_reader.specs.RepeatedNames.{repeated_diagnostics}
-use Rattle.session_reader.specs.declared.diagnostics.Cause.TheVariants.{Duplicate}
-use Rattle.session_reader.proofs.Found.{holds_if_empty, not_true}
+use Rattle.session_reader.specs.declared.causes.Cause.TheVariants.{Duplicate}
+use Rattle.session_reader.proofs.Found.{not_true}
 
 none_more : {A : Type 0} (xs : List A) → xs ≡ xs ++ []
 none_more [] = refl

@@ -19,7 +19,8 @@ use Rattle.session_reader.specs.PlanSections.{plan_answer}
 use Rattle.session_reader.specs.Sessions.{session_diagnostics, session_made, session_over, session_planned, session_started}
 use Rattle.session_reader.specs.Starts.{start_answer}
 use Rattle.session_reader.specs.WellFormed.{IsLimited}
-use Rattle.session_reader.specs.declared.diagnostics.Diagnostic.{Diagnostic}
+use Rattle.diagnostics.specs.declared.diagnostic.Diagnostic.{Diagnostic}
+use Rattle.session_reader.specs.declared.causes.Cause.{Cause}
 use Rattle.session_reader.specs.declared.session.Client.{Client}
 use Rattle.session_reader.specs.declared.session.Session.{Session}
 
@@ -40,7 +41,7 @@ then_holds : {A : Type 0} (P : Session → Type 0) (make : A → Answer Session)
 then_holds P make (Ok part) holds = holds part
 then_holds P make (Err refusal) holds = tt
 
-found_holds : (P : Session → Type 0) (found : Option Diagnostic) (made : Answer Session) → IfOk made P → IfOk (unless_found found made) P
+found_holds : (P : Session → Type 0) (found : Option (Diagnostic Cause)) (made : Answer Session) → IfOk made P → IfOk (unless_found found made) P
 found_holds P None made holds = holds
 found_holds P (Some diagnostic) made holds = tt
 

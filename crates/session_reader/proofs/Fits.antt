@@ -20,16 +20,17 @@ use Rattle.aerie_base.specs.models.Signatures.{parameter_kinds, signatures_of}
 use Rattle.aerie_base.specs.models.ValidModel.{valid_model, has_good_activities, has_good_enums, is_enum, enum_names, cell_names}
 use Rattle.aerie_base.specs.models.ValidParts.{are_good}
 use Rattle.aerie_base.specs.models.Values.{is_kind, is_value_of, variant_count, variants_of}
-use Rattle.model_check.specs.Literals.{short}
-use Rattle.model_check.proofs.Sound.Empty.{front_empty, back_empty, three}
+use Rattle.diagnostics.specs.ShortNumbers.{short}
+use Rattle.diagnostics.specs.NotedInTurn.{front_empty, back_empty, holds_if_empty, each_empty}
+use Rattle.model_check.proofs.Sound.Empty.{three}
 use Rattle.model_reader.specs.Limits.{IsLiteralInRange}
 use Rattle.model_reader.specs.declared.raw.literals.RawLiteralKind.{RawLiteralKind}
 use Rattle.model_reader.specs.declared.raw.literals.RawLiteralKind.TheVariants as literal
 use Rattle.model_reader.specs.declared.raw.names.RawName.{RawName}
 use Rattle.plan_edit.specs.declared.mappings.Feed.{Feed}
 use Rattle.plan_edit.specs.declared.mappings.Feed.TheVariants.{Old}
-use Rattle.plan_edit.specs.Arguments.{parameter_place}
-use Rattle.plan_edit.specs.Editing.{type_place}
+use Rattle.plan_edit.specs.Arguments.{parameter_position}
+use Rattle.plan_edit.specs.Editing.{type_position}
 use Rattle.plan_edit.specs.Mappings.{feeds_from, is_feed, are_feeds, is_rule_for, is_type_rule}
 use Rattle.session_grammar.specs.SessionLimits.{AreFeedsInRange, IsFedInRange, IsFeedInRange, IsMappingInRange, IsTypeRuleInRange}
 use Rattle.session_grammar.specs.declared.raw.mappings.RawFeed.{RawFeed}
@@ -38,15 +39,15 @@ use Rattle.session_grammar.specs.declared.raw.mappings.RawFeedValue.TheVariants 
 use Rattle.session_grammar.specs.declared.raw.mappings.RawMapping.{RawMapping}
 use Rattle.session_grammar.specs.declared.raw.mappings.RawTypeRule.{RawTypeRule}
 use Rattle.session_reader.specs.CheckedModels.{AreValid}
-use Rattle.session_reader.specs.Diagnostics.{all_of, refused_unless}
-use Rattle.session_reader.specs.KnownParts.{model_place, model_named, type_named, parameter_named}
-use Rattle.session_reader.specs.Literals.{enum_place, variant_place, variant_diagnostics, literal_diagnostics, literal_kind, literal_value, variant_in, variant_value}
+use Rattle.diagnostics.specs.Diagnostics.{all_of, refused_unless}
+use Rattle.session_reader.specs.KnownParts.{model_position, model_named, type_named, parameter_named}
+use Rattle.session_reader.specs.Literals.{enum_position, variant_position, variant_diagnostics, literal_diagnostics, literal_kind, literal_value, variant_in, variant_value}
 use Rattle.session_reader.specs.MappingDiagnostics.{may_feed_if_known, same_if_known, value_fits, value_diagnostics, parameter_diagnostics, feed_diagnostics, gets_a_value, feeds_diagnostics, between_diagnostics, rule_diagnostics, rules_diagnostics, among_diagnostics, mapping_diagnostics}
 use Rattle.session_reader.specs.MeantMappings.{default_of, feed_written, feed_or_default, feed_for, feeds_between, rule_meant, rules_among, mapping_meant, number_at}
 use Rattle.session_reader.specs.RepeatedNames.{repeated_diagnostics}
-use Rattle.hangar_core.specs.Standing.{IsMappingIn}
-use Rattle.session_reader.specs.declared.diagnostics.Cause.TheVariants.{Unknown, WrongType}
-use Rattle.session_reader.proofs.Found.{holds_if_empty, each_empty, both_true, and_too, each_true, StandsAt, found_at, short_is, there, any_place, none_found, one_found, same_is, same_one}
+use Rattle.commands.specs.SessionModels.{IsMappingIn}
+use Rattle.session_reader.specs.declared.causes.Cause.TheVariants.{Unknown, WrongType}
+use Rattle.session_reader.proofs.Found.{both_true, and_too, each_true, StandsAt, found_at, short_is, there, any_position, none_found, one_found, same_is, same_one}
 
 -- ---- what is known of a valid model
 
@@ -96,9 +97,9 @@ type_good model valid number activity here =
 module _ (enums : List EnumType) (few : length enums ≤ enum_limit) where
   known_variant : (of : Kind) (variant : RawName) (number : ℕ) (enum : EnumType) → slice_get enums number ≡ Some enum → number < length enums →
       is_name_among variant.name enum.variants ≡ true → same_kind (kind.Enum (short number)) of ≡ true →
-      is_value_of enums of (variant_value (Some number) (variant_place enum.variants variant.name)) ≡ true
+      is_value_of enums of (variant_value (Some number) (variant_position enum.variants variant.name)) ≡ true
   known_variant of variant number enum here within among fits =
-      let place = there (variant_place enum.variants variant.name) (any_place (same_name variant.name) enum.variants among) in
+      let place = there (variant_position enum.variants variant.name) (any_position (same_name variant.name) enum.variants among) in
       let at : StandsAt (same_name variant.name) enum.variants place.number = found_at (same_name variant.name) enum.variants place.number place.is in
       let is : short number ≡ number = short_is number (omega (arith, within, few)) in
       let count : variant_count enums (short number) ≡ length enum.variants = ap (variant_count enums) is ∙ ap variants_of here in
@@ -107,7 +108,7 @@ module _ (enums : List EnumType) (few : length enums ≤ enum_limit) where
       ap (λ (v : Option ℕ). is_value_of enums of (variant_value (Some number) v)) place.is
       ∙ and_too (same_kind (kind.Enum (short number)) of) (nat_lt (short place.number) (variant_count enums (short number))) fits below
 
-  good_variant : (of : Kind) (name variant : RawName) (place : Option ℕ) → enum_place enums name.name ≡ place →
+  good_variant : (of : Kind) (name variant : RawName) (place : Option ℕ) → enum_position enums name.name ≡ place →
       variant_diagnostics name variant (option_and_then (slice_get enums) place) ≡ [] → same_if_known (option_map (λ number. kind.Enum (short number)) place) of ≡ true →
       is_value_of enums of (variant_value place (variant_in variant.name (option_and_then (slice_get enums) place))) ≡ true
   good_variant of name variant None is empty fits = cc
@@ -123,7 +124,7 @@ module _ (enums : List EnumType) (few : length enums ≤ enum_limit) where
       same_if_known (literal_kind enums what) of ≡ true → is_value_of enums of (literal_value enums what) ≡ true
   good_literal of (literal.Number number) range empty fits = and_too (same_kind kind.Int of) (is_number number) fits (le-leb _ number_limit range)
   good_literal of (literal.Truth truth) range empty fits = and_too (same_kind kind.Truth of) true fits refl
-  good_literal of (literal.Variant name variant) range empty fits = good_variant of name variant (enum_place enums name.name) refl empty fits
+  good_literal of (literal.Variant name variant) range empty fits = good_variant of name variant (enum_position enums name.name) refl empty fits
 
 -- ---- feeds
 
@@ -137,7 +138,7 @@ are_feeds_each old new from for (parameter ∷ rest) each =
     (each zero parameter refl) (are_feeds_each old new from for rest (λ place p here. each (suc place) p here))
 
 module _ (old new : Parts) (old_valid : valid_model old ≡ true) (new_valid : valid_model new ≡ true) (from to : Activity) (from_good : IsTypeOf old from) (to_good : IsTypeOf new to) where
-  old_feed : (of : Kind) (name : RawName) (place : Option ℕ) → parameter_place from.parameters name.name ≡ place → is_some place ≡ true →
+  old_feed : (of : Kind) (name : RawName) (place : Option ℕ) → parameter_position from.parameters name.name ≡ place → is_some place ≡ true →
       may_feed_if_known old.enums new.enums (option_and_then (slice_get from.parameters) place) of ≡ true →
       is_feed old.enums new.enums (parameter_kinds from) of (Old (number_at place)) ≡ true
   old_feed of name None is known fits = absurd (true≢false (sym known))
@@ -152,7 +153,7 @@ module _ (old new : Parts) (old_valid : valid_model old ≡ true) (new_valid : v
   written_feed : (of : Kind) (what : RawFeedValue) → IsFedInRange what → value_diagnostics new from what ≡ [] → value_fits old new from of what ≡ true →
       is_feed old.enums new.enums (parameter_kinds from) of (feed_written new from what) ≡ true
   written_feed of (fed.Parameter name) range empty fits =
-      old_feed of name (parameter_place from.parameters name.name) refl (holds_if_empty (is_some (parameter_place from.parameters name.name)) Unknown name.at empty) fits
+      old_feed of name (parameter_position from.parameters name.name) refl (holds_if_empty (is_some (parameter_position from.parameters name.name)) Unknown name.at empty) fits
   written_feed of (fed.Literal what) range empty fits = good_literal new.enums (few_enums new new_valid) of what.what range empty fits
 
   good_default : (of : Kind) (default : Option Value) → is_default new.enums of default ≡ true → is_some default ≡ true →
@@ -166,12 +167,12 @@ module _ (old new : Parts) (old_valid : valid_model old ≡ true) (new_valid : v
 
   given_feed : (place : ℕ) (parameter : Parameter) (raw : RawFeed) → slice_get to.parameters place ≡ Some parameter → IsGoodFeed raw →
       same_name raw.parameter.name parameter.name ≡ true → is_feed old.enums new.enums (parameter_kinds from) parameter.kind (feed_written new from raw.value) ≡ true
-  given_feed place parameter raw here good same = go (parameter_place to.parameters raw.parameter.name) refl (front_empty (parameter_diagnostics old new from raw (parameter_named to.parameters raw.parameter.name)) (value_diagnostics new from raw.value) good.1)
+  given_feed place parameter raw here good same = go (parameter_position to.parameters raw.parameter.name) refl (front_empty (parameter_diagnostics old new from raw (parameter_named to.parameters raw.parameter.name)) (value_diagnostics new from raw.value) good.1)
     where
       value_empty : value_diagnostics new from raw.value ≡ []
       value_empty = back_empty (parameter_diagnostics old new from raw (parameter_named to.parameters raw.parameter.name)) (value_diagnostics new from raw.value) good.1
 
-      go : (found : Option ℕ) → parameter_place to.parameters raw.parameter.name ≡ found → parameter_diagnostics old new from raw (option_and_then (slice_get to.parameters) found) ≡ [] →
+      go : (found : Option ℕ) → parameter_position to.parameters raw.parameter.name ≡ found → parameter_diagnostics old new from raw (option_and_then (slice_get to.parameters) found) ≡ [] →
           is_feed old.enums new.enums (parameter_kinds from) parameter.kind (feed_written new from raw.value) ≡ true
       go None is empty = cc
       go (Some other) is empty =
@@ -228,7 +229,7 @@ module _ (old new : Parts) (old_valid : valid_model old ≡ true) (new_valid : v
       all_feeds_fit old new old_valid new_valid old_type new_type (type_good old old_valid from old_type here) (type_good new new_valid to new_type there)
       raw.feeds (both_of IsFeedInRange (λ (feed : RawFeed). feed_diagnostics old new old_type new_type feed ≡ []) raw.feeds range each) complete
 
-  rule_good_at : (raw : RawTypeRule) (from to : Option ℕ) → type_place old raw.old.name ≡ from → type_place new raw.new.name ≡ to → is_some from ≡ true → is_some to ≡ true →
+  rule_good_at : (raw : RawTypeRule) (from to : Option ℕ) → type_position old raw.old.name ≡ from → type_position new raw.new.name ≡ to → is_some from ≡ true → is_some to ≡ true →
       AreFeedsInRange raw.feeds → between_diagnostics old new raw (option_and_then (slice_get old.activities) from) (option_and_then (slice_get new.activities) to) ≡ [] →
       is_rule_for old new (feeds_between new raw.feeds (option_and_then (slice_get old.activities) from) (option_and_then (slice_get new.activities) to))
       (slice_get old.activities (number_at from)) (slice_get new.activities (number_at to)) ≡ true
@@ -248,14 +249,14 @@ module _ (old new : Parts) (old_valid : valid_model old ≡ true) (new_valid : v
 
   pub rule_good : (raw : RawTypeRule) → IsTypeRuleInRange raw → rule_diagnostics old new raw ≡ [] → is_type_rule old new (rule_meant old new raw) ≡ true
   rule_good raw range empty =
-      let is_old = refused_unless (is_some (type_place old raw.old.name)) Unknown raw.old.at in
-      let is_new = refused_unless (is_some (type_place new raw.new.name)) Unknown raw.new.at in
+      let is_old = refused_unless (is_some (type_position old raw.old.name)) Unknown raw.old.at in
+      let is_new = refused_unless (is_some (type_position new raw.new.name)) Unknown raw.new.at in
       let between = between_diagnostics old new raw (type_named old raw.old.name) (type_named new raw.new.name) in
       let grouped = three is_old is_new between empty in
       let behind = back_empty is_old (is_new ++ between) grouped in
-      rule_good_at raw (type_place old raw.old.name) (type_place new raw.new.name) refl refl
-      (holds_if_empty (is_some (type_place old raw.old.name)) Unknown raw.old.at (front_empty is_old (is_new ++ between) grouped))
-      (holds_if_empty (is_some (type_place new raw.new.name)) Unknown raw.new.at (front_empty is_new between behind))
+      rule_good_at raw (type_position old raw.old.name) (type_position new raw.new.name) refl refl
+      (holds_if_empty (is_some (type_position old raw.old.name)) Unknown raw.old.at (front_empty is_old (is_new ++ between) grouped))
+      (holds_if_empty (is_some (type_position new raw.new.name)) Unknown raw.new.at (front_empty is_new between behind))
       range (back_empty is_new between behind)
 
   rules_good : (rules : List RawTypeRule) → AllByRecursion IsTypeRuleInRange rules → AllByRecursion (λ rule. rule_diagnostics old new rule ≡ []) rules →
@@ -279,7 +280,7 @@ module _ (models : List Parts) (valid : AreValid models) (few : length models �
   valid_at (first ∷ rest) zero model all here = subst (λ (m : Parts). valid_model m ≡ true) (same_Some first model here) all.0
   valid_at (first ∷ rest) (suc place) model all here = valid_at rest place model all.1 here
 
-  mapping_good_at : (raw : RawMapping) (from to : Option ℕ) → model_place models raw.from.name ≡ from → model_place models raw.to.name ≡ to → is_some from ≡ true → is_some to ≡ true →
+  mapping_good_at : (raw : RawMapping) (from to : Option ℕ) → model_position models raw.from.name ≡ from → model_position models raw.to.name ≡ to → is_some from ≡ true → is_some to ≡ true →
       IsMappingInRange raw → among_diagnostics raw.rules (option_and_then (slice_get models) from) (option_and_then (slice_get models) to) ≡ [] →
       IsMappingIn models (record { from = number_at from; to = number_at to; rules = rules_among raw.rules (option_and_then (slice_get models) from) (option_and_then (slice_get models) to) })
   mapping_good_at raw None to is_from is_to known_from known_to range empty = absurd (true≢false (sym known_from))
@@ -302,14 +303,14 @@ module _ (models : List Parts) (valid : AreValid models) (few : length models �
 
   mapping_good : (raw : RawMapping) → IsMappingInRange raw → mapping_diagnostics models raw ≡ [] → IsMappingIn models (mapping_meant models raw)
   mapping_good raw range empty =
-      let is_old = refused_unless (is_some (model_place models raw.from.name)) Unknown raw.from.at in
-      let is_new = refused_unless (is_some (model_place models raw.to.name)) Unknown raw.to.at in
+      let is_old = refused_unless (is_some (model_position models raw.from.name)) Unknown raw.from.at in
+      let is_new = refused_unless (is_some (model_position models raw.to.name)) Unknown raw.to.at in
       let among = among_diagnostics raw.rules (model_named models raw.from.name) (model_named models raw.to.name) in
       let grouped = three is_old is_new among empty in
       let behind = back_empty is_old (is_new ++ among) grouped in
-      mapping_good_at raw (model_place models raw.from.name) (model_place models raw.to.name) refl refl
-      (holds_if_empty (is_some (model_place models raw.from.name)) Unknown raw.from.at (front_empty is_old (is_new ++ among) grouped))
-      (holds_if_empty (is_some (model_place models raw.to.name)) Unknown raw.to.at (front_empty is_new among behind))
+      mapping_good_at raw (model_position models raw.from.name) (model_position models raw.to.name) refl refl
+      (holds_if_empty (is_some (model_position models raw.from.name)) Unknown raw.from.at (front_empty is_old (is_new ++ among) grouped))
+      (holds_if_empty (is_some (model_position models raw.to.name)) Unknown raw.to.at (front_empty is_new among behind))
       range (back_empty is_new among behind)
 
   pub mappings_good : (mappings : List RawMapping) → AllByRecursion IsMappingInRange mappings → AllByRecursion (λ raw. mapping_diagnostics models raw ≡ []) mappings →

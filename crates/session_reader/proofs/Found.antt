@@ -1,33 +1,10 @@
--- What nothing that was found says, and what stands at the place of the first that passes.
+-- What nothing that was found says, and what stands at the position of the first that passes.
 use Rattle.std.proofs.Common.{◌≡◌, ℕ, zero, suc, ◌<◌, ◌≤◌, Bool, true, false, not, ◌&&◌, ◌||◌, List, [], ◌∷◌, Option, Some, None, is_some, length, get_or, map, position, slice_get, find, nat_eq, eqb-true, eq-eqb, lt-ltb, refl, sym, ap, ◌∙◌, subst, arith, true≢false, if◌then◌else◌}
 use Rattle.std.proofs.lemmas.List.Quantifiers.{position-Some}
 use Rattle.std.proofs.lemmas.Option.{none-some, same_Some, slice_get-get_or}
 use Rattle.std.specs.List.{AllByRecursion, list_all, list_any, position_or_len}
-use Rattle.aerie_base.specs.declared.places.Place.{Place}
 use Rattle.aerie_base.specs.models.Names.{are_distinct, is_name_among, same_name}
-use Rattle.model_check.specs.Literals.{short}
-use Rattle.model_check.proofs.Sound.Empty.{front_empty, back_empty}
-use Rattle.session_reader.specs.declared.diagnostics.Cause.{Cause}
-use Rattle.session_reader.specs.declared.diagnostics.Diagnostic.{Diagnostic}
-use Rattle.session_reader.specs.Diagnostics.{all_of, noted, refused_unless}
-
--- ---- nothing was found
-
-never_none : (wrong : List Diagnostic) (found : Diagnostic) → noted (Some found) wrong ≡ None → ⊥
-never_none [] found h = none-some found (sym h)
-never_none (new ∷ rest) found h = never_none rest _ h
-
-pub nothing_found : (wrong : List Diagnostic) → noted None wrong ≡ None → wrong ≡ []
-nothing_found [] h = refl
-nothing_found (new ∷ rest) h = absurd (never_none rest new h)
-
-pub holds_if_empty : (holds : Bool) (cause : Cause) (at : Place) → refused_unless holds cause at ≡ [] → holds ≡ true
-holds_if_empty true cause at e = refl
-holds_if_empty false cause at e = cc
-
-pub each_empty : {A : Type 0} (judge : A → List Diagnostic) (xs : List A) → all_of judge xs ≡ [] → AllByRecursion (λ x. judge x ≡ []) xs
-each_empty judge [] e = tt
-each_empty judge (x ∷ rest) e = (front_empty (judge x) (all_of judge rest) e, each_empty judge rest (back_empty (judge x) (all_of judge rest) e))
+use Rattle.diagnostics.specs.ShortNumbers.{short}
 
 -- ---- truths
 
@@ -50,7 +27,7 @@ each_true test (first ∷ rest) (suc i) x all here = each_true test rest i x (bo
 
 -- ---- the first that passes
 
--- what stands at a place, and passes
+-- what stands at a position, and passes
 pub record StandsAt {A : Type 0} (test : A → Bool) (xs : List A) (i : ℕ) : Type 0 where
   pub one : A
   pub here : slice_get xs i ≡ Some one
@@ -63,12 +40,12 @@ found_at test (y ∷ ys) i h =
     let p = position-Some test (y ∷ ys) i y h in
     record { one = get_or (y ∷ ys) i y; here = slice_get-get_or (y ∷ ys) i y p.0; within = p.0; passes = p.1 }
 
--- a place that is there
-pub record IsPlace (place : Option ℕ) : Type 0 where
+-- a position that is there
+pub record IsPosition (place : Option ℕ) : Type 0 where
   pub number : ℕ
   pub is : place ≡ Some number
 
-pub there : (place : Option ℕ) → is_some place ≡ true → IsPlace place
+pub there : (place : Option ℕ) → is_some place ≡ true → IsPosition place
 there None h = absurd (true≢false (sym h))
 there (Some number) h = record { number = number; is = refl }
 
@@ -88,8 +65,8 @@ any_within test (x ∷ xs) h = go (test x) refl h (any_within test xs)
     go false e h more = let lt = more h in rw e (omega (arith, lt))
 
 -- what one passes has a first that passes
-pub any_place : {A : Type 0} (test : A → Bool) (xs : List A) → list_any test xs ≡ true → is_some (position test xs) ≡ true
-any_place test xs h = ap (λ (b : Bool). is_some (if b then Some (position_or_len test xs) else None)) (lt-ltb (position_or_len test xs) (length xs) (any_within test xs h))
+pub any_position : {A : Type 0} (test : A → Bool) (xs : List A) → list_any test xs ≡ true → is_some (position test xs) ≡ true
+any_position test xs h = ap (λ (b : Bool). is_some (if b then Some (position_or_len test xs) else None)) (lt-ltb (position_or_len test xs) (length xs) (any_within test xs h))
 
 pub none_found : {A : Type 0} (test : A → Bool) (xs : List A) → find test xs ≡ None → list_any test xs ≡ false
 none_found test [] h = refl

@@ -4,22 +4,22 @@ use Rattle.std.specs.List.{AllByRecursion}
 use Rattle.aerie_base.specs.declared.models.model.Parts.{Parts}
 use Rattle.aerie_base.specs.declared.plans.Plan.{Plan}
 use Rattle.aerie_base.specs.models.Names.{are_distinct}
-use Rattle.model_check.proofs.Sound.Empty.{front_empty, back_empty, four}
+use Rattle.diagnostics.specs.NotedInTurn.{front_empty, back_empty, each_empty}
+use Rattle.model_check.proofs.Sound.Empty.{four}
 use Rattle.model_reader.specs.declared.raw.models.RawModel.{RawModel}
 use Rattle.session_grammar.specs.declared.raw.sessions.RawSession.{RawSession}
 use Rattle.session_grammar.specs.SessionLimits.{IsLimitedSession}
 use Rattle.session_reader.specs.DatasetAnswers.{AreSeries, NamedSeries}
 use Rattle.session_reader.specs.DatasetNames.{datasets_diagnostics}
-use Rattle.session_reader.specs.Diagnostics.{all_of}
+use Rattle.diagnostics.specs.Diagnostics.{all_of}
 use Rattle.session_reader.specs.MappingDiagnostics.{mapping_diagnostics, mappings_diagnostics, repeated_mappings}
 use Rattle.session_reader.specs.MeantMappings.{mapping_meant}
 use Rattle.session_reader.specs.RepeatedNames.{repeated_diagnostics}
 use Rattle.session_reader.specs.Sessions.{all_sections, all_sections_diagnostics, session_made}
-use Rattle.hangar_core.specs.Standing.{AreModels, IsMappingIn, model_limit}
+use Rattle.commands.specs.SessionModels.{AreModels, IsMappingIn, model_limit}
 use Rattle.session_reader.specs.WellFormed.{IsPlanOfFirst, IsSession, HasSectionsWithin, MayBeMade}
 use Rattle.session_reader.proofs.DifferentNames.{as_many, different, names_kept}
 use Rattle.session_reader.proofs.Fits.{mappings_good}
-use Rattle.session_reader.proofs.Found.{each_empty}
 use Rattle.session_reader.proofs.SectionRanges.{models_kept, parts_within}
 
 module _ (models : List Parts) (raw : RawSession) (good : MayBeMade models raw) where

@@ -2,7 +2,7 @@
 use Rattle.std.proofs.Common.{◌≡◌, ℕ, ◌+◌, ◌<◌, List, [], ◌∷◌, ◌++◌, Ok, Err, length, get_or, drop, refl, sym, ap, ◌∙◌, append_assoc}
 use Rattle.session_reader.specs.declared.session_error.SessionError.{SessionError}
 use Rattle.session_reader.specs.Answers.{Answer, in_front}
-use Rattle.session_reader.proofs.Turns.{next_left}
+use Rattle.diagnostics.specs.Iterations.{next_left}
 
 -- these in front of the rest, where there is one
 abbrev pub joined_on : {A : Type 0} → List A → Answer (List A) → Answer (List A)

@@ -1,5 +1,3 @@
-pub mod NotedInTurn
-pub mod Turns
 pub mod Joined
 pub mod Each
 pub mod Found

@@ -8,7 +8,7 @@ use Rattle.dataset_in.specs.Datasets.{dataset_of}
 use Rattle.dataset_in.specs.declared.dataset_error.DatasetError.{DatasetError}
 use Rattle.dataset_in.specs.declared.series.Series.{Series}
 use Rattle.epoch_text.specs.Starts.{start_of}
-use Rattle.hangar_core.specs.Opening.{empty_plan}
+use Rattle.commands.specs.SessionModels.{empty_plan}
 use Rattle.model_check.specs.CheckAnswers.{told}
 use Rattle.model_check.specs.ModelDiagnostics.{first_refused}
 use Rattle.model_check.specs.ModelMeaning.{model_of}
@@ -28,7 +28,8 @@ use Rattle.session_reader.specs.PlanSections.{directive_added, directives_added,
 use Rattle.session_reader.specs.Quotes.{unquoted}
 use Rattle.session_reader.specs.Sessions.{session_answer, session_diagnostics, session_made, session_over, session_planned, session_started}
 use Rattle.session_reader.specs.Starts.{start_answer, start_or_place}
-use Rattle.session_reader.specs.declared.diagnostics.Diagnostic.{Diagnostic}
+use Rattle.diagnostics.specs.declared.diagnostic.Diagnostic.{Diagnostic}
+use Rattle.session_reader.specs.declared.causes.Cause.{Cause}
 use Rattle.session_reader.specs.declared.session_error.SessionError.{SessionError}
 use Rattle.session_reader.specs.declared.session_error.SessionError.TheVariants.{Syntax, TooMany}
 
@@ -64,7 +65,7 @@ models_meant (raw ∷ rest) = front_meant (model_answer raw) (models_answer rest
 
 -- ---- names
 
-found_meant : {A : Type 0} (found : Option Diagnostic) (made : Answer A) → IsMeant made → IsMeant (unless_found found made)
+found_meant : {A : Type 0} (found : Option (Diagnostic Cause)) (made : Answer A) → IsMeant made → IsMeant (unless_found found made)
 found_meant None made here = here
 found_meant (Some diagnostic) made here = tt
 

@@ -3,7 +3,8 @@ use Rattle.std.proofs.Common.{◌≡◌, ℕ, ◌+◌, ◌-◌, ◌<◌, List, R
 use Rattle.aerie_base.specs.declared.models.model.Parts.{Parts}
 use Rattle.aerie_base.specs.declared.plans.Directive.{Directive}
 use Rattle.aerie_base.specs.declared.plans.Plan.{Plan}
-use Rattle.dataset_in.specs.Datasets.{IsAnswerIfMemory}
+use Rattle.aerie_base.specs.UnlessMemory.{UnlessMemory}
+use Rattle.dataset_in.specs.Datasets.{ran_out}
 use Rattle.dataset_in.specs.declared.dataset_error.DatasetError.{DatasetError}
 use Rattle.dataset_in.specs.declared.dataset_error.DatasetError.TheVariants as fault
 use Rattle.dataset_in.specs.declared.series.Series.{Series}
@@ -21,7 +22,7 @@ use Rattle.session_grammar.specs.declared.raw.plans.RawDirective.{RawDirective}
 use Rattle.session_reader.specs.PlanSections.{directive_added, directives_added, edit_refusal, of_edit}
 use Rattle.session_reader.specs.declared.session_error.SessionError.{SessionError}
 use Rattle.session_reader.specs.declared.session_error.SessionError.TheVariants as error
-use Rattle.session_reader.proofs.Turns.{next_left}
+use Rattle.diagnostics.specs.Iterations.{next_left}
 
 -- ---- the check of a model
 
@@ -88,11 +89,11 @@ refused_there model raws i raw plan whole refusal lt is next left refused =
 
 -- ---- a dataset
 
-pub series_refused : (number : ℕ) (name : List ℕ) (meant : Result Series DatasetError) (refusal : DatasetError) → IsAnswerIfMemory meant (Err refusal) → IsRefusal (of_series number name meant) (fault_refusal number refusal)
+pub series_refused : (number : ℕ) (name : List ℕ) (meant : Result Series DatasetError) (refusal : DatasetError) → UnlessMemory ran_out meant (Err refusal) → IsRefusal (of_series number name meant) (fault_refusal number refusal)
 series_refused number name meant fault.NotADataset is = ap (of_series number name) is
 series_refused number name meant fault.TooMany is = ap (of_series number name) is
 series_refused number name meant (fault.BadSegment segment) is = ap (of_series number name) is
 series_refused number name meant fault.OutOfMemory is = tt
 
-pub series_made : (number : ℕ) (name : List ℕ) (meant : Result Series DatasetError) (series : Series) → IsAnswerIfMemory meant (Ok series) → of_series number name meant ≡ Ok (name, series)
+pub series_made : (number : ℕ) (name : List ℕ) (meant : Result Series DatasetError) (series : Series) → UnlessMemory ran_out meant (Ok series) → of_series number name meant ≡ Ok (name, series)
 series_made number name meant series is = ap (of_series number name) is

@@ -4,15 +4,15 @@ use Rattle.std.proofs.Common.{◌≡◌, ℕ, List, [], ◌∷◌, ◌++◌, Res
 use Rattle.std.proofs.Math.Seq.{take-length}
 use Rattle.std.specs.Str.{chars}
 use Rattle.aerie_base.specs.declared.places.Place.{Place}
-use Rattle.aerie_text.specs.Places.{column_of, line_of, place_of}
+use Rattle.aerie_text.specs.Places.{column_of, line_number, place_of}
 use Rattle.aerie_text.specs.Tokens.{tokens_of}
 use Rattle.aerie_text.specs.declared.token.Token.{Token}
-use Rattle.model_reader.specs.ModelAnswers.{place_left}
 use Rattle.model_reader.specs.declared.read_error.ReadError.{ReadError}
 use Rattle.model_reader.specs.declared.read_error.ReadError.TheVariants as read
 use Rattle.readers.specs.Marks.{Mark, marks_of}
 use Rattle.readers.specs.Parsed.{Parsed, parsed, failed, over_limit}
-use Rattle.session_grammar.specs.SessionAnswers.{answer_of_session, AreSession, IsFirstRefusedOfSession, IsSessionReadThrough, JudgesSession, at_mark, at_end, session_answer as read_answer}
+use Rattle.readers.specs.Places.{place_left, at_mark, at_end}
+use Rattle.session_grammar.specs.SessionAnswers.{answer_of_session, AreSession, IsFirstRefusedOfSession, IsSessionReadThrough, JudgesSession, session_answer as read_answer}
 use Rattle.session_grammar.specs.declared.raw.sessions.RawSession.{RawSession}
 use Rattle.session_grammar.specs.reading.Sessions.{whole_session_at}
 use Rattle.session_reader.specs.Answers.{Answer, IsMade, then_made_of}
@@ -62,7 +62,7 @@ of_text text tokens cut (Err read.OutOfMemory) told = tt
 
 -- the end of a front is the place behind it
 end_of_front : (text : List ℕ) (at : ℕ) → place_of (take at text) (length (take at text)) ≡ place_of text at
-end_of_front text at = ap (λ (before : List ℕ). let place : Place = record { line = line_of (chars before); column = column_of (chars before) } in place) (take-length (take at text))
+end_of_front text at = ap (λ (before : List ℕ). let place : Place = record { line = line_number (chars before); column = column_of (chars before) } in place) (take-length (take at text))
 
 -- of a front behind which no token begins
 of_front : (text : List ℕ) (at : ℕ) (tokens : List Token) → IsCutAt text at tokens → (answer : Result RawSession ReadError) → ReadTells (take at text) (marks_of (take at text) tokens) answer

@@ -3,9 +3,9 @@ use Rattle.std.specs.Prelude.{◌≡◌, List, ◌∷◌, Option, Some, None, Re
 use Rattle.aerie_base.specs.declared.places.Place.{Place}
 use Rattle.model_check.specs.declared.check_error.CheckError.{CheckError}
 use Rattle.model_check.specs.declared.check_error.CheckError.TheVariants as check
-use Rattle.session_reader.specs.declared.diagnostics.Cause.{Cause}
-use Rattle.session_reader.specs.declared.diagnostics.Cause.TheVariants.{Unknown, Duplicate, WrongType}
-use Rattle.session_reader.specs.declared.diagnostics.Diagnostic.{Diagnostic}
+use Rattle.session_reader.specs.declared.causes.Cause.{Cause}
+use Rattle.session_reader.specs.declared.causes.Cause.TheVariants.{Unknown, Duplicate, WrongType}
+use Rattle.diagnostics.specs.declared.diagnostic.Diagnostic.{Diagnostic}
 use Rattle.session_reader.specs.declared.session_error.SessionError.{SessionError}
 use Rattle.session_reader.specs.declared.session_error.SessionError.TheVariants.{Check, OutOfMemory}
 
@@ -43,6 +43,6 @@ check_error Duplicate place = check.Duplicate place
 check_error WrongType place = check.WrongType place
 
 -- what is made, unless something was found
-abbrev pub unless_found : {A : Type 0} → Option Diagnostic → Answer A → Answer A
+abbrev pub unless_found : {A : Type 0} → Option (Diagnostic Cause) → Answer A → Answer A
 unless_found None made = made
 unless_found (Some found) made = Err (Check (check_error found.cause found.place))

@@ -4,9 +4,10 @@ use Rattle.std.specs.List.{list_any}
 use Rattle.aerie_base.specs.declared.models.model.Parts.{Parts}
 use Rattle.aerie_base.specs.models.Names.{same_name}
 use Rattle.session_grammar.specs.declared.raw.plans.RawDataset.{RawDataset}
-use Rattle.session_reader.specs.declared.diagnostics.Cause.TheVariants.{Duplicate}
-use Rattle.session_reader.specs.declared.diagnostics.Diagnostic.{Diagnostic}
-use Rattle.session_reader.specs.Diagnostics.{refused_unless, all_of}
+use Rattle.session_reader.specs.declared.causes.Cause.TheVariants.{Duplicate}
+use Rattle.diagnostics.specs.declared.diagnostic.Diagnostic.{Diagnostic}
+use Rattle.session_reader.specs.declared.causes.Cause.{Cause}
+use Rattle.diagnostics.specs.Diagnostics.{refused_unless, all_of}
 use Rattle.session_reader.specs.RepeatedNames.{repeated_diagnostics}
 
 -- whether a resource of a model has the name
@@ -17,9 +18,9 @@ has_resource name model = list_any (λ resource. same_name resource.0 name) mode
 abbrev pub is_resource_name : List Parts → List ℕ → Bool
 is_resource_name models name = list_any (has_resource name) models
 
-abbrev pub dataset_diagnostics : List Parts → RawDataset → List Diagnostic
+abbrev pub dataset_diagnostics : List Parts → RawDataset → List (Diagnostic Cause)
 dataset_diagnostics models raw = refused_unless (not (is_resource_name models raw.name.name)) Duplicate raw.name.at
 
-abbrev pub datasets_diagnostics : List Parts → List RawDataset → List Diagnostic
+abbrev pub datasets_diagnostics : List Parts → List RawDataset → List (Diagnostic Cause)
 datasets_diagnostics models datasets =
     repeated_diagnostics [] (map (λ raw. raw.name) datasets) ++ all_of (dataset_diagnostics models) datasets

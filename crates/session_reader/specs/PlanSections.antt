@@ -5,7 +5,7 @@ use Rattle.aerie_base.specs.declared.plans.Plan.{Plan}
 use Rattle.plan_edit.specs.declared.errors.EditError.{EditError}
 use Rattle.plan_edit.specs.declared.errors.EditError.TheVariants as edit
 use Rattle.plan_edit.specs.Editing.{add_of}
-use Rattle.hangar_core.specs.Opening.{empty_plan}
+use Rattle.commands.specs.SessionModels.{empty_plan}
 use Rattle.session_grammar.specs.declared.raw.plans.RawDirective.{RawDirective}
 use Rattle.session_grammar.specs.declared.raw.plans.RawPlan.{RawPlan}
 use Rattle.session_reader.specs.declared.session_error.SessionError.{SessionError}

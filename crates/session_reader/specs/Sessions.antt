@@ -4,7 +4,8 @@ use Rattle.aerie_base.specs.declared.models.model.Parts.{Parts}
 use Rattle.aerie_base.specs.declared.plans.Plan.{Plan}
 use Rattle.session_grammar.specs.declared.raw.sections.RawSections.{RawSections}
 use Rattle.session_grammar.specs.declared.raw.sessions.RawSession.{RawSession}
-use Rattle.session_reader.specs.declared.diagnostics.Diagnostic.{Diagnostic}
+use Rattle.diagnostics.specs.declared.diagnostic.Diagnostic.{Diagnostic}
+use Rattle.session_reader.specs.declared.causes.Cause.{Cause}
 use Rattle.session_reader.specs.declared.session.ModelPart.{ModelPart}
 use Rattle.session_reader.specs.declared.session.Session.{Session}
 use Rattle.session_reader.specs.declared.sessions.AllSections.{AllSections}
@@ -25,14 +26,14 @@ use Rattle.session_reader.specs.Starts.{start_answer}
 -- ---- names
 
 -- what is wrong with the sections, sort by sort
-abbrev pub all_sections_diagnostics : List Parts → RawSections → List Diagnostic
+abbrev pub all_sections_diagnostics : List Parts → RawSections → List (Diagnostic Cause)
 all_sections_diagnostics models sections =
     sections_diagnostics models (no_sections models) sections.constraints
     ++ sections_diagnostics models (no_sections models) sections.goals
     ++ sections_diagnostics models (no_sections models) sections.sequences
 
 -- what is wrong with the names of models, mappings, datasets and sections
-abbrev pub session_diagnostics : List Parts → RawSession → List Diagnostic
+abbrev pub session_diagnostics : List Parts → RawSession → List (Diagnostic Cause)
 session_diagnostics models raw =
     repeated_diagnostics [] (map (λ model. model.name) raw.models)
     ++ mappings_diagnostics models raw.mappings
@@ -51,11 +52,11 @@ all_sections models raw =
     }
 
 -- the sections are put by model, and what is wrong with them is noted
-abbrev pub MakesAllSections : List Parts → RawSections → Option Diagnostic → Option Diagnostic → AllSections → Type 0
+abbrev pub MakesAllSections : List Parts → RawSections → Option (Diagnostic Cause) → Option (Diagnostic Cause) → AllSections → Type 0
 MakesAllSections models raw = MakesAndNotes (all_sections models raw) (all_sections_diagnostics models raw)
 
 -- the same, with what is wrong with all names of the session
-abbrev pub JudgesNames : List Parts → RawSession → Option Diagnostic → Option Diagnostic → AllSections → Type 0
+abbrev pub JudgesNames : List Parts → RawSession → Option (Diagnostic Cause) → Option (Diagnostic Cause) → AllSections → Type 0
 JudgesNames models raw = MakesAndNotes (all_sections models raw.sections) (session_diagnostics models raw)
 
 abbrev pub model_part : AllSections → ℕ → Parts → ModelPart

@@ -7,7 +7,7 @@ use Rattle.aerie_text.specs.declared.token.Token.{Token}
 use Rattle.aerie_text.specs.Tokens.{tokens_of}
 use Rattle.session_reader.specs.declared.session.ModelPart.{ModelPart}
 use Rattle.session_reader.specs.declared.session.Session.{Session}
-use Rattle.hangar_core.specs.Standing.{AreModels, IsPlanAmong}
+use Rattle.commands.specs.SessionModels.{AreModels, IsPlanAmong}
 use Rattle.session_reader.specs.DatasetAnswers.{AreSeries}
 use Rattle.session_reader.specs.CheckedModels.{AreValid, models_answer}
 use Rattle.session_reader.specs.Sections.{TokenRange}

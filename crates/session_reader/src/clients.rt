@@ -1,7 +1,8 @@
 //! Clients and their commands.
 
 ghost use Rattle.std.specs.Prelude.{◌≡◌, [], map, IfOk};
-ghost use Rattle.hangar_core.specs.declared.commands.Command.TheVariants as command;
+ghost use Rattle.commands.specs.declared.commands.Command.TheVariants as command;
+ghost use Rattle.commands.specs.declared.edits.Edit.TheVariants as edit;
 ghost use Rattle.session_reader.specs.ClientCommands.{command_meant, client_meant, clients_meant};
 ghost use Rattle.session_reader.specs.ClientNames.{is_client_name as is_client_name_by, repeated_client as repeated_client_by};
 ghost use Rattle.session_reader.specs.Quotes.{unquoted as unquoted_by};
@@ -9,7 +10,7 @@ ghost use Rattle.session_reader.specs.Quotes.{unquoted as unquoted_by};
 use crate::quotes::{BACKQUOTE, unquoted};
 use crate::session::Client;
 use aerie_base::{List, Name, OutOfMemory, Place, RawArgument, Text, When};
-use hangar_core::Command;
+use commands::{Command, Edit};
 use session_grammar::{RawClient, RawCommand, RawGiven};
 use std::alloc::Global;
 
@@ -33,32 +34,13 @@ pub(crate) fn repeated_client(clients: &[RawClient]) -> Option<Place>
     None
 }
 
-/// An equal list of arguments.
-fn copy_arguments(
-    alloc: Global,
-    arguments: &[RawArgument],
-) -> Result<List<RawArgument>, OutOfMemory>
-    ensures { IfOk result (λ copies. copies ≡ arguments.now) }
-{
-    let mut copies = List::with_capacity(alloc, arguments.len())?;
-    for argument in arguments {
-        copies.push(argument.copy(alloc)?)?;
-    }
-    Ok(copies)
-}
-
 /// The command that adds a directive.
 fn add(alloc: Global, branch: &Name, at: When, given: &RawGiven) -> Result<Command, OutOfMemory>
-    ensures { IfOk result (λ made. made ≡ command.Add branch.now at given.now.kind given.now.arguments) }
+    ensures { IfOk result (λ made. made ≡ command.Edit branch.now (edit.Add at given.now.kind given.now.arguments)) }
 {
     let branch = branch.copy(alloc)?;
-    let kind = given.kind.copy(alloc)?;
-    Ok(Command::Add {
-        branch,
-        at,
-        kind,
-        arguments: copy_arguments(alloc, given.arguments.as_slice())?,
-    })
+    let edit = Edit::add(alloc, at, &given.kind, given.arguments.as_slice())?;
+    Ok(Command::Edit { branch, edit })
 }
 
 /// The command that gives a directive another argument.
@@ -68,62 +50,22 @@ fn set(
     id: u32,
     argument: &RawArgument,
 ) -> Result<Command, OutOfMemory>
-    ensures { IfOk result (λ made. made ≡ command.Set branch.now id argument.now.name argument.now.value) }
+    ensures { IfOk result (λ made. made ≡ command.Edit branch.now (edit.Set id argument.now.name argument.now.value)) }
 {
     let branch = branch.copy(alloc)?;
-    let parameter = argument.name.copy(alloc)?;
-    Ok(Command::Set {
-        branch,
-        id,
-        parameter,
-        value: argument.value.copy(alloc)?,
-    })
+    let edit = Edit::set(alloc, id, &argument.name, &argument.value)?;
+    Ok(Command::Edit { branch, edit })
 }
 
 /// The command that puts the directives of a text in place of a branch's.
 fn load(alloc: Global, branch: &Name, text: &Text) -> Result<Command, OutOfMemory>
-    ensures { IfOk result (λ made. made ≡ command.Load branch.now (unquoted_by 96 text.now)) }
+    ensures { IfOk result (λ made. made ≡ command.Edit branch.now (edit.Load (unquoted_by 96 text.now))) }
 {
     let branch = branch.copy(alloc)?;
-    Ok(Command::Load {
+    let text = Text::new(alloc, unquoted(BACKQUOTE, text.as_str()))?;
+    Ok(Command::Edit {
         branch,
-        text: Text::new(alloc, unquoted(BACKQUOTE, text.as_str()))?,
-    })
-}
-
-/// Equal names, both of them.
-fn both(alloc: Global, one: &Name, other: &Name) -> Result<(Name, Name), OutOfMemory>
-    ensures { IfOk result (λ names. names ≡ (one.now, other.now)) }
-{
-    let one = one.copy(alloc)?;
-    Ok((one, other.copy(alloc)?))
-}
-
-/// The command that opens a branch as another stands.
-fn fork(alloc: Global, branch: &Name, source: &Name) -> Result<Command, OutOfMemory>
-    ensures { IfOk result (λ made. made ≡ command.Fork branch.now source.now) }
-{
-    let (branch, source) = both(alloc, branch, source)?;
-    Ok(Command::Fork { branch, source })
-}
-
-/// The command that moves a branch to a model.
-fn migrate(alloc: Global, branch: &Name, model: &Name) -> Result<Command, OutOfMemory>
-    ensures { IfOk result (λ made. made ≡ command.Migrate branch.now model.now) }
-{
-    let (branch, model) = both(alloc, branch, model)?;
-    Ok(Command::Migrate { branch, model })
-}
-
-/// The command that merges branches.
-fn merge(alloc: Global, target: &Name, source: &Name, base: &Name) -> Result<Command, OutOfMemory>
-    ensures { IfOk result (λ made. made ≡ command.Merge target.now source.now base.now) }
-{
-    let (target, source) = both(alloc, target, source)?;
-    Ok(Command::Merge {
-        target,
-        source,
-        base: base.copy(alloc)?,
+        edit: Edit::Load { text },
     })
 }
 
@@ -135,19 +77,18 @@ fn command(alloc: Global, raw: &RawCommand) -> Result<Command, OutOfMemory>
         RawCommand::New { branch } => Ok(Command::New {
             branch: branch.copy(alloc)?,
         }),
-        RawCommand::Fork { branch, source } => fork(alloc, branch, source),
+        RawCommand::Fork { branch, source } => Command::fork(alloc, branch, source),
         RawCommand::Drop { branch } => Ok(Command::Drop {
             branch: branch.copy(alloc)?,
         }),
         RawCommand::Add { branch, at, given } => add(alloc, branch, *at, given),
-        RawCommand::Remove { branch, id } => Ok(Command::Remove {
+        RawCommand::Remove { branch, id } => Ok(Command::Edit {
             branch: branch.copy(alloc)?,
-            id: *id,
+            edit: Edit::Remove { id: *id },
         }),
-        RawCommand::Move { branch, id, at } => Ok(Command::Move {
+        RawCommand::Move { branch, id, at } => Ok(Command::Edit {
             branch: branch.copy(alloc)?,
-            id: *id,
-            at: *at,
+            edit: Edit::Move { id: *id, at: *at },
         }),
         RawCommand::Set {
             branch,
@@ -155,7 +96,7 @@ fn command(alloc: Global, raw: &RawCommand) -> Result<Command, OutOfMemory>
             argument,
         } => set(alloc, branch, *id, argument),
         RawCommand::Load { branch, text } => load(alloc, branch, text),
-        RawCommand::Migrate { branch, model } => migrate(alloc, branch, model),
+        RawCommand::Migrate { branch, model } => Command::migrate(alloc, branch, model),
         RawCommand::Show { branch } => Ok(Command::Show {
             branch: branch.copy(alloc)?,
         }),
@@ -169,7 +110,7 @@ fn command(alloc: Global, raw: &RawCommand) -> Result<Command, OutOfMemory>
             branch,
             source,
             base,
-        } => merge(alloc, branch, source, base),
+        } => Command::merge(alloc, branch, source, base),
         RawCommand::Expand { branch } => Ok(Command::Expand {
             branch: branch.copy(alloc)?,
         }),

@@ -2,11 +2,13 @@
 
 ghost use Rattle.std.specs.Prelude.{◌≡◌, IfOk};
 ghost use Rattle.session_reader.specs.DatasetNames.{has_resource as has_resource_by, is_resource_name as is_resource_name_by, dataset_diagnostics, datasets_diagnostics};
-ghost use Rattle.session_reader.specs.Diagnostics.{noted, all_of};
+ghost use Rattle.diagnostics.specs.Diagnostics.{all_of};
+ghost use Rattle.session_reader.specs.Diagnostics.{noted};
 
-use crate::diagnostics::{Cause, Diagnostic, note_unless};
+use crate::causes::Cause;
 use crate::names::note_all_repeated;
 use aerie_base::{Model, Name, OutOfMemory, Shared};
+use diagnostics::{Diagnostic, note_unless};
 use session_grammar::RawDataset;
 use std::alloc::Global;
 
@@ -28,7 +30,7 @@ fn is_resource_name(models: &[Shared<Model>], name: &Name) -> bool
 fn note_resource_names(
     models: &[Shared<Model>],
     datasets: &[RawDataset],
-    found: &mut Option<Diagnostic>,
+    found: &mut Option<Diagnostic<Cause>>,
 )
     ensures { found.new ≡ noted found.old (all_of (dataset_diagnostics models.now) datasets.now) }
 {
@@ -39,12 +41,12 @@ fn note_resource_names(
 }
 
 /// Notes datasets with the names of earlier ones or of resources.
-#[tactic(auto, using(crate::proofs::NotedInTurn::noted_appended))]
+#[tactic(auto, using(diagnostics::specs::NotedInTurn::noted_appended))]
 pub(crate) fn note_datasets(
     alloc: Global,
     models: &[Shared<Model>],
     datasets: &[RawDataset],
-    found: &mut Option<Diagnostic>,
+    found: &mut Option<Diagnostic<Cause>>,
 ) -> Result<(), OutOfMemory>
     ensures { IfOk result (λ _. found.new ≡ noted found.old (datasets_diagnostics models.now datasets.now)) }
 {

@@ -1,7 +1,8 @@
 //! The datasets are read.
 
 ghost use Rattle.std.specs.Prelude.{◌≡◌, ◌≤◌, IfOk, length, Ok, Err};
-ghost use Rattle.dataset_in.specs.Datasets.{IsAnswerIfMemory, dataset_of};
+ghost use Rattle.aerie_base.specs.UnlessMemory.{UnlessMemory};
+ghost use Rattle.dataset_in.specs.Datasets.{dataset_of, ran_out};
 ghost use Rattle.dataset_in.specs.Series.{IsSeries};
 ghost use Rattle.session_reader.specs.Answers.{IsMade};
 ghost use Rattle.session_reader.specs.Quotes.{unquoted as unquoted_by};
@@ -48,7 +49,7 @@ fn named(alloc: Global, name: &Name, series: Series) -> Result<NamedSeries, OutO
 
 /// Reads the series of a dataset.
 fn series(alloc: Global, raw: &RawDataset) -> Result<Series, DatasetError>
-    ensures exact { IsAnswerIfMemory (dataset_of (unquoted_by 96 raw.now.text)) result }
+    ensures exact { UnlessMemory ran_out (dataset_of (unquoted_by 96 raw.now.text)) result }
     ensures series { IfOk result IsSeries }
 {
     read_dataset(alloc, unquoted(BACKQUOTE, raw.text.as_str()))

@@ -4,13 +4,15 @@ ghost use Rattle.std.specs.Prelude.{◌≡◌, option_copied};
 ghost use Rattle.std.specs.List.{list_any};
 ghost use Rattle.aerie_base.specs.models.Names.{same_name};
 ghost use Rattle.plan_edit.specs.Mappings.{may_feed as may_feed_by, same_variants as same_variants_by};
-ghost use Rattle.session_reader.specs.Diagnostics.{noted, all_of};
+ghost use Rattle.diagnostics.specs.Diagnostics.{all_of};
+ghost use Rattle.session_reader.specs.Diagnostics.{noted};
 ghost use Rattle.session_reader.specs.MappingDiagnostics.{value_diagnostics, may_feed_if_known as may_feed_if_known_by, same_if_known as same_if_known_by, value_fits as value_fits_by, parameter_diagnostics, feed_diagnostics, gets_a_value as gets_a_value_by};
 
-use crate::diagnostics::{Cause, Diagnostic, note, note_unless};
-use crate::known_parts::{parameter_named, parameter_place};
-use crate::literals::{literal_kind, note_literal, same_kind};
+use crate::causes::Cause;
+use crate::known_parts::{parameter_named, parameter_position};
+use crate::literals::{literal_kind, note_literal};
 use aerie_base::{Activity, EnumType, Kind, Model, Name, Parameter};
+use diagnostics::{Diagnostic, note, note_unless, same_kind};
 use session_grammar::{RawFeed, RawFeedValue};
 
 /// Whether two enumerations have the same list of variant names.
@@ -87,12 +89,17 @@ fn value_fits(old: &Model, new: &Model, from: &Activity, kind: Kind, value: &Raw
 }
 
 /// Notes a name in the value that is unknown.
-fn note_value(new: &Model, from: &Activity, value: &RawFeedValue, found: &mut Option<Diagnostic>)
+fn note_value(
+    new: &Model,
+    from: &Activity,
+    value: &RawFeedValue,
+    found: &mut Option<Diagnostic<Cause>>,
+)
     ensures { found.new ≡ noted found.old (value_diagnostics new.now from.now value.now) }
 {
     match value {
         RawFeedValue::Parameter(name) => {
-            let is_known = parameter_place(from.parameters.as_slice(), &name.name).is_some();
+            let is_known = parameter_position(from.parameters.as_slice(), &name.name).is_some();
             note_unless(is_known, found, name.at, Cause::Unknown);
         }
         RawFeedValue::Literal(literal) => note_literal(new.enums(), &literal.what, found),
@@ -106,7 +113,7 @@ fn note_parameter(
     from: &Activity,
     feed: &RawFeed,
     parameter: Option<&Parameter>,
-    found: &mut Option<Diagnostic>,
+    found: &mut Option<Diagnostic<Cause>>,
 )
     ensures { found.new ≡ noted found.old (parameter_diagnostics old.now new.now from.now feed.now (option_copied parameter.entry)) }
 {
@@ -126,7 +133,7 @@ fn note_feed(
     from: &Activity,
     to: &Activity,
     feed: &RawFeed,
-    found: &mut Option<Diagnostic>,
+    found: &mut Option<Diagnostic<Cause>>,
 )
     ensures { found.new ≡ noted found.old (feed_diagnostics old.now new.now from.now to.now feed.now) }
 {
@@ -142,7 +149,7 @@ pub(crate) fn note_feeds(
     from: &Activity,
     to: &Activity,
     feeds: &[RawFeed],
-    found: &mut Option<Diagnostic>,
+    found: &mut Option<Diagnostic<Cause>>,
 )
     ensures { found.new ≡ noted found.old (all_of (feed_diagnostics old.now new.now from.now to.now) feeds.now) }
 {

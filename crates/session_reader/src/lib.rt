@@ -1,11 +1,11 @@
 //! Sessions: what the text of a session means, or the first thing in it that is refused.
 #![tactic(auto)]
 
+mod causes;
 mod clients;
 mod cut_sessions;
 mod dataset_names;
 mod datasets;
-mod diagnostics;
 mod feeds;
 mod known_parts;
 pub mod laws;

@@ -1,46 +1,18 @@
 //! Literals of mappings, by the enumerations of the new model.
 
 ghost use Rattle.std.specs.Prelude.{◌≡◌, option_copied};
-ghost use Rattle.aerie_base.specs.expressions.Typing.{same_kind as same_kind_by};
-ghost use Rattle.model_check.specs.Literals.{short as short_by};
 ghost use Rattle.aerie_base.specs.models.Names.{is_name_among};
 ghost use Rattle.session_reader.specs.Diagnostics.{noted};
-ghost use Rattle.session_reader.specs.Literals.{enum_place as enum_place_by, enum_named as enum_named_by, variant_place as variant_place_by, variant_in as variant_in_by, variant_value as variant_value_by, variant_diagnostics, literal_kind as literal_kind_by, literal_diagnostics, literal_value as literal_value_by};
+ghost use Rattle.session_reader.specs.Literals.{enum_position as enum_position_by, enum_named as enum_named_by, variant_position as variant_position_by, variant_in as variant_in_by, variant_value as variant_value_by, variant_diagnostics, literal_kind as literal_kind_by, literal_diagnostics, literal_value as literal_value_by};
 
-use crate::diagnostics::{Cause, Diagnostic, note, note_unless};
+use crate::causes::Cause;
 use aerie_base::{EnumType, Kind, Name, Value};
+use diagnostics::{Diagnostic, note, note_unless, short};
 use model_reader::{RawLiteralKind, RawName};
 
-/// The number in 16 bits; one past their end stands at it.
-pub(crate) fn short(number: usize) -> u16
-    ensures { result ≡ short_by number }
-{
-    if number < 65535 { number as u16 } else { 65535 }
-}
-
-/// Whether two types are one.
-pub(crate) fn same_kind(one: Kind, other: Kind) -> bool
-    ensures { result ≡ same_kind_by one other }
-{
-    match one {
-        Kind::Int => match other {
-            Kind::Int => true,
-            _ => false,
-        },
-        Kind::Truth => match other {
-            Kind::Truth => true,
-            _ => false,
-        },
-        Kind::Enum(number) => match other {
-            Kind::Enum(other) => number == other,
-            _ => false,
-        },
-    }
-}
-
-/// The place of the enumeration with a name.
-fn enum_place(enums: &[EnumType], name: &Name) -> Option<usize>
-    ensures { result ≡ enum_place_by enums.now name.now }
+/// The position of the enumeration with a name.
+fn enum_position(enums: &[EnumType], name: &Name) -> Option<usize>
+    ensures { result ≡ enum_position_by enums.now name.now }
 {
     enums.iter().position(|one| one.name == *name)
 }
@@ -49,15 +21,15 @@ fn enum_place(enums: &[EnumType], name: &Name) -> Option<usize>
 fn enum_named<'a>(enums: &'a [EnumType], name: &Name) -> Option<&'a EnumType>
     ensures { option_copied result ≡ enum_named_by enums.now name.now }
 {
-    match enum_place(enums, name) {
+    match enum_position(enums, name) {
         Some(place) => enums.get(place),
         None => None,
     }
 }
 
-/// The place of the variant with a name.
-fn variant_place(variants: &[Name], name: &Name) -> Option<usize>
-    ensures { result ≡ variant_place_by variants.now name.now }
+/// The position of the variant with a name.
+fn variant_position(variants: &[Name], name: &Name) -> Option<usize>
+    ensures { result ≡ variant_position_by variants.now name.now }
 {
     variants.iter().position(|variant| *name == *variant)
 }
@@ -74,7 +46,7 @@ fn note_variant(
     enumeration: Option<&EnumType>,
     kind: &RawName,
     variant: &RawName,
-    found: &mut Option<Diagnostic>,
+    found: &mut Option<Diagnostic<Cause>>,
 )
     ensures { found.new ≡ noted found.old (variant_diagnostics kind.now variant.now (option_copied enumeration.entry)) }
 {
@@ -91,7 +63,7 @@ fn note_variant(
 pub(crate) fn note_literal(
     enums: &[EnumType],
     literal: &RawLiteralKind,
-    found: &mut Option<Diagnostic>,
+    found: &mut Option<Diagnostic<Cause>>,
 )
     ensures { found.new ≡ noted found.old (literal_diagnostics enums.now literal.now) }
 {
@@ -112,19 +84,19 @@ pub(crate) fn literal_kind(enums: &[EnumType], literal: &RawLiteralKind) -> Opti
         RawLiteralKind::Number(_) => Some(Kind::Int),
         RawLiteralKind::Truth(_) => Some(Kind::Truth),
         RawLiteralKind::Variant { kind, .. } => {
-            let place = enum_place(enums, &kind.name)?;
+            let place = enum_position(enums, &kind.name)?;
             Some(Kind::Enum(short(place)))
         }
     }
 }
 
-/// The place of a variant of an enumeration.
+/// The position of a variant of an enumeration.
 fn variant_in(name: &Name, enumeration: Option<&EnumType>) -> Option<usize>
     ensures { result ≡ variant_in_by name.now (option_copied enumeration.entry) }
 {
     match enumeration {
         None => None,
-        Some(enumeration) => variant_place(enumeration.variants.as_slice(), name),
+        Some(enumeration) => variant_position(enumeration.variants.as_slice(), name),
     }
 }
 
@@ -154,7 +126,7 @@ pub(crate) fn literal_value(enums: &[EnumType], literal: &RawLiteralKind) -> Val
         RawLiteralKind::Variant { kind, variant } => {
             let enumeration = enum_named(enums, &kind.name);
             let number = variant_in(&variant.name, enumeration);
-            variant_value(enum_place(enums, &kind.name), number)
+            variant_value(enum_position(enums, &kind.name), number)
         }
     }
 }

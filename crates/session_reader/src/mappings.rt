@@ -2,14 +2,16 @@
 
 ghost use Rattle.std.specs.Prelude.{◌≡◌, [], IfOk, option_copied};
 ghost use Rattle.std.specs.List.{list_all, list_any};
-ghost use Rattle.session_reader.specs.Diagnostics.{noted, all_of};
+ghost use Rattle.diagnostics.specs.Diagnostics.{all_of};
+ghost use Rattle.session_reader.specs.Diagnostics.{noted};
 ghost use Rattle.session_reader.specs.MappingDiagnostics.{feeds_diagnostics, between_diagnostics, rule_diagnostics, rules_diagnostics, among_diagnostics, mapping_diagnostics, same_models as same_models_by, repeated_mappings, mappings_diagnostics, gets_a_value as gets_a_value_by};
 
-use crate::diagnostics::{Cause, Diagnostic, note_unless};
+use crate::causes::Cause;
 use crate::feeds::{gets_a_value, note_feeds};
-use crate::known_parts::{model_named, model_place, type_named, type_place};
+use crate::known_parts::{model_named, model_position, type_named, type_position};
 use crate::names::note_all_repeated;
 use aerie_base::{Activity, Model, OutOfMemory, Parameter, Shared};
+use diagnostics::{Diagnostic, note_unless};
 use session_grammar::{RawFeed, RawMapping, RawTypeRule};
 use std::alloc::Global;
 
@@ -23,7 +25,7 @@ fn all_get_values(feeds: &[RawFeed], parameters: &[Parameter]) -> bool
 }
 
 /// Notes what is wrong with a rule between two types.
-#[tactic(auto, using(crate::proofs::NotedInTurn::noted_appended))]
+#[tactic(auto, using(diagnostics::specs::NotedInTurn::noted_appended))]
 fn note_between(
     alloc: Global,
     old: &Model,
@@ -31,7 +33,7 @@ fn note_between(
     rule: &RawTypeRule,
     from: &Activity,
     to: &Activity,
-    found: &mut Option<Diagnostic>,
+    found: &mut Option<Diagnostic<Cause>>,
 ) -> Result<(), OutOfMemory>
     ensures { IfOk result (λ _. found.new ≡ noted found.old (feeds_diagnostics old.now new.now rule.now from.now to.now)) }
 {
@@ -51,7 +53,7 @@ fn note_between_known(
     rule: &RawTypeRule,
     from: Option<&Activity>,
     to: Option<&Activity>,
-    found: &mut Option<Diagnostic>,
+    found: &mut Option<Diagnostic<Cause>>,
 ) -> Result<(), OutOfMemory>
     ensures { IfOk result (λ _. found.new ≡ noted found.old (between_diagnostics old.now new.now rule.now (option_copied from.entry) (option_copied to.entry))) }
 {
@@ -65,19 +67,19 @@ fn note_between_known(
 }
 
 /// Notes what is wrong with a rule.
-#[tactic(auto, using(crate::proofs::NotedInTurn::noted_appended))]
+#[tactic(auto, using(diagnostics::specs::NotedInTurn::noted_appended))]
 fn note_rule(
     alloc: Global,
     old: &Model,
     new: &Model,
     rule: &RawTypeRule,
-    found: &mut Option<Diagnostic>,
+    found: &mut Option<Diagnostic<Cause>>,
 ) -> Result<(), OutOfMemory>
     ensures { IfOk result (λ _. found.new ≡ noted found.old (rule_diagnostics old.now new.now rule.now)) }
 {
-    let is_old = type_place(old, &rule.old.name).is_some();
+    let is_old = type_position(old, &rule.old.name).is_some();
     note_unless(is_old, found, rule.old.at, Cause::Unknown);
-    let is_new = type_place(new, &rule.new.name).is_some();
+    let is_new = type_position(new, &rule.new.name).is_some();
     note_unless(is_new, found, rule.new.at, Cause::Unknown);
     let from = type_named(old, &rule.old.name);
     let to = type_named(new, &rule.new.name);
@@ -90,7 +92,7 @@ fn note_each_rule(
     old: &Model,
     new: &Model,
     rules: &[RawTypeRule],
-    found: &mut Option<Diagnostic>,
+    found: &mut Option<Diagnostic<Cause>>,
 ) -> Result<(), OutOfMemory>
     ensures { IfOk result (λ _. found.new ≡ noted found.old (all_of (rule_diagnostics old.now new.now) rules.now)) }
 {
@@ -101,13 +103,13 @@ fn note_each_rule(
 }
 
 /// Notes what is wrong with the rules between two models.
-#[tactic(auto, using(crate::proofs::NotedInTurn::noted_appended))]
+#[tactic(auto, using(diagnostics::specs::NotedInTurn::noted_appended))]
 fn note_rules(
     alloc: Global,
     old: &Model,
     new: &Model,
     rules: &[RawTypeRule],
-    found: &mut Option<Diagnostic>,
+    found: &mut Option<Diagnostic<Cause>>,
 ) -> Result<(), OutOfMemory>
     ensures { IfOk result (λ _. found.new ≡ noted found.old (rules_diagnostics old.now new.now rules.now)) }
 {
@@ -121,7 +123,7 @@ fn note_rules_known(
     rules: &[RawTypeRule],
     old: Option<&Model>,
     new: Option<&Model>,
-    found: &mut Option<Diagnostic>,
+    found: &mut Option<Diagnostic<Cause>>,
 ) -> Result<(), OutOfMemory>
     ensures { IfOk result (λ _. found.new ≡ noted found.old (among_diagnostics rules.now (option_copied old.entry) (option_copied new.entry))) }
 {
@@ -135,18 +137,18 @@ fn note_rules_known(
 }
 
 /// Notes what is wrong with a mapping.
-#[tactic(auto, using(crate::proofs::NotedInTurn::noted_appended))]
+#[tactic(auto, using(diagnostics::specs::NotedInTurn::noted_appended))]
 fn note_mapping(
     alloc: Global,
     models: &[Shared<Model>],
     mapping: &RawMapping,
-    found: &mut Option<Diagnostic>,
+    found: &mut Option<Diagnostic<Cause>>,
 ) -> Result<(), OutOfMemory>
     ensures { IfOk result (λ _. found.new ≡ noted found.old (mapping_diagnostics models.now mapping.now)) }
 {
-    let is_old = model_place(models, &mapping.from.name).is_some();
+    let is_old = model_position(models, &mapping.from.name).is_some();
     note_unless(is_old, found, mapping.from.at, Cause::Unknown);
-    let is_new = model_place(models, &mapping.to.name).is_some();
+    let is_new = model_position(models, &mapping.to.name).is_some();
     note_unless(is_new, found, mapping.to.at, Cause::Unknown);
     let old = model_named(models, &mapping.from.name);
     let new = model_named(models, &mapping.to.name);
@@ -158,7 +160,7 @@ fn note_each_mapping(
     alloc: Global,
     models: &[Shared<Model>],
     mappings: &[RawMapping],
-    found: &mut Option<Diagnostic>,
+    found: &mut Option<Diagnostic<Cause>>,
 ) -> Result<(), OutOfMemory>
     ensures { IfOk result (λ _. found.new ≡ noted found.old (all_of (mapping_diagnostics models.now) mappings.now)) }
 {
@@ -183,7 +185,7 @@ fn has_models_of(mapping: &RawMapping, earlier: &[RawMapping]) -> bool
 }
 
 /// Notes mappings between the models of earlier ones: there are at most 16.
-fn note_repeated_mappings(mappings: &[RawMapping], found: &mut Option<Diagnostic>)
+fn note_repeated_mappings(mappings: &[RawMapping], found: &mut Option<Diagnostic<Cause>>)
     ensures { found.new ≡ noted found.old (repeated_mappings [] mappings.now) }
 {
     for number in 0..mappings.len() {
@@ -195,12 +197,12 @@ fn note_repeated_mappings(mappings: &[RawMapping], found: &mut Option<Diagnostic
 
 /// Notes what is wrong with the mappings of a session. It takes time linear in them, names being looked up by hash or in
 /// short lists.
-#[tactic(auto, using(crate::proofs::NotedInTurn::noted_appended))]
+#[tactic(auto, using(diagnostics::specs::NotedInTurn::noted_appended))]
 pub(crate) fn note_mappings(
     alloc: Global,
     models: &[Shared<Model>],
     mappings: &[RawMapping],
-    found: &mut Option<Diagnostic>,
+    found: &mut Option<Diagnostic<Cause>>,
 ) -> Result<(), OutOfMemory>
     ensures { IfOk result (λ _. found.new ≡ noted found.old (mappings_diagnostics models.now mappings.now)) }
 {

@@ -4,14 +4,17 @@ ghost use Rattle.std.specs.Prelude.{◌≡◌, IfOk, find, map, option_copied};
 ghost use Rattle.aerie_base.specs.models.Names.{same_name};
 ghost use Rattle.session_reader.specs.MeantMappings.{number_at as number_at_by, default_of as default_of_by, feed_written as feed_written_by, feed_or_default as feed_or_default_by, feed_for as feed_for_by, feeds_between as feeds_between_by, rule_meant, rules_among as rules_among_by, mapping_meant, mappings_meant};
 
-use crate::known_parts::{model_named, model_place, parameter_place, type_named, type_place};
-use crate::literals::{literal_value, short};
+use crate::known_parts::{
+    model_named, model_position, parameter_position, type_named, type_position,
+};
+use crate::literals::literal_value;
 use aerie_base::{Activity, List, Model, Name, OutOfMemory, Parameter, Shared, Value};
+use diagnostics::short;
 use plan_edit::{Feed, Mapping, TypeRule};
 use session_grammar::{RawFeed, RawFeedValue, RawMapping, RawTypeRule};
 use std::alloc::Global;
 
-/// The number of a part at a place.
+/// The number of a part at a position.
 fn number_at(place: Option<usize>) -> u16
     ensures { result ≡ number_at_by place }
 {
@@ -37,7 +40,7 @@ fn feed_written(new: &Model, from: &Activity, value: &RawFeedValue) -> Feed
 {
     match value {
         RawFeedValue::Parameter(name) => {
-            let place = parameter_place(from.parameters.as_slice(), &name.name);
+            let place = parameter_position(from.parameters.as_slice(), &name.name);
             Feed::Old(number_at(place))
         }
         RawFeedValue::Literal(literal) => Feed::Fixed(literal_value(new.enums(), &literal.what)),
@@ -117,8 +120,8 @@ fn rule(alloc: Global, old: &Model, new: &Model, raw: &RawTypeRule) -> Result<Ty
     let to = type_named(new, &raw.new.name);
     let feeds = feeds_between(alloc, new, raw.feeds.as_slice(), from, to)?;
     Ok(TypeRule {
-        old: number_at(type_place(old, &raw.old.name)),
-        new: number_at(type_place(new, &raw.new.name)),
+        old: number_at(type_position(old, &raw.old.name)),
+        new: number_at(type_position(new, &raw.new.name)),
         feeds,
     })
 }
@@ -169,8 +172,8 @@ fn mapping(
     let new = model_named(models, &raw.to.name);
     let rules = rules_among(alloc, raw.rules.as_slice(), old, new)?;
     Ok(Mapping {
-        from: number_at(model_place(models, &raw.from.name)),
-        to: number_at(model_place(models, &raw.to.name)),
+        from: number_at(model_position(models, &raw.from.name)),
+        to: number_at(model_position(models, &raw.to.name)),
         rules,
     })
 }

@@ -7,7 +7,7 @@ ghost use Rattle.plan_edit.specs.Answers.{IsRefusal as IsEditRefusal};
 ghost use Rattle.plan_edit.specs.Editing.{add_of};
 ghost use Rattle.session_reader.specs.Answers.{IsMade, IsRefusal};
 ghost use Rattle.session_reader.specs.WellFormed.{IsPlanOfFirst};
-ghost use Rattle.hangar_core.specs.Opening.{empty_plan as empty_plan_by};
+ghost use Rattle.commands.specs.SessionModels.{empty_plan as empty_plan_by};
 ghost use Rattle.session_reader.specs.PlanSections.{edit_refusal, directive_added, directives_added, plan_answer};
 
 use crate::session_error::SessionError;

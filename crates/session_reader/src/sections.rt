@@ -2,11 +2,12 @@
 
 ghost use Rattle.std.specs.Prelude.{◌≡◌, None, IfOk, is_some, slice_set, Some};
 ghost use Rattle.session_reader.specs.Diagnostics.{noted};
-ghost use Rattle.session_reader.specs.Sections.{no_sections as no_sections_by, section_of, model_of_section as model_of_section_by, place_of_section as place_of_section_by, section_diagnostics, diagnostics_of_section, section_put, with_section, MakesSections};
+ghost use Rattle.session_reader.specs.Sections.{no_sections as no_sections_by, section_of, model_of_section as model_of_section_by, position_of_section as position_of_section_by, section_diagnostics, diagnostics_of_section, section_put, with_section, MakesSections};
 
-use crate::diagnostics::{Cause, Diagnostic, note, note_unless};
-use crate::known_parts::model_place;
+use crate::causes::Cause;
+use crate::known_parts::model_position;
 use aerie_base::{List, Model, OutOfMemory, Place, Shared};
+use diagnostics::{Diagnostic, note, note_unless};
 use model_reader::RawName;
 use session_grammar::RawSection;
 use std::alloc::Global;
@@ -38,19 +39,19 @@ fn has_section(sections: &SectionsByModel, model: usize) -> bool
     }
 }
 
-/// The place of the model of a section.
+/// The position of the model of a section.
 fn model_of_section(models: &[Shared<Model>], of: &Option<RawName>) -> Option<usize>
     ensures { result ≡ model_of_section_by models.now of.now }
 {
     match of {
         None => Some(0),
-        Some(name) => model_place(models, &name.name),
+        Some(name) => model_position(models, &name.name),
     }
 }
 
 /// The place at which a section is refused.
-fn place_of_section(at: Place, of: &Option<RawName>) -> Place
-    ensures { result ≡ place_of_section_by at of.now }
+fn position_of_section(at: Place, of: &Option<RawName>) -> Place
+    ensures { result ≡ position_of_section_by at of.now }
 {
     match of {
         None => at,
@@ -63,7 +64,7 @@ fn note_section(
     sections: &SectionsByModel,
     at: Place,
     model: Option<usize>,
-    found: &mut Option<Diagnostic>,
+    found: &mut Option<Diagnostic<Cause>>,
 )
     ensures { found.new ≡ noted found.old (section_diagnostics sections.now at model) }
 {
@@ -98,13 +99,13 @@ fn add_section(
     models: &[Shared<Model>],
     sections: &mut SectionsByModel,
     raw: &RawSection,
-    found: &mut Option<Diagnostic>,
+    found: &mut Option<Diagnostic<Cause>>,
 )
     ensures put { sections.new ≡ with_section models.now sections.old raw.now }
     ensures noted { found.new ≡ noted found.old (diagnostics_of_section models.now sections.old raw.now) }
 {
     let model = model_of_section(models, &raw.of);
-    note_section(sections, place_of_section(raw.at, &raw.of), model, found);
+    note_section(sections, position_of_section(raw.at, &raw.of), model, found);
     put_section(sections, (raw.from, raw.to), model);
 }
 
@@ -113,7 +114,7 @@ pub(crate) fn sections_of(
     alloc: Global,
     models: &[Shared<Model>],
     raw: &[RawSection],
-    found: &mut Option<Diagnostic>,
+    found: &mut Option<Diagnostic<Cause>>,
 ) -> Result<SectionsByModel, OutOfMemory>
     ensures { IfOk result (MakesSections models.now raw.now found.old found.new) }
 {

@@ -2,9 +2,9 @@
 
 use crate::sections::TokenRange;
 use aerie_base::{List, Model, Name, Plan, Shared};
+use commands::Command;
 use dataset_in::Series;
 use epoch_text::Start;
-use hangar_core::Command;
 use plan_edit::Mapping;
 
 /// A model with its sections of rules. Of each section stands here the number of the first token of the rules and that of the

@@ -11,10 +11,10 @@ ghost use Rattle.session_reader.specs.Sessions.{all_sections as all_sections_by,
 ghost use Rattle.session_reader.specs.Starts.{start_answer};
 ghost use Rattle.session_reader.specs.WellFormed.{HasRangesOf, IsLimited, IsPlanOfFirst, IsSession, MayBeMade};
 
+use crate::causes::Cause;
 use crate::clients::{clients, repeated_client};
 use crate::dataset_names::note_datasets;
 use crate::datasets::{NamedSeries, datasets};
-use crate::diagnostics::{Cause, Diagnostic};
 use crate::mappings::note_mappings;
 use crate::meant_mappings::mappings;
 use crate::models::models;
@@ -25,6 +25,7 @@ use crate::session::{ModelPart, Session};
 use crate::session_error::SessionError;
 use crate::starts::start;
 use aerie_base::{List, Model, OutOfMemory, Plan, Shared};
+use diagnostics::Diagnostic;
 use epoch_text::Start;
 use model_check::CheckError;
 use session_grammar::{RawSections, RawSession};
@@ -39,12 +40,12 @@ struct AllSections {
 }
 
 /// Judges the sections, sort by sort, and gives them by model.
-#[tactic(auto, using(crate::proofs::NotedInTurn::noted_appended))]
+#[tactic(auto, using(diagnostics::specs::NotedInTurn::noted_appended))]
 fn all_sections(
     alloc: Global,
     models: &[Shared<Model>],
     raw: &RawSections,
-    found: &mut Option<Diagnostic>,
+    found: &mut Option<Diagnostic<Cause>>,
 ) -> Result<AllSections, OutOfMemory>
     ensures { IfOk result (MakesAllSections models.now raw.now found.old found.new) }
 {
@@ -59,12 +60,12 @@ fn all_sections(
 }
 
 /// Judges the names of models, mappings, datasets and sections, and gives the sections by model.
-#[tactic(auto, using(crate::proofs::NotedInTurn::noted_appended))]
+#[tactic(auto, using(diagnostics::specs::NotedInTurn::noted_appended))]
 fn judge_names(
     alloc: Global,
     models: &[Shared<Model>],
     raw: &RawSession,
-    found: &mut Option<Diagnostic>,
+    found: &mut Option<Diagnostic<Cause>>,
 ) -> Result<AllSections, OutOfMemory>
     ensures { IfOk result (JudgesNames models.now raw.now found.old found.new) }
 {
@@ -75,7 +76,7 @@ fn judge_names(
 }
 
 /// The error that tells what was found.
-fn refusal(diagnostic: Diagnostic) -> SessionError
+fn refusal(diagnostic: Diagnostic<Cause>) -> SessionError
     ensures { result ≡ Check (check_error diagnostic.cause diagnostic.place) }
 {
     let place = diagnostic.place;

@@ -4,7 +4,7 @@ use Rattle.std.specs.List.{AllByRecursion}
 use Rattle.std.specs.Cmp.Lexicographic.{bytes_decides}
 use Rattle.aerie_base.specs.models.Names.{same_name}
 use Rattle.hangar_core.specs.declared.actions.Action.{Action}
-use Rattle.hangar_core.specs.declared.actions.Action.TheVariants.{New, Fork, Drop, Add, Remove, Move, Set, Load, Migrate, Fetch, Attach, Place}
+use Rattle.hangar_core.specs.declared.actions.Action.TheVariants.{New, Fork, Drop, Edit, Migrate, Fetch, Attach, Place}
 use Rattle.hangar_core.specs.declared.branches.Branch.{Branch}
 use Rattle.hangar_core.specs.declared.replies.Reply.{Reply}
 use Rattle.hangar_core.specs.declared.workspaces.Workspace.{Workspace}
@@ -40,11 +40,7 @@ unfolding step
 step_keeps (New branch) name w e = absurd (no_branch name e)
 step_keeps (Fork branch source) name w e = absurd (no_branch name e)
 step_keeps (Drop branch) name w e = dropped_keeps w branch (branch_named w branch)
-step_keeps (Add branch at kind arguments) name w e = found_keeps w branch _ (branch_named w branch)
-step_keeps (Remove branch id) name w e = found_keeps w branch _ (branch_named w branch)
-step_keeps (Move branch id at) name w e = found_keeps w branch _ (branch_named w branch)
-step_keeps (Set branch id parameter value) name w e = found_keeps w branch _ (branch_named w branch)
-step_keeps (Load branch text) name w e = found_keeps w branch _ (branch_named w branch)
+step_keeps (Edit branch edit) name w e = found_keeps w branch _ (branch_named w branch)
 step_keeps (Migrate branch model) name w e = found_keeps w branch _ (branch_named w branch)
 step_keeps (Fetch branch) name w e = found_keeps w branch _ (branch_named w branch)
 step_keeps (Attach branch kept) name w e = found_keeps w branch _ (branch_named w branch)

@@ -1,14 +1,14 @@
--- Turn by turn, and round by round, what is told is counted.
+-- Command by command, and round by round, what is told is counted.
 use Rattle.std.proofs.Common.{◌≡◌, ℕ, suc, ◌+◌, ◌≤◌, false, List, [], ◌∷◌, ◌++◌, length, map, Some, None, refl, sym, ap, ◌∙◌, subst, arith, append_assoc, slice_get}
 use Rattle.std.proofs.lemmas.List.{append-nil}
-use Rattle.hangar_core.specs.declared.commands.Command.{Command}
+use Rattle.commands.specs.declared.commands.Command.{Command}
 use Rattle.hangar_core.specs.Fits.{IsCommand}
 use Rattle.hangar_core.specs.Journals.{Entries, IsReplay}
-use Rattle.hangar_core.specs.Serial.{ClientTurn, longest, turns}
+use Rattle.hangar_core.specs.Serial.{NumberedCommand, longest, in_rounds}
 use Rattle.hangar_lock.specs.laws.ClientsWork.{CommandsHaveFewParts}
 use Rattle.hangar_lock.specs.Passes.{LockView, PassView}
 use Rattle.hangar_lock.specs.Places.{HaveAllOf, Places, StandIn}
-use Rattle.hangar_lock.specs.Works.{own_entry, reply_of, RisesTo}
+use Rattle.hangar_lock.specs.ClientEntries.{own_entry, reply_of, RisesTo}
 use Rattle.report_text.specs.declared.answers.Answer.{Answer}
 use Rattle.session_reader.specs.declared.session.Client.{Client}
 use Rattle.session_judge.specs.declared.judged.JudgedSession.{JudgedSession}
@@ -18,24 +18,24 @@ use Rattle.client_work.specs.declared.missions.Mission.{Mission}
 use Rattle.client_work.specs.Meanings.{meanings_of}
 use Rattle.client_work.specs.Told.{command_told}
 use Rattle.client_work.specs.Working.{IsAtWork, own_entries}
-use Rattle.session_run.specs.Answers.{answers_along, AreAnswered, CountsRound, CountsTurn, HasCounted, HasCountedUntil, serial_answers}
+use Rattle.session_run.specs.Answers.{answers_along, AreAnswered, CountsRound, CountsCommand, HasCounted, HasCountedUntil, serial_answers}
 use Rattle.session_run.specs.Missions.{all_commands, mission_of, opening_of, session_meanings}
 use Rattle.session_run.specs.Performed.{serial_journal}
-use Rattle.session_run.specs.Turning.{turns_until}
-use Rattle.session_run.proofs.Along.{told_along, turns_of}
+use Rattle.session_run.specs.Rounds.{in_rounds_until}
+use Rattle.session_run.proofs.Along.{told_along, answers_of_commands}
 use Rattle.session_run.proofs.Finished.{serial_is}
 use Rattle.session_run.proofs.Placed.{placed_all}
 use Rattle.session_run.proofs.Replayed.{in_turn}
-use Rattle.session_run.proofs.Rounds.{gained_both, mapped_append, round_turns, still_at, turns_skipped, turns_taken}
+use Rattle.session_run.proofs.Rounds.{gained_both, mapped_append, round_in_rounds, still_at, in_rounds_skipped, in_rounds_taken}
 
--- ---- one turn more
+-- ---- one command more
 
-module _ (mission : Mission) (turn : ClientTurn) (own : Entries) (done : IsCommand (meanings_of mission.models mission.bound) turn.client turn.number turn.command [] own) where
+module _ (mission : Mission) (numbered : NumberedCommand) (own : Entries) (done : IsCommand (meanings_of mission.models mission.bound) numbered.client numbered.number numbered.command [] own) where
   abbrev told : Answer
-  told = command_told mission None turn.command (map reply_of own)
+  told = command_told mission None numbered.command (map reply_of own)
 
-  answered_more : (earlier : List ClientTurn) (entries : Entries) (answers : List Answer) → AreAnswered mission earlier entries answers →
-      AreAnswered mission (earlier ++ (turn ∷ [])) (entries ++ own) (answers ++ (told ∷ []))
+  answered_more : (earlier : List NumberedCommand) (entries : Entries) (answers : List Answer) → AreAnswered mission earlier entries answers →
+      AreAnswered mission (earlier ++ (numbered ∷ [])) (entries ++ own) (answers ++ (told ∷ []))
   answered_more [] entries answers are = (
     own,
     [],
@@ -55,27 +55,27 @@ module _ (mission : Mission) (turn : ClientTurn) (own : Entries) (done : IsComma
     answered_more earlier are.1 are.2 are.6,
   )
 
--- ---- a turn of a round
+-- ---- a command of a round
 
 module _ (mission : Mission) (clients : List Client) (number which : ℕ) (client : Client) (at : slice_get clients which ≡ Some client) where
   count_taken : (command : Command) → slice_get client.commands number ≡ Some command → (first before after : PassView) (summary_before summary_after : Summary) →
       HasCountedUntil mission clients number which first before summary_before →
-      CountsTurn mission (record { client = which; command = number }) command before after summary_before summary_after →
+      CountsCommand mission (record { client = which; command = number }) command before after summary_before summary_after →
       HasCountedUntil mission clients number (suc which) first after summary_after
-  count_taken command has first before after summary_before summary_after until turn =
-      let it : ClientTurn = record { client = which; number = number; command = command } in
-      let entries : own_entries (until.gained ++ turn.gained) ≡ own_entries until.gained ++ own_entries turn.gained = mapped_append own_entry until.gained turn.gained in
-      let told : Answer = command_told mission None command (map reply_of (own_entries turn.gained)) in
+  count_taken command has first before after summary_before summary_after until numbered =
+      let it : NumberedCommand = record { client = which; number = number; command = command } in
+      let entries : own_entries (until.gained ++ numbered.gained) ≡ own_entries until.gained ++ own_entries numbered.gained = mapped_append own_entry until.gained numbered.gained in
+      let told : Answer = command_told mission None command (map reply_of (own_entries numbered.gained)) in
       record {
-        gained = until.gained ++ turn.gained;
-        gains = gained_both first before after until.gained turn.gained until.gains turn.gains;
+        gained = until.gained ++ numbered.gained;
+        gains = gained_both first before after until.gained numbered.gained until.gains numbered.gains;
         answers = until.answers ++ (told ∷ []);
         answered =
-            subst (λ (l : Entries). AreAnswered mission (turns_until number (suc which) (all_commands clients)) l (until.answers ++ (told ∷ []))) (sym entries)
-            (subst (λ (l : List ClientTurn). AreAnswered mission l (own_entries until.gained ++ own_entries turn.gained) (until.answers ++ (told ∷ [])))
-            (sym (turns_taken mission clients number which client at command has))
-            (answered_more mission it (own_entries turn.gained) turn.parts (turns_until number which (all_commands clients)) (own_entries until.gained) until.answers until.answered));
-        summed = turn.counted until.answers until.summed;
+            subst (λ (l : Entries). AreAnswered mission (in_rounds_until number (suc which) (all_commands clients)) l (until.answers ++ (told ∷ []))) (sym entries)
+            (subst (λ (l : List NumberedCommand). AreAnswered mission l (own_entries until.gained ++ own_entries numbered.gained) (until.answers ++ (told ∷ [])))
+            (sym (in_rounds_taken mission clients number which client at command has))
+            (answered_more mission it (own_entries numbered.gained) numbered.parts (in_rounds_until number which (all_commands clients)) (own_entries until.gained) until.answers until.answered));
+        summed = numbered.counted until.answers until.summed;
       }
 
   count_skipped : length client.commands ≤ number → (first before : PassView) (summary : Summary) → HasCountedUntil mission clients number which first before summary →
@@ -84,13 +84,13 @@ module _ (mission : Mission) (clients : List Client) (number which : ℕ) (clien
     gained = until.gained;
     gains = until.gains;
     answers = until.answers;
-    answered = subst (λ (l : List ClientTurn). AreAnswered mission l (own_entries until.gained) until.answers) (sym (turns_skipped mission clients number which client at less)) until.answered;
+    answered = subst (λ (l : List NumberedCommand). AreAnswered mission l (own_entries until.gained) until.answers) (sym (in_rounds_skipped mission clients number which client at less)) until.answered;
     summed = until.summed;
   }
 
 -- ---- a round that goes on
 
--- in a round with a number, so many clients had their turn
+-- in a round with a number, so many clients had their command done
 pub record IsInCount (mission : Mission) (lock : LockView) (clients : List Client) (number which : ℕ) (before now : PassView) (summary_before summary_now : Summary) : Type 0 where
   pub at : IsAtWork mission lock now
   pub own : before.lock ≡ lock
@@ -100,17 +100,17 @@ pub count_begun : (mission : Mission) (lock : LockView) (clients : List Client) 
     IsInCount mission lock clients number 0 pass pass summary summary
 count_begun mission lock clients number pass summary at = record { at = at; own = at.own; goes_on = λ first until. until }
 
-pub count_turned : (mission : Mission) (lock : LockView) (clients : List Client) (number which : ℕ) (before now after : PassView) (summary_before summary_now summary_after : Summary)
+pub command_counted : (mission : Mission) (lock : LockView) (clients : List Client) (number which : ℕ) (before now after : PassView) (summary_before summary_now summary_after : Summary)
     (client : Client) (command : Command) → slice_get clients which ≡ Some client → slice_get client.commands number ≡ Some command →
-    CountsTurn mission (record { client = which; command = number }) command now after summary_now summary_after →
+    CountsCommand mission (record { client = which; command = number }) command now after summary_now summary_after →
     IsInCount mission lock clients number which before now summary_before summary_now → IsInCount mission lock clients number (which + 1) before after summary_before summary_after
-count_turned mission lock clients number which before now after summary_before summary_now summary_after client command place has turn round =
+command_counted mission lock clients number which before now after summary_before summary_now summary_after client command place has numbered round =
     let next : suc which ≡ which + 1 = omega arith in
     record {
-      at = still_at mission lock now after turn.gained round.at turn.gains;
+      at = still_at mission lock now after numbered.gained round.at numbered.gains;
       own = round.own;
       goes_on = λ first until. subst (λ (n : ℕ). HasCountedUntil mission clients number n first after summary_after) next
-          (count_taken mission clients number which client place command has first now after summary_now summary_after (round.goes_on first until) turn);
+          (count_taken mission clients number which client place command has first now after summary_now summary_after (round.goes_on first until) numbered);
     }
 
 pub count_passed : (mission : Mission) (lock : LockView) (clients : List Client) (number which : ℕ) (before now : PassView) (summary_before summary_now : Summary) (client : Client) →
@@ -137,7 +137,7 @@ count_over mission lock clients number which before now summary_before summary_n
       gained = until.gained;
       gains = until.gains;
       answers = until.answers;
-      answered = subst (λ (l : List ClientTurn). AreAnswered mission l (own_entries until.gained) until.answers) (round_turns clients number) until.answered;
+      answered = subst (λ (l : List NumberedCommand). AreAnswered mission l (own_entries until.gained) until.answers) (round_in_rounds clients number) until.answered;
       summed = until.summed;
     }
 
@@ -170,12 +170,12 @@ module _ (judged : JudgedSession) (bound : ℕ) (few : CommandsHaveFewParts) whe
       let rises = subst (λ (l : Entries). RisesTo (length l) (length pass.seen) until.gained) unseen until.gains.rises in
       let entries : own_entries until.gained ≡ journal =
       placed_all (length pass.seen) until.gained journal rises (subst (λ (l : Places). StandIn l journal) mine right) (subst (λ (l : Places). HaveAllOf l journal) mine all) in
-      let answered : AreAnswered mission (turns rounds 0 commands) journal until.answers =
-      subst (λ (l : Entries). AreAnswered mission (turns rounds 0 commands) l until.answers) entries
-      (subst (λ (l : List ClientTurn). AreAnswered mission l (own_entries until.gained) until.answers) (append-nil (turns rounds 0 commands)) until.answered) in
+      let answered : AreAnswered mission (in_rounds rounds 0 commands) journal until.answers =
+      subst (λ (l : Entries). AreAnswered mission (in_rounds rounds 0 commands) l until.answers) entries
+      (subst (λ (l : List NumberedCommand). AreAnswered mission l (own_entries until.gained) until.answers) (append-nil (in_rounds rounds 0 commands)) until.answered) in
       let serial_one : journal ≡ serial_journal judged bound =
-      in_turn (session_meanings judged bound) few (turns rounds 0 commands) (opening_of judged.session) journal (turns_of mission (turns rounds 0 commands) journal until.answers answered) replayed
+      in_turn (session_meanings judged bound) few (in_rounds rounds 0 commands) (opening_of judged.session) journal (answers_of_commands mission (in_rounds rounds 0 commands) journal until.answers answered) replayed
       ∙ serial_is judged bound in
       until.summed
       ∙ ap summary_of (told_along mission rounds commands journal until.answers answered
-      ∙ ap (λ (l : Entries). answers_along mission l (turns rounds 0 commands)) serial_one)
+      ∙ ap (λ (l : Entries). answers_along mission l (in_rounds rounds 0 commands)) serial_one)

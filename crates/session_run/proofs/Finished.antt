@@ -1,12 +1,12 @@
--- When all turns are over, the text is that of the session along the journal of clients who take turns.
+-- When all commands are over, the text is that of the session along the journal of clients in rounds.
 use Rattle.std.proofs.Common.{◌≡◌, ℕ, zero, suc, ◌+◌, ◌≤◌, List, [], ◌∷◌, ◌++◌, length, take, Some, refl, ap, ◌∙◌, subst, arith, slice_get}
 use Rattle.std.specs.List.{filter}
 use Rattle.std.proofs.lemmas.List.{append-nil}
-use Rattle.aerie_text.specs.Json.{line_of}
-use Rattle.hangar_core.specs.declared.commands.Command.{Command}
+use Rattle.json_line.specs.Json.{line_of}
+use Rattle.commands.specs.declared.commands.Command.{Command}
 use Rattle.hangar_core.specs.Fits.{is_of_client}
 use Rattle.hangar_core.specs.Journals.{Entries, IsReplay}
-use Rattle.hangar_core.specs.Serial.{ClientTurn, longest, one_by_one, serial, turns}
+use Rattle.hangar_core.specs.Serial.{NumberedCommand, longest, one_by_one, serial, in_rounds}
 use Rattle.hangar_lock.specs.laws.ClientsWork.{CommandsHaveFewParts}
 use Rattle.hangar_lock.specs.Passes.{PassView}
 use Rattle.hangar_lock.specs.Places.{HaveAllOf, Places, StandIn}
@@ -20,7 +20,7 @@ use Rattle.session_run.specs.Joined.{joined_texts}
 use Rattle.session_run.specs.Missions.{all_commands, mission_of, opening_of, session_meanings}
 use Rattle.session_run.specs.Performed.{IsPerformedInTurn, serial_journal}
 use Rattle.session_run.specs.Texts.{client_numbered, clients_text}
-use Rattle.session_run.specs.Turning.{AreToldUntil, AreTurns, done_until, HasTurned}
+use Rattle.session_run.specs.Rounds.{AreToldUntil, AreEntriesOf, done_until, HasDoneRounds}
 use Rattle.session_run.proofs.Placed.{placed_all}
 use Rattle.session_run.proofs.Replayed.{in_turn}
 use Rattle.session_run.proofs.Rounds.{done_before, none_some, take_all}
@@ -63,13 +63,13 @@ module _ (mission : Mission) (journal : Entries) where
 -- ---- together
 
 pub serial_is : (judged : JudgedSession) (bound : ℕ) → one_by_one (session_meanings judged bound) (opening_of judged.session)
-    (turns (longest (all_commands judged.session.clients)) 0 (all_commands judged.session.clients)) ≡ serial_journal judged bound
+    (in_rounds (longest (all_commands judged.session.clients)) 0 (all_commands judged.session.clients)) ≡ serial_journal judged bound
 unfolding serial
 serial_is judged bound = refl
 
-module _ (judged : JudgedSession) (bound : ℕ) (counted : Rattle.std.specs.Prelude.Bool) (few : CommandsHaveFewParts) where
+module _ (judged : JudgedSession) (bound : ℕ) (stats : Rattle.std.specs.Prelude.Bool) (few : CommandsHaveFewParts) where
   abbrev mission : Mission
-  mission = mission_of judged bound counted
+  mission = mission_of judged bound stats
 
   abbrev clients : List Client
   clients = judged.session.clients
@@ -85,18 +85,18 @@ module _ (judged : JudgedSession) (bound : ℕ) (counted : Rattle.std.specs.Prel
       (subst (λ (l : List Command). IsWorkTold mission (client_numbered which client) 0 l (filter (is_of_client which) journal) text) all (told.each which client text at there))
 
   pub finished : (first pass : PassView) (journal : Entries) (texts : List (List ℕ)) (text : List ℕ) → first.mine ≡ [] → first.seen ≡ [] →
-      HasTurned mission clients first pass texts → StandIn pass.mine journal → HaveAllOf pass.mine journal → IsReplay (opening_of judged.session) journal →
-      text ≡ line_of (journal_data journal) ++ joined_texts texts → IsPerformedInTurn judged bound counted text
-  finished first pass journal texts text none unseen turned right all replayed whole =
-      let mine : pass.mine ≡ turned.gained = turned.gains.mine ∙ ap (λ (l : Places). l ++ turned.gained) none in
-      let rises = subst (λ (l : Entries). Rattle.hangar_lock.specs.Works.RisesTo (length l) (length pass.seen) turned.gained) unseen turned.gains.rises in
-      let entries : own_entries turned.gained ≡ journal =
-      placed_all (length pass.seen) turned.gained journal rises (subst (λ (l : Places). StandIn l journal) mine right) (subst (λ (l : Places). HaveAllOf l journal) mine all) in
-      let turns_are : AreTurns (session_meanings judged bound) (turns rounds 0 (all_commands clients)) journal =
-      subst (AreTurns (session_meanings judged bound) (turns rounds 0 (all_commands clients))) entries
-      (subst (λ (l : List ClientTurn). AreTurns (session_meanings judged bound) l (own_entries turned.gained)) (append-nil (turns rounds 0 (all_commands clients))) turned.turned) in
-      let serial_one : journal ≡ serial_journal judged bound = in_turn (session_meanings judged bound) few (turns rounds 0 (all_commands clients)) (opening_of judged.session) journal turns_are replayed ∙ serial_is judged bound in
-      let told : AreToldUntil mission clients rounds 0 journal texts = subst (λ (l : Entries). AreToldUntil mission clients rounds 0 l texts) entries turned.told in
+      HasDoneRounds mission clients first pass texts → StandIn pass.mine journal → HaveAllOf pass.mine journal → IsReplay (opening_of judged.session) journal →
+      text ≡ line_of (journal_data journal) ++ joined_texts texts → IsPerformedInTurn judged bound stats text
+  finished first pass journal texts text none unseen done right all replayed whole =
+      let mine : pass.mine ≡ done.gained = done.gains.mine ∙ ap (λ (l : Places). l ++ done.gained) none in
+      let rises = subst (λ (l : Entries). Rattle.hangar_lock.specs.ClientEntries.RisesTo (length l) (length pass.seen) done.gained) unseen done.gains.rises in
+      let entries : own_entries done.gained ≡ journal =
+      placed_all (length pass.seen) done.gained journal rises (subst (λ (l : Places). StandIn l journal) mine right) (subst (λ (l : Places). HaveAllOf l journal) mine all) in
+      let entries_are : AreEntriesOf (session_meanings judged bound) (in_rounds rounds 0 (all_commands clients)) journal =
+      subst (AreEntriesOf (session_meanings judged bound) (in_rounds rounds 0 (all_commands clients))) entries
+      (subst (λ (l : List NumberedCommand). AreEntriesOf (session_meanings judged bound) l (own_entries done.gained)) (append-nil (in_rounds rounds 0 (all_commands clients))) done.done) in
+      let serial_one : journal ≡ serial_journal judged bound = in_turn (session_meanings judged bound) few (in_rounds rounds 0 (all_commands clients)) (opening_of judged.session) journal entries_are replayed ∙ serial_is judged bound in
+      let told : AreToldUntil mission clients rounds 0 journal texts = subst (λ (l : Entries). AreToldUntil mission clients rounds 0 l texts) entries done.told in
       let all_texts = joined mission journal 0 clients texts told.count (told_whole journal texts told) in
       record {
         counts = all_texts.0;

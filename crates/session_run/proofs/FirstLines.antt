@@ -6,8 +6,8 @@ use Rattle.std.proofs.lemmas.Fmt.{decimal_injective}
 use Rattle.std.proofs.lemmas.List.{length-map}
 use Rattle.serde_json.specs.View.{items_of}
 use Rattle.serde_json.specs.Written.{compact_text, items_text}
-use Rattle.aerie_text.specs.Json.{line_of}
-use Rattle.hangar_core.specs.declared.commands.Command.{Command}
+use Rattle.json_line.specs.Json.{line_of}
+use Rattle.commands.specs.declared.commands.Command.{Command}
 use Rattle.hangar_core.specs.declared.entries.Entry.{Entry}
 use Rattle.hangar_core.specs.declared.replies.Reply.{Reply}
 use Rattle.hangar_core.specs.Fits.{IsCommand, IsWorkOf, Meanings, commands_of, is_of_client, triple_of}
@@ -244,10 +244,10 @@ module _ (few : CommandsHaveFewParts) (tell : TriplesTellAll) (judged : JudgedSe
       (entries_same journal another (10 ∷ []) (10 ∷ []) (fitting_small journal fits) (fitting_small another other_fits) cc)
 
 pub journals_told : CommandsHaveFewParts → TriplesTellAll → FirstLinesTellJournals
-journals_told few tell judged bound counted recounted text other one two few_clients e =
+journals_told few tell judged bound stats other_stats text other one two few_clients e =
     same_journal few tell judged bound few_clients one.journal two.journal
-    (clients_text (mission_of judged bound counted) one.counts one.journal 0 judged.session.clients)
-    (clients_text (mission_of judged bound recounted) two.counts two.journal 0 judged.session.clients)
+    (clients_text (mission_of judged bound stats) one.counts one.journal 0 judged.session.clients)
+    (clients_text (mission_of judged bound other_stats) two.counts two.journal 0 judged.session.clients)
     one.fits two.fits (ap first_line (sym one.told) ∙ e ∙ ap first_line two.told)
 
 -- what is told without counts is the same whatever was counted

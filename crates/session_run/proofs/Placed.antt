@@ -4,7 +4,7 @@ use Rattle.std.proofs.lemmas.List.{append-nil}
 use Rattle.std.proofs.lemmas.Option.{slice_get_within}
 use Rattle.hangar_core.specs.Journals.{Entries}
 use Rattle.hangar_lock.specs.Places.{HasPlace, HaveAllOf, Places, StandIn, ToldEntry}
-use Rattle.hangar_lock.specs.Works.{own_entry, RisesTo}
+use Rattle.hangar_lock.specs.ClientEntries.{own_entry, RisesTo}
 
 seam : (front : Entries) (told : ToldEntry) (rest : Entries) → slice_get (front ++ (told ∷ rest)) (length front) ≡ Some told
 seam [] told rest = refl

@@ -4,8 +4,8 @@ use Rattle.std.specs.List.{AllByRecursion, list_all}
 use Rattle.aerie_base.specs.declared.plans.Plan.{Plan}
 use Rattle.constraints.specs.OfModel.{is_constraint}
 use Rattle.goals.specs.declared.status.GoalStatus.{GoalStatus}
-use Rattle.hangar_core.specs.declared.commands.Command.{Command}
-use Rattle.hangar_core.specs.declared.commands.Command.TheVariants.{New, Fork, Drop, Add, Remove, Move, Set, Load, Migrate, Show, Simulate, Schedule, Merge, Expand}
+use Rattle.commands.specs.declared.commands.Command.{Command}
+use Rattle.commands.specs.declared.commands.Command.TheVariants.{New, Fork, Drop, Edit, Migrate, Show, Simulate, Schedule, Merge, Expand}
 use Rattle.hangar_core.specs.declared.replies.Reply.{Reply}
 use Rattle.hangar_core.specs.declared.replies.Reply.TheVariants as reply
 use Rattle.plan_merge.specs.declared.answers.Merged.{Merged}
@@ -102,11 +102,7 @@ pub told_has : (mission : Mission) → AllByRecursion IsRuled mission.models →
 told_has mission ruled count (New branch) replies = tt
 told_has mission ruled count (Fork branch source) replies = tt
 told_has mission ruled count (Drop branch) replies = tt
-told_has mission ruled count (Add branch time kind arguments) replies = tt
-told_has mission ruled count (Remove branch id) replies = tt
-told_has mission ruled count (Move branch id time) replies = tt
-told_has mission ruled count (Set branch id parameter value) replies = tt
-told_has mission ruled count (Load branch text) replies = tt
+told_has mission ruled count (Edit branch edit) replies = tt
 told_has mission ruled count (Migrate branch model) replies = tt
 told_has mission ruled count (Show branch) replies = tt
 told_has mission ruled count (Simulate branch) replies =
@@ -129,7 +125,7 @@ told_has mission ruled count (Expand branch) replies =
     fetched_has (reply_to replies 0) (λ revision plan. sequence_told mission revision plan) (λ revision plan. tt)
 
 -- where statements are not told, no count is
-pub none_told : (mission : Mission) (statements : ℕ) → mission.counts ≡ false → count_told mission statements ≡ None
+pub none_told : (mission : Mission) (statements : ℕ) → mission.stats ≡ false → count_told mission statements ≡ None
 none_told mission statements uncounted = rw uncounted refl
 
 pub counted_if : {A E : Type 0} (result : Result A E) (P Q : Type 0) → (P → Q) → OnOk result P → IfOk result (λ _. Q)

@@ -1,4 +1,4 @@
--- Turn by turn, and round by round.
+-- Command by command, and round by round.
 use Rattle.std.proofs.Common.{String, Global, ◌≡◌, ℕ, zero, suc, ◌+◌, ◌<◌, ◌≤◌, ◌⊎◌, inl, inr, ◌≢◌, true, false, List, [], ◌∷◌, ◌++◌, length, map, max, take, drop, Some, None, refl, sym, ap, ◌∙◌, subst, nat_eq, nat_le, arith, append_assoc, get_or, slice_get, slice_set}
 use Rattle.std.specs.List.{filter}
 use Rattle.std.specs.String.{string_bytes}
@@ -7,22 +7,22 @@ use Rattle.std.proofs.lemmas.List.Elements.{filter-append}
 use Rattle.std.proofs.lemmas.Bool.{eq-eqb, le-ltb, lt-ltb}
 use Rattle.std.proofs.lemmas.Bool.Decides.{eqb_tells, leb_tells}
 use Rattle.std.proofs.lemmas.Option.{slice_get-get_or, slice_get_within}
-use Rattle.hangar_core.specs.declared.commands.Command.{Command}
+use Rattle.commands.specs.declared.commands.Command.{Command}
 use Rattle.hangar_core.specs.declared.entries.Entry.{Entry}
 use Rattle.hangar_core.specs.declared.replies.Reply.{Reply}
 use Rattle.hangar_core.specs.Fits.{is_of_client, IsCommand, Meanings}
 use Rattle.hangar_core.specs.Journals.{Entries}
-use Rattle.hangar_core.specs.Serial.{ClientTurn, heads, later_commands, longest, turns}
+use Rattle.hangar_core.specs.Serial.{NumberedCommand, heads, later_commands, longest, in_rounds}
 use Rattle.hangar_lock.specs.Passes.{LockView, PassView}
 use Rattle.hangar_lock.specs.Places.{Places}
-use Rattle.hangar_lock.specs.Works.{own_entry, RisesTo}
+use Rattle.hangar_lock.specs.ClientEntries.{own_entry, RisesTo}
 use Rattle.session_reader.specs.declared.session.Client.{Client}
 use Rattle.client_work.specs.declared.missions.Mission.{Mission}
 use Rattle.client_work.specs.Meanings.{meanings_of}
 use Rattle.client_work.specs.Working.{own_entries, HasGained, IsAtWork, IsWorkTold}
 use Rattle.session_run.specs.Missions.{all_commands}
 use Rattle.session_run.specs.Texts.{client_numbered}
-use Rattle.session_run.specs.Turning.{AreToldUntil, AreTurns, commands_behind, done_until, HasTurnedUntil, TakesRound, TakesTurn, texts_without, turns_until}
+use Rattle.session_run.specs.Rounds.{AreToldUntil, AreEntriesOf, commands_behind, done_until, HasDoneUntil, TakesRound, TakesCommand, texts_without, in_rounds_until}
 use Rattle.session_run.proofs.Telling.{line_told, one_more}
 
 -- ---- lists
@@ -95,7 +95,7 @@ pushed_text texts text count are empty =
     ∙ one_without count
     ∙ ap texts_without next
 
--- ---- whose turn it is
+-- ---- whose command it is
 
 heads_taken : (number base which : ℕ) (xs : List (List Command)) (command : Command) (rest : List Command) → slice_get xs which ≡ Some (command ∷ rest) →
     heads number base (take (suc which) xs) ≡ heads number base (take which xs) ++ (record { client = base + which; number = number; command = command } ∷ [])
@@ -107,7 +107,7 @@ heads_taken number base (suc which) ([] ∷ xs) command rest e =
     heads_taken number (base + 1) which xs command rest e
     ∙ ap (λ (n : ℕ). heads number (base + 1) (take which xs) ++ (record { client = n; number = number; command = command } ∷ [])) (omega arith)
 heads_taken number base (suc which) ((first ∷ more) ∷ xs) command rest e =
-    ap (λ (l : List ClientTurn). record { client = base; number = number; command = first } ∷ l)
+    ap (λ (l : List NumberedCommand). record { client = base; number = number; command = first } ∷ l)
     (heads_taken number (base + 1) which xs command rest e
     ∙ ap (λ (n : ℕ). heads number (base + 1) (take which xs) ++ (record { client = n; number = number; command = command } ∷ [])) (omega arith))
 
@@ -116,7 +116,7 @@ heads_skipped number base which [] e = absurd (none_some {A = List Command} [] e
 heads_skipped number base zero (x ∷ xs) e = ap (λ (l : List Command). heads number base (l ∷ [])) (same_some {A = List Command} x [] e)
 heads_skipped number base (suc which) ([] ∷ xs) e = heads_skipped number (base + 1) which xs e
 heads_skipped number base (suc which) ((first ∷ more) ∷ xs) e =
-    ap (λ (l : List ClientTurn). record { client = base; number = number; command = first } ∷ l) (heads_skipped number (base + 1) which xs e)
+    ap (λ (l : List NumberedCommand). record { client = base; number = number; command = first } ∷ l) (heads_skipped number (base + 1) which xs e)
 
 later_behind : (rounds : ℕ) (xs : List (List Command)) → commands_behind rounds (map later_commands xs) ≡ commands_behind (suc rounds) xs
 later_behind rounds [] = refl
@@ -130,25 +130,25 @@ none_behind : (xs : List (List Command)) → commands_behind 0 xs ≡ xs
 none_behind [] = refl
 none_behind (x ∷ xs) = ap (λ (l : List (List Command)). x ∷ l) (none_behind xs)
 
-turns_more : (rounds number : ℕ) (xs : List (List Command)) → turns (suc rounds) number xs ≡ turns rounds number xs ++ heads (number + rounds) 0 (commands_behind rounds xs)
-turns_more zero number xs =
+in_rounds_more : (rounds number : ℕ) (xs : List (List Command)) → in_rounds (suc rounds) number xs ≡ in_rounds rounds number xs ++ heads (number + rounds) 0 (commands_behind rounds xs)
+in_rounds_more zero number xs =
     append-nil (heads number 0 xs)
     ∙ ap (λ (l : List (List Command)). heads number 0 l) (sym (none_behind xs))
     ∙ ap (λ (n : ℕ). heads n 0 (commands_behind 0 xs)) (omega arith)
-turns_more (suc rounds) number xs =
-    ap (λ (l : List ClientTurn). heads number 0 xs ++ l)
-    (turns_more rounds (number + 1) (map later_commands xs)
-    ∙ ap (λ (n : ℕ). turns rounds (number + 1) (map later_commands xs) ++ heads n 0 (commands_behind rounds (map later_commands xs))) (omega arith)
-    ∙ ap (λ (l : List (List Command)). turns rounds (number + 1) (map later_commands xs) ++ heads (number + suc rounds) 0 l) (later_behind rounds xs))
-    ∙ sym (append_assoc (heads number 0 xs) (turns rounds (number + 1) (map later_commands xs)) (heads (number + suc rounds) 0 (commands_behind (suc rounds) xs)))
+in_rounds_more (suc rounds) number xs =
+    ap (λ (l : List NumberedCommand). heads number 0 xs ++ l)
+    (in_rounds_more rounds (number + 1) (map later_commands xs)
+    ∙ ap (λ (n : ℕ). in_rounds rounds (number + 1) (map later_commands xs) ++ heads n 0 (commands_behind rounds (map later_commands xs))) (omega arith)
+    ∙ ap (λ (l : List (List Command)). in_rounds rounds (number + 1) (map later_commands xs) ++ heads (number + suc rounds) 0 l) (later_behind rounds xs))
+    ∙ sym (append_assoc (heads number 0 xs) (in_rounds rounds (number + 1) (map later_commands xs)) (heads (number + suc rounds) 0 (commands_behind (suc rounds) xs)))
 
--- ---- entries of turns
+-- ---- entries of commands
 
-turn_more : (meanings : Meanings) (turn : ClientTurn) (own : Entries) → IsCommand meanings turn.client turn.number turn.command [] own →
-    (earlier : List ClientTurn) (entries : Entries) → AreTurns meanings earlier entries → AreTurns meanings (earlier ++ (turn ∷ [])) (entries ++ own)
-turn_more meanings turn own done [] entries are = (own, [], ap (λ (l : Entries). l ++ own) are ∙ sym (append-nil own), done, refl)
-turn_more meanings turn own done (first ∷ earlier) entries are =
-    (are.0, are.1 ++ own, ap (λ (l : Entries). l ++ own) are.2 ∙ append_assoc are.0 are.1 own, are.3, turn_more meanings turn own done earlier are.1 are.4)
+command_more : (meanings : Meanings) (numbered : NumberedCommand) (own : Entries) → IsCommand meanings numbered.client numbered.number numbered.command [] own →
+    (earlier : List NumberedCommand) (entries : Entries) → AreEntriesOf meanings earlier entries → AreEntriesOf meanings (earlier ++ (numbered ∷ [])) (entries ++ own)
+command_more meanings numbered own done [] entries are = (own, [], ap (λ (l : Entries). l ++ own) are ∙ sym (append-nil own), done, refl)
+command_more meanings numbered own done (first ∷ earlier) entries are =
+    (are.0, are.1 ++ own, ap (λ (l : Entries). l ++ own) are.2 ∙ append_assoc are.0 are.1 own, are.3, command_more meanings numbered own done earlier are.1 are.4)
 
 -- ---- what a pass gains
 
@@ -236,7 +236,7 @@ done_alike number client which differ = decide (leb_tells client which)
         done_before number (suc client) which (omega (arith, a, differ)) ∙ sym (done_before number client which a)
     decide (inr k) = let a = k.1 in done_after number (suc client) which (omega (arith, a)) ∙ sym (done_after number client which a)
 
--- ---- a turn
+-- ---- a command
 
 abbrev Told : Mission → Places → ℕ → Client → ℕ → List ℕ → Type 0
 Told mission gained which client done text = IsWorkTold mission (client_numbered which client) 0 (take done client.commands) (filter (is_of_client which) (own_entries gained)) text
@@ -255,56 +255,56 @@ module _ (mission : Mission) (clients : List Client) (number which : ℕ) (clien
   same_client x there = same_some client x (sym at ∙ there)
 
   module _ (command : Command) (has : slice_get client.commands number ≡ Some command) where
-    pub turns_taken : turns_until number (suc which) (all_commands clients) ≡
-        turns_until number which (all_commands clients) ++ (record { client = which; number = number; command = command } ∷ [])
-    turns_taken =
-        ap (λ (l : List ClientTurn). turns number 0 (all_commands clients) ++ l)
+    pub in_rounds_taken : in_rounds_until number (suc which) (all_commands clients) ≡
+        in_rounds_until number which (all_commands clients) ++ (record { client = which; number = number; command = command } ∷ [])
+    in_rounds_taken =
+        ap (λ (l : List NumberedCommand). in_rounds number 0 (all_commands clients) ++ l)
         (heads_taken number 0 which behind command (drop (suc number) client.commands) (behind_at ∙ ap Some (drop_at client.commands number command has))
         ∙ ap (λ (n : ℕ). heads number 0 (take which behind) ++ (record { client = n; number = number; command = command } ∷ [])) (omega arith))
-        ∙ sym (append_assoc (turns number 0 (all_commands clients)) (heads number 0 (take which behind)) (record { client = which; number = number; command = command } ∷ []))
+        ∙ sym (append_assoc (in_rounds number 0 (all_commands clients)) (heads number 0 (take which behind)) (record { client = which; number = number; command = command } ∷ []))
 
     module _ (before after : PassView) (texts : List (List ℕ)) (text_before text_after : List ℕ) (there : HasText texts which text_before)
-        (turn : TakesTurn mission which client number command before after text_before text_after) (earlier : Places) where
+        (numbered : TakesCommand mission which client number command before after text_before text_after) (earlier : Places) where
       abbrev later_texts : List (List ℕ)
       later_texts = with_text which text_after texts
 
       abbrev line : List ℕ
-      line = line_told mission (client_numbered which client) number command turn.statements (own_entries turn.gained)
+      line = line_told mission (client_numbered which client) number command numbered.statements (own_entries numbered.gained)
 
       told_here : (told : AreToldUntil mission clients number which (own_entries earlier) texts) (text : List ℕ) → HasText later_texts which text →
-          IsWorkTold mission (client_numbered which client) 0 (take (done_until number (suc which) which) client.commands) (filter (is_of_client which) (own_entries earlier ++ own_entries turn.gained)) text
+          IsWorkTold mission (client_numbered which client) 0 (take (done_until number (suc which) which) client.commands) (filter (is_of_client which) (own_entries earlier ++ own_entries numbered.gained)) text
       told_here told text now =
-          let is : text ≡ text_before ++ line = with_here which text_after texts text now ∙ turn.told in
+          let is : text ≡ text_before ++ line = with_here which text_after texts text now ∙ numbered.told in
           let was = told.each which client text_before at there in
           let was_taken : take (done_until number which which) client.commands ≡ take number client.commands =
           ap (λ (n : ℕ). take n client.commands) (done_before number which which (omega arith)) in
           let next : suc number ≡ number + 1 = omega arith in
           let is_taken : take number client.commands ++ (command ∷ []) ≡ take (done_until number (suc which) which) client.commands =
           sym (take_at client.commands number command has) ∙ ap (λ (n : ℕ). take n client.commands) (next ∙ sym (done_after number (suc which) which (omega arith))) in
-          let more = one_more mission (client_numbered which client) command (own_entries turn.gained) turn.statements 0 number (take number client.commands)
+          let more = one_more mission (client_numbered which client) command (own_entries numbered.gained) numbered.statements 0 number (take number client.commands)
           (filter (is_of_client which) (own_entries earlier)) text_before (let k = take_length client.commands number command has in omega (arith, k))
-          (subst (λ (l : List Command). IsWorkTold mission (client_numbered which client) 0 l (filter (is_of_client which) (own_entries earlier)) text_before) was_taken was) turn.parts in
-          let own : filter (is_of_client which) (own_entries earlier) ++ own_entries turn.gained ≡ filter (is_of_client which) (own_entries earlier ++ own_entries turn.gained) =
-          ap (λ (l : Entries). filter (is_of_client which) (own_entries earlier) ++ l) (sym (all_by meanings which number command [] (own_entries turn.gained) turn.parts))
-          ∙ sym (filter-append (is_of_client which) (own_entries earlier) (own_entries turn.gained)) in
-          subst (λ (l : List Command). IsWorkTold mission (client_numbered which client) 0 l (filter (is_of_client which) (own_entries earlier ++ own_entries turn.gained)) text) is_taken
+          (subst (λ (l : List Command). IsWorkTold mission (client_numbered which client) 0 l (filter (is_of_client which) (own_entries earlier)) text_before) was_taken was) numbered.parts in
+          let own : filter (is_of_client which) (own_entries earlier) ++ own_entries numbered.gained ≡ filter (is_of_client which) (own_entries earlier ++ own_entries numbered.gained) =
+          ap (λ (l : Entries). filter (is_of_client which) (own_entries earlier) ++ l) (sym (all_by meanings which number command [] (own_entries numbered.gained) numbered.parts))
+          ∙ sym (filter-append (is_of_client which) (own_entries earlier) (own_entries numbered.gained)) in
+          subst (λ (l : List Command). IsWorkTold mission (client_numbered which client) 0 l (filter (is_of_client which) (own_entries earlier ++ own_entries numbered.gained)) text) is_taken
           (subst (λ (l : Entries). IsWorkTold mission (client_numbered which client) 0 (take number client.commands ++ (command ∷ [])) l text) own
           (subst (λ (l : List ℕ). IsWorkTold mission (client_numbered which client) 0 (take number client.commands ++ (command ∷ []))
-          (filter (is_of_client which) (own_entries earlier) ++ own_entries turn.gained) l) (sym is) more))
+          (filter (is_of_client which) (own_entries earlier) ++ own_entries numbered.gained) l) (sym is) more))
 
       told_there : (told : AreToldUntil mission clients number which (own_entries earlier) texts) (other : ℕ) (x : Client) (text : List ℕ) → other ≢ which → slice_get clients other ≡ Some x →
           HasText later_texts other text →
-          IsWorkTold mission (client_numbered other x) 0 (take (done_until number (suc which) other) x.commands) (filter (is_of_client other) (own_entries earlier ++ own_entries turn.gained)) text
+          IsWorkTold mission (client_numbered other x) 0 (take (done_until number (suc which) other) x.commands) (filter (is_of_client other) (own_entries earlier ++ own_entries numbered.gained)) text
       told_there told other x text differ place now =
           let was = told.each other x text place (with_there which other text_after texts text differ now) in
-          let same : filter (is_of_client other) (own_entries earlier) ≡ filter (is_of_client other) (own_entries earlier ++ own_entries turn.gained) =
-          sym (filter-append (is_of_client other) (own_entries earlier) (own_entries turn.gained)
-          ∙ ap (λ (l : Entries). filter (is_of_client other) (own_entries earlier) ++ l) (none_by meanings which other number command [] (own_entries turn.gained) differ turn.parts)
+          let same : filter (is_of_client other) (own_entries earlier) ≡ filter (is_of_client other) (own_entries earlier ++ own_entries numbered.gained) =
+          sym (filter-append (is_of_client other) (own_entries earlier) (own_entries numbered.gained)
+          ∙ ap (λ (l : Entries). filter (is_of_client other) (own_entries earlier) ++ l) (none_by meanings which other number command [] (own_entries numbered.gained) differ numbered.parts)
           ∙ append-nil (filter (is_of_client other) (own_entries earlier))) in
           subst (λ (l : Entries). IsWorkTold mission (client_numbered other x) 0 (take (done_until number (suc which) other) x.commands) l text) same
           (subst (λ (n : ℕ). IsWorkTold mission (client_numbered other x) 0 (take n x.commands) (filter (is_of_client other) (own_entries earlier)) text) (sym (done_alike number which other differ)) was)
 
-      told_after : AreToldUntil mission clients number which (own_entries earlier) texts → AreToldUntil mission clients number (suc which) (own_entries earlier ++ own_entries turn.gained) later_texts
+      told_after : AreToldUntil mission clients number which (own_entries earlier) texts → AreToldUntil mission clients number (suc which) (own_entries earlier ++ own_entries numbered.gained) later_texts
       told_after told = record {
         count = with_length which text_after texts ∙ told.count;
         each = λ other x text place there. decide (eqb_tells other which) x text place there;
@@ -312,41 +312,41 @@ module _ (mission : Mission) (clients : List Client) (number which : ℕ) (clien
         where
           decide : {other : ℕ} → ((nat_eq other which ≡ true) × (other ≡ which)) ⊎ ((nat_eq other which ≡ false) × (other ≢ which)) → (x : Client) (text : List ℕ) →
               slice_get clients other ≡ Some x → HasText later_texts other text →
-              IsWorkTold mission (client_numbered other x) 0 (take (done_until number (suc which) other) x.commands) (filter (is_of_client other) (own_entries earlier ++ own_entries turn.gained)) text
+              IsWorkTold mission (client_numbered other x) 0 (take (done_until number (suc which) other) x.commands) (filter (is_of_client other) (own_entries earlier ++ own_entries numbered.gained)) text
           decide {other} (inl k) x text place there =
-              subst (λ (n : ℕ). IsWorkTold mission (client_numbered n x) 0 (take (done_until number (suc which) n) x.commands) (filter (is_of_client n) (own_entries earlier ++ own_entries turn.gained)) text) (sym k.1)
-              (subst (λ (z : Client). IsWorkTold mission (client_numbered which z) 0 (take (done_until number (suc which) which) z.commands) (filter (is_of_client which) (own_entries earlier ++ own_entries turn.gained)) text)
+              subst (λ (n : ℕ). IsWorkTold mission (client_numbered n x) 0 (take (done_until number (suc which) n) x.commands) (filter (is_of_client n) (own_entries earlier ++ own_entries numbered.gained)) text) (sym k.1)
+              (subst (λ (z : Client). IsWorkTold mission (client_numbered which z) 0 (take (done_until number (suc which) which) z.commands) (filter (is_of_client which) (own_entries earlier ++ own_entries numbered.gained)) text)
               (same_client x (ap (slice_get clients) (sym k.1) ∙ place))
               (told_here told text (ap (slice_get later_texts) (sym k.1) ∙ there)))
           decide {other} (inr k) x text place there = told_there told other x text k.1 place there
 
-    pub turn_taken : (first before after : PassView) (texts : List (List ℕ)) (text_before text_after : List ℕ) → HasText texts which text_before →
-        HasTurnedUntil mission clients number which first before texts → TakesTurn mission which client number command before after text_before text_after →
-        HasTurnedUntil mission clients number (suc which) first after (with_text which text_after texts)
-    turn_taken first before after texts text_before text_after there until turn =
-        let entries : own_entries (until.gained ++ turn.gained) ≡ own_entries until.gained ++ own_entries turn.gained = mapped_append own_entry until.gained turn.gained in
+    pub command_taken : (first before after : PassView) (texts : List (List ℕ)) (text_before text_after : List ℕ) → HasText texts which text_before →
+        HasDoneUntil mission clients number which first before texts → TakesCommand mission which client number command before after text_before text_after →
+        HasDoneUntil mission clients number (suc which) first after (with_text which text_after texts)
+    command_taken first before after texts text_before text_after there until numbered =
+        let entries : own_entries (until.gained ++ numbered.gained) ≡ own_entries until.gained ++ own_entries numbered.gained = mapped_append own_entry until.gained numbered.gained in
         record {
-          gained = until.gained ++ turn.gained;
-          gains = gained_both first before after until.gained turn.gained until.gains turn.gains;
-          turned =
-              subst (AreTurns meanings (turns_until number (suc which) (all_commands clients))) (sym entries)
-              (subst (λ (l : List ClientTurn). AreTurns meanings l (own_entries until.gained ++ own_entries turn.gained)) (sym turns_taken)
-              (turn_more meanings (record { client = which; number = number; command = command }) (own_entries turn.gained) turn.parts
-              (turns_until number which (all_commands clients)) (own_entries until.gained) until.turned));
+          gained = until.gained ++ numbered.gained;
+          gains = gained_both first before after until.gained numbered.gained until.gains numbered.gains;
+          done =
+              subst (AreEntriesOf meanings (in_rounds_until number (suc which) (all_commands clients))) (sym entries)
+              (subst (λ (l : List NumberedCommand). AreEntriesOf meanings l (own_entries until.gained ++ own_entries numbered.gained)) (sym in_rounds_taken)
+              (command_more meanings (record { client = which; number = number; command = command }) (own_entries numbered.gained) numbered.parts
+              (in_rounds_until number which (all_commands clients)) (own_entries until.gained) until.done));
           told = subst (λ (l : Entries). AreToldUntil mission clients number (suc which) l (with_text which text_after texts)) (sym entries)
-              (told_after before after texts text_before text_after there turn until.gained until.told);
+              (told_after before after texts text_before text_after there numbered until.gained until.told);
         }
 
   -- a client without such a command
-  pub turns_skipped : length client.commands ≤ number → turns_until number (suc which) (all_commands clients) ≡ turns_until number which (all_commands clients)
-  turns_skipped less = ap (λ (l : List ClientTurn). turns number 0 (all_commands clients) ++ l) (heads_skipped number 0 which behind (behind_at ∙ ap Some (drop_all client.commands number less)))
+  pub in_rounds_skipped : length client.commands ≤ number → in_rounds_until number (suc which) (all_commands clients) ≡ in_rounds_until number which (all_commands clients)
+  in_rounds_skipped less = ap (λ (l : List NumberedCommand). in_rounds number 0 (all_commands clients) ++ l) (heads_skipped number 0 which behind (behind_at ∙ ap Some (drop_all client.commands number less)))
 
-  pub turn_skipped : length client.commands ≤ number → (first after : PassView) (texts : List (List ℕ)) → HasTurnedUntil mission clients number which first after texts →
-      HasTurnedUntil mission clients number (suc which) first after texts
-  turn_skipped less first after texts until = record {
+  pub command_skipped : length client.commands ≤ number → (first after : PassView) (texts : List (List ℕ)) → HasDoneUntil mission clients number which first after texts →
+      HasDoneUntil mission clients number (suc which) first after texts
+  command_skipped less first after texts until = record {
     gained = until.gained;
     gains = until.gains;
-    turned = subst (λ (l : List ClientTurn). AreTurns meanings l (own_entries until.gained)) (sym (turns_skipped less)) until.turned;
+    done = subst (λ (l : List NumberedCommand). AreEntriesOf meanings l (own_entries until.gained)) (sym (in_rounds_skipped less)) until.done;
     told = record { count = until.told.count; each = each };
   }
     where
@@ -371,27 +371,27 @@ module _ (mission : Mission) (clients : List Client) (number which : ℕ) (clien
 
 -- ---- a round
 
--- all turns of a round are those before the next one
-pub round_turns : (clients : List Client) (number : ℕ) → turns_until number (length clients) (all_commands clients) ≡ turns_until (number + 1) 0 (all_commands clients)
-round_turns clients number =
-    ap (λ (l : List (List Command)). turns number 0 (all_commands clients) ++ heads number 0 l)
+-- all commands of a round are those before the next one
+pub round_in_rounds : (clients : List Client) (number : ℕ) → in_rounds_until number (length clients) (all_commands clients) ≡ in_rounds_until (number + 1) 0 (all_commands clients)
+round_in_rounds clients number =
+    ap (λ (l : List (List Command)). in_rounds number 0 (all_commands clients) ++ heads number 0 l)
     (take_all (commands_behind number (all_commands clients)) (length clients) (let k = behind_length in omega (arith, k)))
-    ∙ ap (λ (n : ℕ). turns number 0 (all_commands clients) ++ heads n 0 (commands_behind number (all_commands clients))) {x = number} {y = 0 + number} (omega arith)
-    ∙ sym (turns_more number 0 (all_commands clients))
-    ∙ ap (λ (n : ℕ). turns n 0 (all_commands clients)) {x = suc number} {y = number + 1} (omega arith)
-    ∙ sym (append-nil (turns (number + 1) 0 (all_commands clients)))
+    ∙ ap (λ (n : ℕ). in_rounds number 0 (all_commands clients) ++ heads n 0 (commands_behind number (all_commands clients))) {x = number} {y = 0 + number} (omega arith)
+    ∙ sym (in_rounds_more number 0 (all_commands clients))
+    ∙ ap (λ (n : ℕ). in_rounds n 0 (all_commands clients)) {x = suc number} {y = number + 1} (omega arith)
+    ∙ sym (append-nil (in_rounds (number + 1) 0 (all_commands clients)))
   where
     behind_length : length (commands_behind number (all_commands clients)) ≡ length clients
     behind_length = mapped_length (drop number) (all_commands clients) ∙ mapped_length (λ (x : Client). x.commands) clients
 
 module _ (mission : Mission) (clients : List Client) where
   -- a round is over behind the last client
-  pub round_done : (number : ℕ) (first after : PassView) (texts : List (List ℕ)) → HasTurnedUntil mission clients number (length clients) first after texts →
-      HasTurnedUntil mission clients (number + 1) 0 first after texts
+  pub round_done : (number : ℕ) (first after : PassView) (texts : List (List ℕ)) → HasDoneUntil mission clients number (length clients) first after texts →
+      HasDoneUntil mission clients (number + 1) 0 first after texts
   round_done number first after texts until = record {
     gained = until.gained;
     gains = until.gains;
-    turned = subst (λ (l : List ClientTurn). AreTurns (meanings_of mission.models mission.bound) l (own_entries until.gained)) (round_turns clients number) until.turned;
+    done = subst (λ (l : List NumberedCommand). AreEntriesOf (meanings_of mission.models mission.bound) l (own_entries until.gained)) (round_in_rounds clients number) until.done;
     told = record {
       count = until.told.count;
       each = λ which x text place there.
@@ -411,11 +411,11 @@ module _ (mission : Mission) (clients : List Client) where
   replicated (suc count) = ap suc (replicated count)
 
   -- nothing is done at first
-  pub begun : (first : PassView) → HasTurnedUntil mission clients 0 0 first first (texts_without (length clients))
+  pub begun : (first : PassView) → HasDoneUntil mission clients 0 0 first first (texts_without (length clients))
   begun first = record {
     gained = [];
     gains = record { mine = sym (append-nil first.mine); rises = omega arith; lock = refl; stands = refl; split = refl };
-    turned = refl;
+    done = refl;
     told = record {
       count = replicated (length clients);
       each = λ which x text place there.
@@ -426,12 +426,12 @@ module _ (mission : Mission) (clients : List Client) where
 
 -- ---- a round that goes on
 
--- in a round with a number, so many clients had their turn
+-- in a round with a number, so many clients had their command done
 pub record IsInRound (mission : Mission) (lock : LockView) (clients : List Client) (number which : ℕ) (before now : PassView) (texts_before texts_now : List (List ℕ)) : Type 0 where
   pub at : IsAtWork mission lock now
   pub own : before.lock ≡ lock
   pub many : length texts_now ≡ length clients
-  pub goes_on : (first : PassView) → HasTurnedUntil mission clients number 0 first before texts_before → HasTurnedUntil mission clients number which first now texts_now
+  pub goes_on : (first : PassView) → HasDoneUntil mission clients number 0 first before texts_before → HasDoneUntil mission clients number which first now texts_now
 
 pub round_begun : (mission : Mission) (lock : LockView) (clients : List Client) (number : ℕ) (pass : PassView) (texts : List (List ℕ)) → IsAtWork mission lock pass → length texts ≡ length clients →
     IsInRound mission lock clients number 0 pass pass texts texts
@@ -442,16 +442,16 @@ still_at mission lock before after gained at gains = record { own = gains.lock �
 
 pub round_taken : (mission : Mission) (lock : LockView) (clients : List Client) (number which : ℕ) (before now after : PassView) (texts_before texts_now : List (List ℕ))
     (client : Client) (command : Command) (text_before text_after : List ℕ) → slice_get clients which ≡ Some client → slice_get client.commands number ≡ Some command →
-    HasText texts_now which text_before → TakesTurn mission which client number command now after text_before text_after →
+    HasText texts_now which text_before → TakesCommand mission which client number command now after text_before text_after →
     IsInRound mission lock clients number which before now texts_before texts_now → IsInRound mission lock clients number (which + 1) before after texts_before (with_text which text_after texts_now)
-round_taken mission lock clients number which before now after texts_before texts_now client command text_before text_after place has there turn round =
+round_taken mission lock clients number which before now after texts_before texts_now client command text_before text_after place has there numbered round =
     let next : suc which ≡ which + 1 = omega arith in
     record {
-      at = still_at mission lock now after turn.gained round.at turn.gains;
+      at = still_at mission lock now after numbered.gained round.at numbered.gains;
       own = round.own;
       many = with_length which text_after texts_now ∙ round.many;
-      goes_on = λ first until. subst (λ (n : ℕ). HasTurnedUntil mission clients number n first after (with_text which text_after texts_now)) next
-          (turn_taken mission clients number which client place command has first now after texts_now text_before text_after there (round.goes_on first until) turn);
+      goes_on = λ first until. subst (λ (n : ℕ). HasDoneUntil mission clients number n first after (with_text which text_after texts_now)) next
+          (command_taken mission clients number which client place command has first now after texts_now text_before text_after there (round.goes_on first until) numbered);
     }
 
 pub round_skipped : (mission : Mission) (lock : LockView) (clients : List Client) (number which : ℕ) (before now : PassView) (texts_before texts_now : List (List ℕ)) (client : Client) →
@@ -463,8 +463,8 @@ round_skipped mission lock clients number which before now texts_before texts_no
       at = round.at;
       own = round.own;
       many = round.many;
-      goes_on = λ first until. subst (λ (n : ℕ). HasTurnedUntil mission clients number n first now texts_now) next
-          (turn_skipped mission clients number which client place less first now texts_now (round.goes_on first until));
+      goes_on = λ first until. subst (λ (n : ℕ). HasDoneUntil mission clients number n first now texts_now) next
+          (command_skipped mission clients number which client place less first now texts_now (round.goes_on first until));
     }
 
 pub round_over : (mission : Mission) (lock : LockView) (clients : List Client) (number which : ℕ) (before now : PassView) (texts_before texts_now : List (List ℕ)) →
@@ -474,7 +474,7 @@ round_over mission lock clients number which before now texts_before texts_now a
   lock = round.at.own ∙ sym round.own;
   count = round.many ∙ sym many;
   goes_on = λ first until. round_done mission clients number first now texts_now
-      (subst (λ (n : ℕ). HasTurnedUntil mission clients number n first now texts_now) all (round.goes_on first until));
+      (subst (λ (n : ℕ). HasDoneUntil mission clients number n first now texts_now) all (round.goes_on first until));
 }
 
 -- one of the texts in memory is another one

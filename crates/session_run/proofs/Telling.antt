@@ -5,12 +5,12 @@ use Rattle.std.proofs.lemmas.List.{append-nil}
 use Rattle.std.proofs.lemmas.List.Elements.{filter-append}
 use Rattle.std.proofs.lemmas.Bool.{eq-eqb}
 use Rattle.std.proofs.lemmas.Bool.Decides.{eqb_tells}
-use Rattle.hangar_core.specs.declared.commands.Command.{Command}
+use Rattle.commands.specs.declared.commands.Command.{Command}
 use Rattle.hangar_core.specs.declared.entries.Entry.{Entry}
 use Rattle.hangar_core.specs.declared.replies.Reply.{Reply}
 use Rattle.hangar_core.specs.Fits.{IsCommand, Meanings}
 use Rattle.hangar_core.specs.Journals.{Entries}
-use Rattle.hangar_lock.specs.Works.{reply_of}
+use Rattle.hangar_lock.specs.ClientEntries.{reply_of}
 use Rattle.client_work.specs.declared.missions.Mission.{Mission}
 use Rattle.client_work.specs.Lines.{ClientOf, replies_to, told_line, told_text}
 use Rattle.client_work.specs.Meanings.{meanings_of}

@@ -3,20 +3,20 @@ use Rattle.std.proofs.Common.{String, Global, get_or, ◌≡◌, ℕ, zero, suc,
 use Rattle.std.specs.List.{AllByRecursion, filter}
 use Rattle.std.specs.String.{string_bytes}
 use Rattle.std.proofs.lemmas.Option.{slice_get_within}
-use Rattle.aerie_text.specs.Json.{line_of}
-use Rattle.hangar_core.specs.declared.commands.Command.{Command}
+use Rattle.json_line.specs.Json.{line_of}
+use Rattle.commands.specs.declared.commands.Command.{Command}
 use Rattle.hangar_core.specs.Fits.{commands_of, is_of_client, Meanings}
 use Rattle.hangar_core.specs.Journals.{Entries, IsReplay}
-use Rattle.hangar_lock.specs.laws.JoinedPasses.{all_mine, AreNumbered, AreOfOneLock, AreWorked, HasWorkedAlone, joined_with_all, JoinedPassesAreWhole, JoinedPassesFit, JoinedPassesHaveAll}
+use Rattle.hangar_lock.specs.laws.JoinedPasses.{all_mine, AreNumbered, AreOfOneLock, AreWorked, HasWorkedAlone, joined_with_all, JoinedPassesAreWhole, JoinedPassesFit, JoinedPassesHaveAll, PassesHaveTheirEntries}
 use Rattle.hangar_lock.specs.Passes.{first_pass, IsWhole, joined_with, LockView, PassView}
 use Rattle.hangar_lock.specs.Places.{HaveAllOf, Places, StandIn}
 use Rattle.report_text.specs.JournalLines.{journal_data}
 use Rattle.session_reader.specs.declared.session.Client.{Client}
 use Rattle.session_judge.specs.declared.judged.JudgedSession.{JudgedSession}
 use Rattle.client_work.specs.declared.missions.Mission.{Mission}
-use Rattle.client_work.specs.laws.ClientsWork.{PassesHaveTheirEntries, ToldWorksAreDone}
+use Rattle.client_work.specs.laws.ClientsWork.{ToldWorksAreDone}
 use Rattle.session_reader.specs.FewClients.{AreFewClients}
-use Rattle.client_work.specs.Working.{IsAtWork, IsWorkDone, IsWorkTold, own_entries}
+use Rattle.client_work.specs.Working.{IsAtWork, IsWorkDone, IsWorkTold, own_entries, work_of}
 use Rattle.session_run.specs.declared.on_threads.Done.{Done}
 use Rattle.session_run.specs.declared.on_threads.Work.{Work}
 use Rattle.session_run.specs.Joined.{joined_texts}
@@ -100,7 +100,7 @@ are_of mission lock clients works dones of done =
     let client = there clients which (omega (arith, below, many, works_many)) in
     let is = of.each which work.0 work.1 in
     let did = done.each which work.0 x work.1 found client.0 (ap (slice_get clients) is.0 ∙ client.1) in
-    weaker x.text (λ text. IsWorkDone mission (client_numbered work.0.which client.0) client.0.commands work.0.pass x.pass (string_bytes text)) (λ text. x.pass.lock ≡ lock)
+    weaker x.text (λ text. IsWorkDone (work_of mission (client_numbered work.0.which client.0) client.0.commands) work.0.pass x.pass (string_bytes text)) (λ text. x.pass.lock ≡ lock)
     (λ text told. told.gains.lock ∙ ap (λ (pass : PassView). pass.lock) is.1) did)
 
 -- nothing was wanting, and these are the texts
@@ -119,12 +119,12 @@ all_told_of dones texts e = record {
 
 -- ---- all works
 
-module _ (judged : JudgedSession) (bound : ℕ) (counted : Bool) (lock : LockView) (works : List Work) (dones : List Done) (texts : List (List ℕ))
+module _ (judged : JudgedSession) (bound : ℕ) (stats : Bool) (lock : LockView) (works : List Work) (dones : List Done) (texts : List (List ℕ))
     (of : AreWorksOf lock (length judged.session.clients) works)
-    (done : AreDone (mission_of judged bound counted) judged.session.clients works dones)
+    (done : AreDone (mission_of judged bound stats) judged.session.clients works dones)
     (told : HaveToldAll dones texts) where
   abbrev mission : Mission
-  mission = mission_of judged bound counted
+  mission = mission_of judged bound stats
 
   abbrev clients : List Client
   clients = judged.session.clients
@@ -139,7 +139,7 @@ module _ (judged : JudgedSession) (bound : ℕ) (counted : Bool) (lock : LockVie
   record IsOneDone (which : ℕ) (client : Client) (pass : PassView) : Type 0 where
     text : List ℕ
     written : slice_get texts which ≡ Some text
-    work : IsWorkDone mission (client_numbered which client) client.commands (numbered_pass lock which) pass text
+    work : IsWorkDone (work_of mission (client_numbered which client) client.commands) (numbered_pass lock which) pass text
 
   one_done : (which : ℕ) (client : Client) (pass : PassView) → slice_get clients which ≡ Some client → slice_get (passes_of dones) which ≡ Some pass → IsOneDone which client pass
   one_done which client pass place at =
@@ -150,14 +150,14 @@ module _ (judged : JudgedSession) (bound : ℕ) (counted : Bool) (lock : LockVie
       let w = there works which (omega (arith, many, below)) in
       let is = of.each which w.0 w.1 in
       let work = done.each which w.0 x.0 w.1 x.1 client (ap (slice_get clients) is.0 ∙ place) in
-      let has = subst (λ (z : Option (String Global)). IfSome z (λ text. IsWorkDone mission (client_numbered w.0.which client) client.commands w.0.pass x.0.pass (string_bytes text))) t.1 work in
+      let has = subst (λ (z : Option (String Global)). IfSome z (λ text. IsWorkDone (work_of mission (client_numbered w.0.which client) client.commands) w.0.pass x.0.pass (string_bytes text))) t.1 work in
       record {
         text = string_bytes t.0;
         written = t.2;
         work =
-            subst (λ (p : PassView). IsWorkDone mission (client_numbered which client) client.commands (numbered_pass lock which) p (string_bytes t.0)) x.2
-            (subst (λ (p : PassView). IsWorkDone mission (client_numbered which client) client.commands p x.0.pass (string_bytes t.0)) is.1
-            (subst (λ (n : ℕ). IsWorkDone mission (client_numbered n client) client.commands w.0.pass x.0.pass (string_bytes t.0)) is.0 has));
+            subst (λ (p : PassView). IsWorkDone (work_of mission (client_numbered which client) client.commands) (numbered_pass lock which) p (string_bytes t.0)) x.2
+            (subst (λ (p : PassView). IsWorkDone (work_of mission (client_numbered which client) client.commands) p x.0.pass (string_bytes t.0)) is.1
+            (subst (λ (n : ℕ). IsWorkDone (work_of mission (client_numbered n client) client.commands) w.0.pass x.0.pass (string_bytes t.0)) is.0 has));
       }
 
   passes_many : length (passes_of dones) ≡ length clients
@@ -205,7 +205,7 @@ module _ (judged : JudgedSession) (bound : ℕ) (counted : Bool) (lock : LockVie
 
   pub performed : JoinedPassesFit → JoinedPassesHaveAll → ToldWorksAreDone → PassesHaveTheirEntries → (pass : PassView) → pass ≡ joined_with_all first (passes_of dones) → (journal : Entries) (text : List ℕ) →
       StandIn pass.mine journal → HaveAllOf pass.mine journal → IsReplay (opening_of judged.session) journal →
-      text ≡ line_of (journal_data journal) ++ joined_texts texts → IsPerformed judged bound counted text
+      text ≡ line_of (journal_data journal) ++ joined_texts texts → IsPerformed judged bound stats text
   performed fit have law entries pass is journal text right all replayed whole_text =
       let mine : pass.mine ≡ all_mine (passes_of dones) = ap (λ (p : PassView). p.mine) is ∙ have first (passes_of dones) in
       let right_all = subst (λ (l : Places). StandIn l journal) mine right in

@@ -1,7 +1,7 @@
 pub mod Missions
 pub mod Ruled
 pub mod Texts
-pub mod Turning
+pub mod Rounds
 pub mod Answers
 pub mod Performed
 pub mod Joined

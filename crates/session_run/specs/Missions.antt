@@ -1,9 +1,9 @@
 -- What the clients of a session work on, and what they do with it.
 use Rattle.std.specs.Prelude.{ℕ, ◌+◌, Bool, List, [], ◌∷◌, get_or, map}
-use Rattle.hangar_core.specs.declared.commands.Command.{Command}
+use Rattle.commands.specs.declared.commands.Command.{Command}
 use Rattle.hangar_core.specs.declared.workspaces.Workspace.{Workspace}
 use Rattle.hangar_core.specs.Fits.{Meanings}
-use Rattle.hangar_core.specs.Standing.{first_workspace}
+use Rattle.hangar_core.specs.ValidWorkspaces.{first_workspace}
 use Rattle.session_reader.specs.declared.session.Client.{Client}
 use Rattle.session_reader.specs.declared.session.ModelPart.{ModelPart}
 use Rattle.session_reader.specs.declared.session.Session.{Session}
@@ -29,11 +29,11 @@ ruled_parts judged number (part ∷ parts) = ruled_part judged number part ∷ r
 
 -- what the clients work on: the models with their rules, the start, the bound of simulations and whether their statements are counted
 abbrev pub mission_of : JudgedSession → ℕ → Bool → Mission
-mission_of judged bound counts = record {
+mission_of judged bound stats = record {
   models = ruled_parts judged 0 judged.session.models;
   start = judged.session.start;
   bound = bound;
-  counts = counts;
+  stats = stats;
 }
 
 -- what their commands make of the plans that they fetch

@@ -12,19 +12,19 @@ abbrev pub FitsSession : JudgedSession → ℕ → Entries → Type 0
 FitsSession judged bound journal =
     Fits (session_meanings judged bound) (opening_of judged.session) (all_commands judged.session.clients) journal
 
--- the journal of clients who take turns: the first command of each, then the second of each, and so on, each whole
+-- the journal of clients in rounds: the first command of each, then the second of each, and so on, each whole
 abbrev pub serial_journal : JudgedSession → ℕ → Entries
 serial_journal judged bound =
     serial (session_meanings judged bound) (opening_of judged.session) (all_commands judged.session.clients)
 
 -- a text is that of a session along a journal that fits it
-pub record IsPerformed (judged : JudgedSession) (bound : ℕ) (counted : Bool) (text : List ℕ) : Type 0 where
+pub record IsPerformed (judged : JudgedSession) (bound : ℕ) (stats : Bool) (text : List ℕ) : Type 0 where
   pub journal : Entries
   pub fits : FitsSession judged bound journal
   pub counts : ℕ → ℕ → ℕ
-  pub told : text ≡ session_text judged bound counted counts journal
+  pub told : text ≡ session_text judged bound stats counts journal
 
--- along the one of clients who take turns
-pub record IsPerformedInTurn (judged : JudgedSession) (bound : ℕ) (counted : Bool) (text : List ℕ) : Type 0 where
+-- along the one of clients in rounds
+pub record IsPerformedInTurn (judged : JudgedSession) (bound : ℕ) (stats : Bool) (text : List ℕ) : Type 0 where
   pub counts : ℕ → ℕ → ℕ
-  pub told : text ≡ session_text judged bound counted counts (serial_journal judged bound)
+  pub told : text ≡ session_text judged bound stats counts (serial_journal judged bound)

@@ -1,7 +1,7 @@
 -- The text that is printed along a journal.
 use Rattle.std.specs.Prelude.{ℕ, suc, ◌+◌, Bool, List, [], ◌∷◌, ◌++◌}
 use Rattle.std.specs.List.{filter}
-use Rattle.aerie_text.specs.Json.{line_of}
+use Rattle.json_line.specs.Json.{line_of}
 use Rattle.hangar_core.specs.Fits.{is_of_client}
 use Rattle.hangar_core.specs.Journals.{Entries}
 use Rattle.report_text.specs.JournalLines.{journal_data}
@@ -25,5 +25,5 @@ clients_text mission counts journal number (client ∷ clients) =
 
 -- the text of a session along a journal: whose part of which command each entry is, and what is told of all commands
 abbrev pub session_text : JudgedSession → ℕ → Bool → (ℕ → ℕ → ℕ) → Entries → List ℕ
-session_text judged bound counted counts journal =
-    line_of (journal_data journal) ++ clients_text (mission_of judged bound counted) counts journal 0 judged.session.clients
+session_text judged bound stats counts journal =
+    line_of (journal_data journal) ++ clients_text (mission_of judged bound stats) counts journal 0 judged.session.clients

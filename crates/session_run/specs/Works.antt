@@ -7,7 +7,7 @@ use Rattle.hangar_lock.specs.Passes.{LockView, PassView}
 use Rattle.session_reader.specs.declared.session.Client.{Client}
 use Rattle.session_reader.specs.FewClients.{AreFewClients}
 use Rattle.client_work.specs.declared.missions.Mission.{Mission}
-use Rattle.client_work.specs.Working.{IsAtWork, IsWorkDone}
+use Rattle.client_work.specs.Working.{IsAtWork, IsWorkDone, work_of}
 use Rattle.session_run.specs.declared.on_threads.Work.{Work}
 use Rattle.session_run.specs.declared.on_threads.Done.{Done}
 use Rattle.session_run.specs.Texts.{client_numbered}
@@ -34,7 +34,7 @@ pub record CanWork (mission : Mission) (lock : LockView) (clients : List Client)
 -- a work was done, where memory did not end: all commands of its client
 abbrev pub HasDoneWork : Mission → List Client → Work → Done → Type 0
 HasDoneWork mission clients work done = (client : Client) → slice_get clients work.which ≡ Some client →
-    IfSome done.text (λ text. IsWorkDone mission (client_numbered work.which client) client.commands work.pass done.pass (string_bytes text))
+    IfSome done.text (λ text. IsWorkDone (work_of mission (client_numbered work.which client) client.commands) work.pass done.pass (string_bytes text))
 
 -- all works were
 pub record AreDone (mission : Mission) (clients : List Client) (works : List Work) (dones : List Done) : Type 0 where

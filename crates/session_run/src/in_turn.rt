@@ -6,12 +6,12 @@ ghost use Rattle.hangar_core.specs.Serial.{longest};
 ghost use Rattle.session_reader.specs.FewClients.{AreFewClients};
 ghost use Rattle.client_work.specs.Working.{IsAtWork};
 ghost use Rattle.session_run.specs.Missions.{all_commands};
-ghost use Rattle.session_run.specs.Turning.{HasTurned, TakesRound, TakesTurn, texts_without};
+ghost use Rattle.session_run.specs.Rounds.{HasDoneRounds, TakesRound, TakesCommand, texts_without};
 
 use aerie_base::{OutOfMemory, Steps};
 use aerie_edge::Gate;
-use client_work::{NumberedClient, Workplace, work_on};
-use hangar_core::Command;
+use client_work::{Assignment, ClientCommand, Worker, Workplace, work_on};
+use commands::Command;
 use hangar_lock::Pass;
 use session_reader::Client as SessionClient;
 use std::alloc::Global;
@@ -41,10 +41,10 @@ fn empty_texts(alloc: Global, count: usize) -> Result<Vec<String>, OutOfMemory>
     Ok(texts)
 }
 
-/// A client's turn: its command with a number is carried out, and the line that is told of it goes to the end of its text.
-fn take_turn<R: Wait, G: Gate, L: Ledger, K: Ledger>(
+/// A client's command with a number is carried out, and the line that is told of it goes to the end of its text.
+fn take_command<R: Wait, G: Gate, L: Ledger, K: Ledger>(
     alloc: Global,
-    place: &Workplace<R, G>,
+    workplace: &Workplace<R, G>,
     client: &SessionClient,
     which: u32,
     number: u32,
@@ -54,15 +54,19 @@ fn take_turn<R: Wait, G: Gate, L: Ledger, K: Ledger>(
     steps: &mut Steps<L>,
     looks: &mut Steps<K>,
 ) -> Result<(), OutOfMemory>
-    requires place { IsAtWork place.now.mission.now place.now.lock.now pass.old }
-    ensures taken { IfOk result (λ _. TakesTurn place.now.mission.now which client.now number command.now pass.old pass.new (string_bytes text.old) (string_bytes text.new)) }
+    requires workplace { IsAtWork workplace.now.mission.now workplace.now.lock.now pass.old }
+    ensures taken { IfOk result (λ _.
+        TakesCommand workplace.now.mission.now which client.now number command.now pass.old pass.new
+        (string_bytes text.old) (string_bytes text.new)) }
     ensures steps { steps.old ≤ steps.new }
 {
-    let told = NumberedClient {
-        name: &client.name,
-        number: which,
+    let whose = ClientCommand {
+        client: which,
+        command: number,
     };
-    let line = work_on(alloc, place, told, number, command, pass, steps, looks)?;
+    let assignment = Assignment { workplace, whose };
+    let mut worker = Worker { pass, steps, looks };
+    let line = work_on(alloc, &assignment, &client.name, command, &mut worker)?;
     text.push_str(line.as_str())?;
     Ok(())
 }
@@ -70,7 +74,7 @@ fn take_turn<R: Wait, G: Gate, L: Ledger, K: Ledger>(
 /// A round: the command with a number of each client that has one.
 fn take_round<R: Wait, G: Gate, L: Ledger, K: Ledger>(
     alloc: Global,
-    place: &Workplace<R, G>,
+    workplace: &Workplace<R, G>,
     clients: &[SessionClient],
     number: usize,
     pass: &mut Pass,
@@ -78,10 +82,12 @@ fn take_round<R: Wait, G: Gate, L: Ledger, K: Ledger>(
     steps: &mut Steps<L>,
     looks: &mut Steps<K>,
 ) -> Result<(), OutOfMemory>
-    requires place { IsAtWork place.now.mission.now place.now.lock.now pass.old }
+    requires workplace { IsAtWork workplace.now.mission.now workplace.now.lock.now pass.old }
     requires few { AreFewClients clients.now }
     requires texts { length texts.old.items ≡ length clients.now }
-    ensures taken { IfOk result (λ _. TakesRound place.now.mission.now clients.now number pass.old pass.new (map string_bytes texts.old.items) (map string_bytes texts.new.items)) }
+    ensures taken { IfOk result (λ _.
+        TakesRound workplace.now.mission.now clients.now number pass.old pass.new
+        (map string_bytes texts.old.items) (map string_bytes texts.new.items)) }
     ensures steps { steps.old ≤ steps.new }
 {
     for which in 0..clients.len() {
@@ -89,9 +95,9 @@ fn take_round<R: Wait, G: Gate, L: Ledger, K: Ledger>(
             let client = &clients[which];
             let command = &client.commands.as_slice()[number];
             let text = &mut texts[which];
-            take_turn(
+            take_command(
                 alloc,
-                place,
+                workplace,
                 client,
                 which as u32,
                 number as u32,
@@ -107,23 +113,24 @@ fn take_round<R: Wait, G: Gate, L: Ledger, K: Ledger>(
 }
 
 /// All rounds, with a pass that has done nothing; the texts are those of the clients.
-pub(crate) fn take_turns<R: Wait, G: Gate, L: Ledger, K: Ledger>(
+pub(crate) fn take_rounds<R: Wait, G: Gate, L: Ledger, K: Ledger>(
     alloc: Global,
-    place: &Workplace<R, G>,
+    workplace: &Workplace<R, G>,
     clients: &[SessionClient],
     pass: &mut Pass,
     steps: &mut Steps<L>,
     looks: &mut Steps<K>,
 ) -> Result<Vec<String>, OutOfMemory>
-    requires place { IsAtWork place.now.mission.now place.now.lock.now pass.old }
+    requires workplace { IsAtWork workplace.now.mission.now workplace.now.lock.now pass.old }
     requires few { AreFewClients clients.now }
-    ensures taken { IfOk result (λ texts. HasTurned place.now.mission.now clients.now pass.old pass.new (map string_bytes texts.items)) }
+    ensures taken { IfOk result (λ texts.
+        HasDoneRounds workplace.now.mission.now clients.now pass.old pass.new (map string_bytes texts.items)) }
     ensures steps { steps.old ≤ steps.new }
 {
     let mut texts = empty_texts(alloc, clients.len())?;
     for number in 0..longest_of(clients) {
         take_round(
-            alloc, place, clients, number, pass, &mut texts, steps, looks,
+            alloc, workplace, clients, number, pass, &mut texts, steps, looks,
         )?;
     }
     Ok(texts)

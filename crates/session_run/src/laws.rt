@@ -2,14 +2,14 @@
 
 ghost use Rattle.session_run.specs.laws.BranchesApart.{BranchesStandApart, ReportsTellOfPlans};
 ghost use Rattle.session_run.specs.laws.FirstLines.{FirstLinesTellJournals, FirstLinesTellTexts};
-ghost use Rattle.session_run.specs.laws.Journals.{TurnsFit};
+ghost use Rattle.session_run.specs.laws.Journals.{InTurnFits};
 
 use hangar_core::laws::{branches_are_isolated, serial_journals_fit, triples_tell_all};
 use hangar_lock::laws::commands_are_done;
 
 /// What clients do in turn is a journal that fits, and so is its text one of the session.
-pub fn turns_fit()
-    ensures { TurnsFit }
+pub fn in_turn_fits()
+    ensures { InTurnFits }
 {
     serial_journals_fit();
 }

@@ -52,16 +52,16 @@ pub(crate) fn mission(
     alloc: Global,
     judged: &JudgedSession,
     bound: u64,
-    counts: bool,
+    stats: bool,
 ) -> Result<Mission, OutOfMemory>
     requires rules { HasAllRules judged.now }
-    ensures { IfOk result (λ mission. mission ≡ mission_of judged.now bound counts) }
+    ensures { IfOk result (λ mission. mission ≡ mission_of judged.now bound stats) }
 {
     Ok(Mission {
         models: ruled_models(alloc, judged)?,
         start: judged.session.start,
         bound,
-        counts,
+        stats,
     })
 }
 

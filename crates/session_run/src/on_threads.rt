@@ -5,13 +5,13 @@ ghost use Rattle.std.specs.List.{AllByRecursion};
 ghost use Rattle.std.specs.String.{string_bytes};
 ghost use Rattle.hangar_lock.specs.laws.JoinedPasses.{joined_with_all};
 ghost use Rattle.hangar_lock.specs.Passes.{first_pass};
-ghost use Rattle.client_work.specs.Working.{IsAtWork, IsWorkDone};
+ghost use Rattle.client_work.specs.Working.{IsAtWork, IsWorkDone, work_of};
 ghost use Rattle.session_run.specs.Texts.{client_numbered};
 ghost use Rattle.session_run.specs.Works.{AreDone, AreOf, AreWorksOf, CanWork, HasDoneWork, passes_of, split_often, works_texts};
 
 use aerie_base::{OutOfMemory, Steps};
 use aerie_edge::Gate;
-use client_work::{NumberedClient, Workplace, work};
+use client_work::{NumberedClient, Worker, Workplace, work};
 use hangar_lock::{HangarLock, Pass};
 use session_reader::Client as SessionClient;
 use std::alloc::Global;
@@ -62,7 +62,7 @@ pub fn split_works(
 /// A client's work, with counters that nobody else reads.
 fn counted<R: Wait, G: Gate, L: Ledger, K: Ledger>(
     alloc: Global,
-    place: &Workplace<R, G>,
+    workplace: &Workplace<R, G>,
     client: &SessionClient,
     which: u32,
     pass: &mut Pass,
@@ -75,9 +75,11 @@ fn counted<R: Wait, G: Gate, L: Ledger, K: Ledger>(
     requires looks_name { looks.name ≡ K.name }
     requires looks_parts { looks.parts ≡ K.parts }
     requires some_looks { 0 < K.parts }
-    requires place { IsAtWork place.now.mission.now place.now.lock.now pass.old }
+    requires workplace { IsAtWork workplace.now.mission.now workplace.now.lock.now pass.old }
     requires few { length client.now.commands < 2 ^ 32 }
-    ensures { IfOk result (λ text. IsWorkDone place.now.mission.now (client_numbered which client.now) client.now.commands pass.old pass.new (string_bytes text)) }
+    ensures { IfOk result (λ text. IsWorkDone
+        (work_of workplace.now.mission.now (client_numbered which client.now) client.now.commands)
+        pass.old pass.new (string_bytes text)) }
 {
     let mut steps = Steps::<L>::open(steps);
     let mut looks = Steps::<K>::open(looks);
@@ -85,32 +87,36 @@ fn counted<R: Wait, G: Gate, L: Ledger, K: Ledger>(
         name: &client.name,
         number: which,
     };
-    work(
+    let mut worker = Worker {
+        pass,
+        steps: &mut steps,
+        looks: &mut looks,
+    };
+    let text = work(
         alloc,
-        place,
+        workplace,
         told,
         client.commands.as_slice(),
-        pass,
-        &mut steps,
-        &mut looks,
-    )
+        &mut worker,
+    )?;
+    Ok(text)
 }
 
 /// The work of a client is done.
 fn do_work<R: Wait, G: Gate>(
     alloc: Global,
-    place: &Workplace<R, G>,
+    workplace: &Workplace<R, G>,
     clients: &[SessionClient],
     work: Work,
 ) -> Done
-    requires work { CanWork place.now.mission.now place.now.lock.now clients.now work }
-    ensures { HasDoneWork place.now.mission.now clients.now work result }
+    requires work { CanWork workplace.now.mission.now workplace.now.lock.now clients.now work }
+    ensures { HasDoneWork workplace.now.mission.now clients.now work result }
 {
     let Work { which, mut pass } = work;
     let client = &clients[which];
     let told = counted::<R, G, Brand, Brand>(
         alloc,
-        place,
+        workplace,
         client,
         which as u32,
         &mut pass,
@@ -151,20 +157,20 @@ pub fn gather(
 /// All works, each on a thread of its own where one can be made.
 pub fn do_works<R: Threads + Wait + Sync, G: Gate>(
     alloc: Global,
-    place: &Workplace<R, G>,
+    workplace: &Workplace<R, G>,
     clients: &[SessionClient],
     works: Vec<Work>,
 ) -> Result<Vec<Done>, OutOfMemory>
-    requires works { AllByRecursion (CanWork place.now.mission.now place.now.lock.now clients.now) works.items }
-    ensures { IfOk result (λ dones. AreDone place.now.mission.now clients.now works.items dones.items) }
+    requires works { AllByRecursion (CanWork workplace.now.mission.now workplace.now.lock.now clients.now) works.items }
+    ensures { IfOk result (λ dones. AreDone workplace.now.mission.now clients.now works.items dones.items) }
 {
     let dones = thread::map_vec(
-        place.rt,
+        workplace.rt,
         works,
         &|work: Work| -> Done
-            requires { CanWork place.now.mission.now place.now.lock.now clients.now work }
-            ensures { HasDoneWork place.entry.now.mission.now clients.entry.now work result }
-        { do_work(alloc, place, clients, work) },
+            requires { CanWork workplace.now.mission.now workplace.now.lock.now clients.now work }
+            ensures { HasDoneWork workplace.entry.now.mission.now clients.entry.now work result }
+        { do_work(alloc, workplace, clients, work) },
     )?;
     Ok(dones)
 }

@@ -6,16 +6,18 @@ ghost use Rattle.aerie_base.specs.Ranges.{step_limit};
 ghost use Rattle.session_run.specs.Performed.{IsPerformed, IsPerformedInTurn};
 ghost use Rattle.session_run.specs.Ruled.{CanBePerformed};
 
-use crate::in_turn::take_turns;
+use crate::in_turn::take_rounds;
 use crate::missions::{hangar, mission};
 use crate::on_threads::{do_works, gather, split_works};
 use crate::texts::whole_text;
 use aerie_base::{OutOfMemory, Steps};
 use aerie_edge::Gate;
 use client_work::Workplace;
-use client_work::laws::{passes_have_their_entries, told_works_are_done};
+use client_work::laws::told_works_are_done;
 use hangar_lock::HangarLock;
-use hangar_lock::laws::{commands_are_done, joined_passes_are_whole, joined_passes_fit};
+use hangar_lock::laws::{
+    commands_are_done, joined_passes_are_whole, joined_passes_fit, passes_have_their_entries,
+};
 use session_judge::JudgedSession;
 use std::alloc::Global;
 use std::sync::Wait;
@@ -24,7 +26,7 @@ use std::thread::Threads;
 
 /// Performs a session, its clients in turn: the first command of each, then the second of each, and so on, each whole. Answers
 /// the text that is printed: the line of the journal, and what is told of each client's commands, client by client. A
-/// simulation ends where its cost would pass the bound, at most 100,000,000; with `counts`, reports tell how many statements
+/// simulation ends where its cost would pass the bound, at most 100,000,000; with `stats`, reports tell how many statements
 /// their simulations ran. The gate is told when each command's simulation starts and ends; statements and looks are counted.
 pub fn perform_in_turn<R: Wait, G: Gate, L: Ledger, K: Ledger>(
     alloc: Global,
@@ -32,26 +34,26 @@ pub fn perform_in_turn<R: Wait, G: Gate, L: Ledger, K: Ledger>(
     gate: &G,
     judged: &JudgedSession,
     bound: u64,
-    counts: bool,
+    stats: bool,
     steps: &mut Steps<L>,
     looks: &mut Steps<K>,
 ) -> Result<String, OutOfMemory>
     requires session { CanBePerformed judged.now }
     requires bound { bound ≤ step_limit }
-    ensures performed { IfOk result (λ text. IsPerformedInTurn judged.now bound counts (string_bytes text)) }
+    ensures performed { IfOk result (λ text. IsPerformedInTurn judged.now bound stats (string_bytes text)) }
     ensures steps { steps.old ≤ steps.new }
 {
     commands_are_done();
-    let mission = mission(alloc, judged, bound, counts)?;
+    let mission = mission(alloc, judged, bound, stats)?;
     let (lock, mut pass) = HangarLock::open(alloc, hangar(alloc, &judged.session)?)?;
-    let place = Workplace {
+    let workplace = Workplace {
         rt,
         mission: &mission,
         lock: &lock,
         gate,
     };
     let clients = judged.session.clients.as_slice();
-    let texts = take_turns(alloc, &place, clients, &mut pass, steps, looks)?;
+    let texts = take_rounds(alloc, &workplace, clients, &mut pass, steps, looks)?;
     let (_, journal) = lock.close(pass);
     whole_text(alloc, &journal, texts.as_slice())
 }
@@ -65,19 +67,19 @@ pub fn perform<R: Threads + Wait + Sync, G: Gate>(
     gate: &G,
     judged: &JudgedSession,
     bound: u64,
-    counts: bool,
+    stats: bool,
 ) -> Result<String, OutOfMemory>
     requires session { CanBePerformed judged.now }
     requires bound { bound ≤ step_limit }
-    ensures { IfOk result (λ text. IsPerformed judged.now bound counts (string_bytes text)) }
+    ensures { IfOk result (λ text. IsPerformed judged.now bound stats (string_bytes text)) }
 {
     told_works_are_done();
     passes_have_their_entries();
     joined_passes_fit();
     joined_passes_are_whole();
-    let mission = mission(alloc, judged, bound, counts)?;
+    let mission = mission(alloc, judged, bound, stats)?;
     let (lock, mut pass) = HangarLock::open(alloc, hangar(alloc, &judged.session)?)?;
-    let place = Workplace {
+    let workplace = Workplace {
         rt,
         mission: &mission,
         lock: &lock,
@@ -85,7 +87,7 @@ pub fn perform<R: Threads + Wait + Sync, G: Gate>(
     };
     let clients = judged.session.clients.as_slice();
     let works = split_works(alloc, &lock, &mut pass, clients.len())?;
-    let dones = do_works(alloc, &place, clients, works)?;
+    let dones = do_works(alloc, &workplace, clients, works)?;
     let texts = gather(alloc, &lock, &mut pass, dones)?;
     let (_, journal) = lock.close(pass);
     whole_text(alloc, &journal, texts.as_slice())

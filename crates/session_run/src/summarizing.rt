@@ -38,14 +38,14 @@ pub fn summarize_in_turn<R: Wait, G: Gate, L: Ledger, K: Ledger>(
     commands_are_done();
     let mission = mission(alloc, judged, bound, false)?;
     let (lock, mut pass) = HangarLock::open(alloc, hangar(alloc, &judged.session)?)?;
-    let place = Workplace {
+    let workplace = Workplace {
         rt,
         mission: &mission,
         lock: &lock,
         gate,
     };
     let clients = judged.session.clients.as_slice();
-    let summary = count_rounds(alloc, &place, clients, &mut pass, steps, looks)?;
+    let summary = count_rounds(alloc, &workplace, clients, &mut pass, steps, looks)?;
     let (_, _journal) = lock.close(pass);
     Ok(summary)
 }

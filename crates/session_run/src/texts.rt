@@ -2,7 +2,7 @@
 
 ghost use Rattle.std.specs.Prelude.{◌≡◌, ◌++◌, IfOk, map};
 ghost use Rattle.std.specs.String.{string_bytes};
-ghost use Rattle.aerie_text.specs.Json.{line_of};
+ghost use Rattle.json_line.specs.Json.{line_of};
 ghost use Rattle.report_text.specs.JournalLines.{journal_data};
 ghost use Rattle.session_run.specs.Joined.{joined_texts};
 
@@ -18,7 +18,8 @@ pub(crate) fn whole_text(
     journal: &Journal,
     texts: &[String],
 ) -> Result<String, OutOfMemory>
-    ensures { IfOk result (λ text. string_bytes text ≡ line_of (journal_data journal.now) ++ joined_texts (map string_bytes texts.now)) }
+    ensures { IfOk result (λ text.
+        string_bytes text ≡ line_of (journal_data journal.now) ++ joined_texts (map string_bytes texts.now)) }
 {
     let mut whole = journal_line(alloc, journal)?;
     for text in texts {

@@ -14,6 +14,7 @@ use Rattle.span_table.specs.declared.body_states.BodyState.TheVariants.{Open, Ov
 use Rattle.span_table.specs.declared.progress.BodyTable.{BodyTable}
 use Rattle.span_table.specs.BodyStates.{state_if, body_after, is_open_after}
 use Rattle.span_table.specs.Progress.{KnowsTasks}
+use Rattle.span_table.proofs.Frames.{ended_begun}
 
 -- ---- results
 
@@ -33,16 +34,6 @@ known_result None = None
 known_result (Some Open) = None
 known_result (Some (Over result)) = result
 
--- a body that has ended has begun
-ended_has_begun : (path : List ℕ) (frames : List Timed) → body_ended frames path ≡ true → list_any (is_of_path path) frames ≡ true
-ended_has_begun path [] ended = ended
-ended_has_begun path (first ∷ frames) ended = go (is_of_path path first) (is_done first.1.status) ended (ended_has_begun path frames)
-  where
-    go : (b d : Bool) → ((b && d) || body_ended frames path) ≡ true → (body_ended frames path ≡ true → list_any (is_of_path path) frames ≡ true) →
-        (b || list_any (is_of_path path) frames) ≡ true
-    go true d e rest = refl
-    go false d e rest = rest e
-
 pub result_is : (path : List ℕ) (frames : List Timed) → result_in frames path ≡ known_result (body_after frames path)
 result_is path frames = go (list_any (is_of_path path) frames) refl (body_ended frames path) refl
   where
@@ -50,7 +41,7 @@ result_is path frames = go (list_any (is_of_path path) frames) refl (body_ended 
         result_in frames path ≡ known_result (state_if begun ended (result_in frames path))
     go true b true e = refl
     go true b false e = none_returned path frames e
-    go false b true e = absurd (false≢true (sym b ∙ ended_has_begun path frames e))
+    go false b true e = absurd (false≢true (sym b ∙ ended_begun path frames e))
     go false b false e = none_returned path frames e
 
 -- ---- whether a task has ended

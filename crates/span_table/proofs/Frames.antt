@@ -51,7 +51,7 @@ last_more found path (first ∷ frames) frame = last_more (cond (is_prefix path 
 -- ---- one body
 
 -- a body that has ended has begun
-ended_begun : (path : List ℕ) (frames : List Timed) → body_ended frames path ≡ true → list_any (is_of_path path) frames ≡ true
+pub ended_begun : (path : List ℕ) (frames : List Timed) → body_ended frames path ≡ true → list_any (is_of_path path) frames ≡ true
 ended_begun path [] ended = ended
 ended_begun path (first ∷ frames) ended = go (is_of_path path first) (is_done first.1.status) ended (ended_begun path frames)
   where
@@ -94,8 +94,8 @@ body_more frames frame path = go (same_path path frame.1.path) refl
         ∙ ap (λ x. state_if (list_any (is_of_path path) frames || x) (body_ended frames path || (x && is_done frame.1.status))
         (cond (body_ended frames path) (result_in frames path) (or_returned (x && is_done frame.1.status) (returned frame.1.status) None))) e))
 
-    turned : (b : Bool) → same_path path frame.1.path ≡ b → b ≡ same_path frame.1.path path
-    turned b e = sym e ∙ nat_list_eq_equiv.symm path frame.1.path
+    swapped : (b : Bool) → same_path path frame.1.path ≡ b → b ≡ same_path frame.1.path path
+    swapped b e = sym e ∙ nat_list_eq_equiv.symm path frame.1.path
 
     go : (b : Bool) → same_path path frame.1.path ≡ b → body_after (frames ++ frame ∷ []) path ≡
         cond (same_path frame.1.path path) (Some (noted_state (body_after frames frame.1.path) frame.1.status)) (body_after frames path)
@@ -104,11 +104,11 @@ body_more frames frame path = go (same_path path frame.1.path) refl
         ∙ (of_it (list_any (is_of_path path) frames) (body_ended frames path) (is_done frame.1.status) (result_in frames path) (returned frame.1.status) frame.1.status refl refl
         (ended_begun path frames)
         ∙ (ap (λ p. Some (noted_state (body_after frames p) frame.1.status)) (same_text path frame.1.path (sym e))
-        ∙ ap (λ b. cond b (Some (noted_state (body_after frames frame.1.path) frame.1.status)) (body_after frames path)) (turned true e)))
+        ∙ ap (λ b. cond b (Some (noted_state (body_after frames frame.1.path) frame.1.status)) (body_after frames path)) (swapped true e)))
     go false e =
         parts false e
         ∙ (of_another (list_any (is_of_path path) frames) (body_ended frames path) (is_done frame.1.status) (result_in frames path) (returned frame.1.status)
-        ∙ ap (λ b. cond b (Some (noted_state (body_after frames frame.1.path) frame.1.status)) (body_after frames path)) (turned false e))
+        ∙ ap (λ b. cond b (Some (noted_state (body_after frames frame.1.path) frame.1.status)) (body_after frames path)) (swapped false e))
 
 abbrev pub is_open_state : Option BodyState → Bool
 is_open_state None = false

@@ -45,9 +45,9 @@ begun_after model before (first ∷ frames) frame =
     ∙ ap (λ b. begun_from model before (first ∷ frames) ++ cond b [] (begun_by model frame.0 frame.1 frame.1.before.kind))
     (swap_any (is_of_path frame.1.path first) (list_any (is_of_path frame.1.path) before) (list_any (is_of_path frame.1.path) frames)))
 
-turned : (b : Bool) (begun : List SpanOf) → cond (not b) begun [] ≡ cond b [] begun
-turned true begun = refl
-turned false begun = refl
+swapped : (b : Bool) (begun : List SpanOf) → cond (not b) begun [] ≡ cond b [] begun
+swapped true begun = refl
+swapped false begun = refl
 
 -- the spans that have begun once one more frame is known, of which is told whether its path is new
 pub begun_more : (model : Parts) (frames : List Timed) (frame : Timed) (old new : List SpanOf) (is_new : Bool) →
@@ -57,7 +57,7 @@ begun_more model frames frame old new is_new known tells put =
     put
     ∙ (ap (λ l. l ++ cond is_new (begun_by model frame.0 frame.1 frame.1.before.kind) []) known
     ∙ (ap (λ b. begun_from model [] frames ++ cond b (begun_by model frame.0 frame.1 frame.1.before.kind) []) tells
-    ∙ (ap (λ l. begun_from model [] frames ++ l) (turned (list_any (is_of_path frame.1.path) frames) (begun_by model frame.0 frame.1 frame.1.before.kind))
+    ∙ (ap (λ l. begun_from model [] frames ++ l) (swapped (list_any (is_of_path frame.1.path) frames) (begun_by model frame.0 frame.1 frame.1.before.kind))
     ∙ sym (begun_after model [] frames frame))))
 
 -- ---- batches and instants

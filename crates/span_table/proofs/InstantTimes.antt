@@ -23,35 +23,20 @@ use Rattle.run_data.specs.Batches.{Batch, limit, failed, committed, batch}
 use Rattle.run_data.specs.Endings.{after_batch, gone_on, due_phase, back, has_ended, has_come, result_of, with_result}
 use Rattle.run_data.specs.Transitions.{Next, more, finished, begins, onward}
 use Rattle.run_data.specs.Fresh.{SimulationState, start, next_by, woken_or_moved, moved, to_time, to_end, after_outcome, settled, instant_at, from_now, due_time, least_due, below, IsReached, IsFresh}
+use Rattle.run_data.specs.DelayLaws.{EndsWhere, batch_ends, woken_ends}
+use Rattle.run_data.specs.TaskLaws.{Each, each_changed}
 use Rattle.run_data.specs.Tasks.{TaskPhase, anchored, ready, delayed, waiting, calling, over, Task, Table, task_at, with_task, on_each, children_made, children_in, after_delay, phase_after, task_after, after_frame, after_frames, ready_jobs, woken, woken_phase, rested, rested_phase}
 
 -- no delay ends before this time
 abbrev EndsFrom : ℕ → TaskPhase → Type 0
-EndsFrom now (delayed until state) = now ≤ until
-EndsFrom now (anchored to edge start state) = Unit {0}
-EndsFrom now (ready state) = Unit {0}
-EndsFrom now (waiting condition state) = Unit {0}
-EndsFrom now (calling child into state) = Unit {0}
-EndsFrom now (over result) = Unit {0}
+EndsFrom now = EndsWhere (λ until. now ≤ until)
 
 abbrev AllEndFrom : ℕ → Table → Type 0
-AllEndFrom now [] = Unit {0}
-AllEndFrom now (entry ∷ rest) = EndsFrom now entry.1.phase × AllEndFrom now rest
-
-put_from : (now : ℕ) (table : Table) (path : List ℕ) (task : Task) → AllEndFrom now table → EndsFrom now task.phase → AllEndFrom now (with_task table path task)
-put_from now [] path task each here = (here, tt)
-put_from now (entry ∷ rest) path task each here = by (path_cmp path entry.0) (put_from now rest path task each.1 here)
-  where
-    by : (order : Ordering) → AllEndFrom now (with_task rest path task) →
-        AllEndFrom now (match_ordering order ((path, task) ∷ entry ∷ rest) ((entry.0, task) ∷ rest) (entry ∷ with_task rest path task))
-    by Less further = (here, each)
-    by Equal further = (here, each.1)
-    by Greater further = (each.0, further)
+AllEndFrom now = Each (EndsFrom now)
 
 changed_from : (now later : ℕ) (change : List ℕ → Task → Task) → ((path : List ℕ) (task : Task) → EndsFrom now task.phase → EndsFrom later (change path task).phase) →
     (table : Table) → AllEndFrom now table → AllEndFrom later (on_each change table)
-changed_from now later change kept [] each = tt
-changed_from now later change kept (entry ∷ rest) each = (kept entry.0 entry.1 each.0, changed_from now later change kept rest each.1)
+changed_from now later = each_changed (EndsFrom now) (EndsFrom later)
 
 -- ---- a batch
 
@@ -59,61 +44,11 @@ delay_from : (now by : ℕ) (state : TaskState) → EndsFrom now (after_delay no
 delay_from now zero state = tt
 delay_from now (suc less) state = omega arith
 
-status_from : (now made : ℕ) (ending : Status) → EndsFrom now (phase_after now made ending)
-status_from now made (status.Delayed by state) = delay_from now (nat_abs by) state
-status_from now made (status.Waiting condition state) = tt
-status_from now made (status.Calling into state) = tt
-status_from now made (status.Done result) = tt
-status_from now made (status.Faulted fault) = tt
-
-frames_from : (now : ℕ) (frames : List Frame) (table : Table) → AllEndFrom now table → AllEndFrom now (after_frames now frames table)
-frames_from now [] table each = each
-frames_from now (frame ∷ rest) table each =
-    frames_from now rest (after_frame now frame table)
-    (put_from now table frame.path (task_after now frame.status (children_made (task_at table frame.path) + children_in frame.items)) each
-    (status_from now (children_made (task_at table frame.path) + children_in frame.items) frame.status))
-
-back_from : (now : ℕ) (table : Table) (path : List ℕ) (phase : TaskPhase) → EndsFrom now phase → EndsFrom now (back table path phase)
-back_from now table path (calling child into state) h = by (has_ended table (child_path path child))
-  where
-    by : (ended : Bool) → EndsFrom now (if ended then ready (with_result into (result_of (task_at table (child_path path child))) state) else calling child into state)
-    by true = tt
-    by false = tt
-back_from now table path (anchored to edge start state) h = tt
-back_from now table path (ready state) h = tt
-back_from now table path (delayed until state) h = h
-back_from now table path (waiting condition state) h = tt
-back_from now table path (over result) h = tt
-
-due_from : (now : ℕ) (table : Table) (phase : TaskPhase) → EndsFrom now phase → EndsFrom now (due_phase table now phase)
-due_from now table (anchored to edge start state) h = by (has_come table to edge)
-  where
-    by : (come : Bool) → EndsFrom now (if come then after_delay now start state else anchored to edge start state)
-    by true = delay_from now start state
-    by false = tt
-due_from now table (ready state) h = tt
-due_from now table (delayed until state) h = h
-due_from now table (waiting condition state) h = tt
-due_from now table (calling child into state) h = tt
-due_from now table (over result) h = tt
-
 batch_from : (now : ℕ) (frames : List Frame) (table : Table) → AllEndFrom now table → AllEndFrom now (after_batch now frames table)
-batch_from now frames table each =
-    let whole = after_frames now frames table in
-    changed_from now now (gone_on whole now)
-    (λ path task h. due_from now whole (back whole path task.phase) (back_from now whole path task.phase h)) whole (frames_from now frames table each)
+batch_from now = batch_ends (λ until. now ≤ until) now (delay_from now)
 
 woken_from : (now : ℕ) (cells : List CellState) (phase : TaskPhase) → EndsFrom now phase → EndsFrom now (woken_phase cells phase)
-woken_from now cells (waiting condition state) h = by (holds_on cells condition)
-  where
-    by : (holds : Bool) → EndsFrom now (if holds then ready state else waiting condition state)
-    by true = tt
-    by false = tt
-woken_from now cells (anchored to edge start state) h = tt
-woken_from now cells (ready state) h = tt
-woken_from now cells (delayed until state) h = h
-woken_from now cells (calling child into state) h = tt
-woken_from now cells (over result) h = tt
+woken_from now = woken_ends (λ until. now ≤ until)
 
 rested_from : (now : ℕ) (phase : TaskPhase) → EndsFrom now phase → EndsFrom now (rested_phase now phase)
 rested_from now (delayed until state) h = by (nat_eq until now)
@@ -317,9 +252,9 @@ module _ (model : Parts) (plan : Plan) (bound : ℕ) where
   next_in_time at [] well = judged_in_time at (ready_jobs at.cells (on_each (woken at.cells) at.table)) well
   next_in_time at (job ∷ rest) well = outcome_in_time at (batch model bound at.spent at.cells (job ∷ rest)) well
 
-  all_in_time : (place : Next SimulationState Run) → IsReached model plan bound place → GoesInTime place
+  all_in_time : (point : Next SimulationState Run) → IsReached model plan bound point → GoesInTime point
   all_in_time (more at) begins = record { delays = all_from_zero _; instants = tt; within = omega arith }
-  all_in_time place (onward {place = at} before) = next_in_time at (ready_jobs at.cells at.table) (all_in_time (more at) before)
+  all_in_time point (onward {point = at} before) = next_in_time at (ready_jobs at.cells at.table) (all_in_time (more at) before)
 
 pub instants_by_reach : (model : Parts) (plan : Plan) (bound : ℕ) (run : Run) → IsFresh model plan bound run → AreBy run.reach run.instants
 instants_by_reach model plan bound run fresh = all_in_time model plan bound (finished run) fresh

@@ -5,13 +5,14 @@ use Rattle.std.proofs.lemmas.Grind.{common_steps}
 use Rattle.std.proofs.lemmas.Cmp.{nat_eq_equiv}
 use Rattle.std.proofs.lemmas.Bool.{false≢true}
 use Rattle.std.proofs.lemmas.List.{take_all, length-take-le}
+use Rattle.aerie_base.specs.PathsAbove.{next_child, so_far}
 use Rattle.aerie_base.specs.Paths.{path_of, comes_from_daemon, id_of, children_of, is_path, child_path, child_of, may_have_children, is_prefix}
 use Rattle.run_data.specs.Spans.{same_path}
 
 -- ---- prefixes
 
-turned : (a b : ℕ) (x : Bool) → (nat_eq a b && x) ≡ (nat_eq b a && x)
-turned a b x = ap (λ e. e && x) (nat_eq_equiv.symm a b)
+swapped : (a b : ℕ) (x : Bool) → (nat_eq a b && x) ≡ (nat_eq b a && x)
+swapped a b x = ap (λ e. e && x) (nat_eq_equiv.symm a b)
 
 alone : (q : List ℕ) → is_prefix q [] ≡ same_path [] q
 alone [] = refl
@@ -25,19 +26,19 @@ shared false b s = refl
 child_prefix : (q above : List ℕ) (number : ℕ) → is_prefix q (child_path above number) ≡ (is_prefix q above || same_path (child_path above number) q)
 child_prefix [] [] number = refl
 child_prefix [] (a ∷ above) number = refl
-child_prefix (x ∷ q) [] number = turned x number (is_prefix q []) ∙ ap (λ b. nat_eq number x && b) (alone q)
+child_prefix (x ∷ q) [] number = swapped x number (is_prefix q []) ∙ ap (λ b. nat_eq number x && b) (alone q)
 child_prefix (x ∷ q) (a ∷ above) number =
     ap (λ b. nat_eq x a && b) (child_prefix q above number)
     ∙ (shared (nat_eq x a) (is_prefix q above) (same_path (child_path above number) q)
-    ∙ ap (λ b. (nat_eq x a && is_prefix q above) || b) (turned x a (same_path (child_path above number) q)))
+    ∙ ap (λ b. (nat_eq x a && is_prefix q above) || b) (swapped x a (same_path (child_path above number) q)))
 
 -- the path of a directive or a daemon is at or above no other such path
 root_prefix : (q : List ℕ) (kind id : ℕ) → 2 ≤ length q → is_prefix q (kind ∷ id ∷ []) ≡ same_path (kind ∷ id ∷ []) q
 root_prefix [] kind id long = absurd (omega arith)
 root_prefix (x ∷ []) kind id long = absurd (omega arith)
 root_prefix (x ∷ y ∷ q) kind id long =
-    turned x kind (nat_eq y id && is_prefix q [])
-    ∙ (ap (λ b. nat_eq kind x && b) (turned y id (is_prefix q []))
+    swapped x kind (nat_eq y id && is_prefix q [])
+    ∙ (ap (λ b. nat_eq kind x && b) (swapped y id (is_prefix q []))
     ∙ ap (λ b. nat_eq kind x && (nat_eq id y && b)) (alone q))
 
 pub root_of_any : (q : List ℕ) (daemon : Bool) (id : ℕ) → 2 ≤ length q → is_prefix q (path_of daemon id []) ≡ same_path (path_of daemon id []) q
@@ -46,60 +47,9 @@ root_of_any q false id long = root_prefix q 0 id long
 
 -- ---- the way down
 
--- a path so far along the numbers of its children
-abbrev pub so_far : List ℕ → ℕ → List ℕ
-so_far path i = path_of (comes_from_daemon path) (id_of path) (take i (children_of path))
-
-goes_on : (daemon : Bool) (id number : ℕ) (children : List ℕ) → path_of daemon id (children ++ number ∷ []) ≡ child_path (path_of daemon id children) number
-goes_on true id number children = refl
-goes_on false id number children = refl
-
-children_are : (daemon : Bool) (id : ℕ) (children : List ℕ) → children_of (path_of daemon id children) ≡ children
-children_are true id children = refl
-children_are false id children = refl
-
-pub below_is : (path : List ℕ) (i : ℕ) → i < length (children_of path) → so_far path (i + 1) ≡ child_path (so_far path i) (get_or (children_of path) i 0)
-below_is path i within =
-    ap (path_of (comes_from_daemon path) (id_of path)) (rw add-one (take-suc (children_of path) i 0 within))
-    ∙ goes_on (comes_from_daemon path) (id_of path) (get_or (children_of path) i 0) (take i (children_of path))
-
-few : (path : List ℕ) → IsTrue (is_path path) → length (children_of path) ≤ 64
-few [] is = absurd (false≢true is)
-few (kind ∷ []) is = absurd (false≢true is)
-few (kind ∷ id ∷ children) is = grind (arith, common_steps, is)
-
--- what stands above a child may have children
-pub may_go_on : (path : List ℕ) (i : ℕ) → IsTrue (is_path path) → i < length (children_of path) → may_have_children (so_far path i) ≡ true
-may_go_on path i is within =
-    let most = few path is in
-    let short : length (take i (children_of path)) ≤ i = omega (arith, length-take-le i (children_of path) (omega arith)) in
-    let at : length (children_of (so_far path i)) ≤ i = rw (children_are (comes_from_daemon path) (id_of path) (take i (children_of path))) short in
-    grind (arith, common_steps)
-
-pub child_there : (path : List ℕ) (i : ℕ) → IsTrue (is_path path) → i < length (children_of path) →
-    child_of (so_far path i) (get_or (children_of path) i 0) ≡ Some (so_far path (i + 1))
-child_there path i is within =
-    ap (λ b. cond b (Some (child_path (so_far path i) (get_or (children_of path) i 0))) None) (may_go_on path i is within)
-    ∙ ap Some (sym (below_is path i within))
-
-some_same : {A : Type 0} (one other : A) → Some one ≡ Some other → one ≡ other
-some_same one other e = cc
-
-pub next_is : (path items above below : List ℕ) (i : ℕ) (made : Option (List ℕ)) → IsTrue (is_path path) → items ≡ children_of path → i < length items →
-    above ≡ so_far path i → made ≡ child_of above (get_or items i 0) → made ≡ Some below → below ≡ so_far path (i + 1)
-next_is path items above below i made is same within at e f =
-    let inside : i < length (children_of path) = rw (← same) within in
-    some_same below (so_far path (i + 1))
-    (sym f ∙ (e ∙ (ap (λ a. child_of a (get_or items i 0)) at ∙ (ap (λ l. child_of (so_far path i) (get_or l i 0)) same ∙ child_there path i is inside))))
-
 pub next_is_child : (path items above below : List ℕ) (i : ℕ) → items ≡ children_of path → i < length items →
     above ≡ so_far path i → below ≡ so_far path (i + 1) → below ≡ child_path above (get_or items i 0)
-next_is_child path items above below i same within at next =
-    let inside : i < length (children_of path) = rw (← same) within in
-    next ∙ (below_is path i inside ∙ (ap (λ a. child_path a (get_or (children_of path) i 0)) (sym at) ∙ ap (λ l. child_path above (get_or l i 0)) (sym same)))
-
-pub whole_way : (path : List ℕ) (i : ℕ) → length (children_of path) ≤ i → path ≡ path_of (comes_from_daemon path) (id_of path) (children_of path) → so_far path i ≡ path
-whole_way path i past whole = ap (path_of (comes_from_daemon path) (id_of path)) (take_all i (children_of path) past) ∙ sym whole
+next_is_child path items above below i same within at next = next ∙ next_child path items above i same within at
 
 -- ---- times
 

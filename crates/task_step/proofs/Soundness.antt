@@ -16,6 +16,7 @@ use Rattle.run_data.specs.declared.frames.Item.{Item}
 use Rattle.run_data.specs.declared.frames.Item.TheVariants as item
 use Rattle.run_data.specs.StepStates.{after_item, after_items}
 use Rattle.run_data.specs.Jobs.{IsModest}
+use Rattle.run_data.specs.MagnitudeLaws.{applied_within, emitted_within, is_small}
 use Rattle.run_data.specs.Magnitudes.{state_magnitude, effect_magnitude, AreWithin}
 use Rattle.task_step.proofs.Overlays.{overlaid_none}
 use Rattle.task_step.specs.Overlays.{overlaid}
@@ -29,47 +30,11 @@ after_items_more view (first ∷ items) more = after_items_more (after_item view
 
 -- ---- how far numbers come
 
-set_within : (cells : List CellState) (cell most : ℕ) (new : CellState) → AreWithin most cells → state_magnitude new ≤ most → AreWithin most (slice_set cells cell new)
-set_within [] cell most new h k j s e = h j s e
-set_within (first ∷ rest) zero most new h k zero s e = (let i : new ≡ s = cc in omega (arith, k, ap state_magnitude i))
-set_within (first ∷ rest) zero most new h k (suc j) s e = h (suc j) s e
-set_within (first ∷ rest) (suc cell) most new h k zero s e = h 0 s e
-set_within (first ∷ rest) (suc cell) most new h k (suc j) s e = set_within rest cell most new (λ i. h (suc i)) k j s e
-
-applied_within : (before : CellState) (effect : Effect) → state_magnitude (applied before effect) ≤ state_magnitude before + effect_magnitude effect
-applied_within (state.Counter n) (Add x) = omega (arith, ints)
-applied_within (state.Counter n) (Register c) = omega arith
-applied_within (state.Counter n) (Flow x y) = omega arith
-applied_within (state.Register v f) (Add x) = omega arith
-applied_within (state.Register v f) (Register change.Nothing) = omega arith
-applied_within (state.Register v f) (Register (change.Set w)) = omega arith
-applied_within (state.Register v f) (Register change.Mark) = omega arith
-applied_within (state.Register v f) (Register (change.SetMark w)) = omega arith
-applied_within (state.Register v f) (Flow x y) = omega arith
-applied_within (state.Volume v r) (Add x) = omega arith
-applied_within (state.Volume v r) (Register c) = omega arith
-applied_within (state.Volume v r) (Flow x y) = omega (arith, ints)
-
-on_within : (cells : List CellState) (cell : ℕ) (effect : Effect) (there : Option CellState) (most more : ℕ) → slice_get cells cell ≡ there →
-    AreWithin most cells → effect_magnitude effect ≤ more → AreWithin (most + more) (emitted_on cells cell effect there)
-on_within cells cell effect None most more e h k = λ j s i. omega (arith, h j s i)
-on_within cells cell effect (Some before) most more e h k =
-    set_within cells cell (most + more) (applied before effect) (λ j s i. omega (arith, h j s i))
-    (omega (arith, applied_within before effect, h cell before e, k))
-
-pub emitted_within : (cells : List CellState) (cell : ℕ) (effect : Effect) (most more : ℕ) → AreWithin most cells → effect_magnitude effect ≤ more → AreWithin (most + more) (emitted cells cell effect)
-emitted_within cells cell effect most more = on_within cells cell effect (slice_get cells cell) most more refl
-
-small_state : (s : CellState) → state_magnitude s < 2 ^ 120 → IsSmallState s
-small_state (state.Counter n) h = h
-small_state (state.Register v f) h = tt
-small_state (state.Volume v r) h = (omega (arith, h), omega (arith, h))
-
 small_there : (cells : List CellState) (cell : ℕ) (effect : Effect) (there : Option CellState) (most : ℕ) → slice_get cells cell ≡ there →
     AreWithin most cells → most + effect_magnitude effect < 2 ^ 120 → IsSmallOn there effect
 small_there cells cell effect None most e h k = tt
 small_there cells cell effect (Some before) most e h k =
-    small_state (applied before effect) (omega (arith, applied_within before effect, h cell before e, k))
+    is_small (applied before effect) (omega (arith, applied_within before effect, h cell before e, k))
 
 -- an effect of a step leaves a cell's numbers small
 pub small_on : (view cells other : List CellState) (items : List Item) (read_flags : List Bool) (cell : ℕ) (effect : Effect) → other ≡ cells →

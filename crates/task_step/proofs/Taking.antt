@@ -21,24 +21,24 @@ use Rattle.run_data.specs.declared.frames.Item.TheVariants as item
 use Rattle.run_data.specs.declared.frames.Status.TheVariants.{Faulted}
 use Rattle.run_data.specs.StepStates.{StepState, valued, with_flags, assigned, paid}
 use Rattle.run_data.specs.Jobs.{AreCellsOf}
-use Rattle.run_data.specs.Steps.{Stepped, steps, perform, act, after, after_test, Turn, onward, ended, with_evaluated, first_of, valued_all, with_all, emission_expr, effect_of}
+use Rattle.run_data.specs.Steps.{Stepped, steps, perform, act, after, after_test, Acted, onward, ended, with_evaluated, first_of, valued_all, with_all, emission_expr, effect_of}
 use Rattle.run_data.specs.TaskStates.{body_of}
 use Rattle.run_data.specs.Typed.{AreLeft, is_typed_stmt}
 use Rattle.run_data.specs.laws.Typing.{NextIsTyped, RunsOn, ChoiceRunsOn, LoopRunsOn}
 use Rattle.task_step.specs.declared.ends.End.{End}
 use Rattle.task_step.specs.Doable.{cells_of, HasType, IsDoable}
 use Rattle.task_step.specs.Ends.{status_of}
-use Rattle.task_step.specs.Moves.{turn_of}
+use Rattle.task_step.specs.Moves.{acted_of}
 use Rattle.task_step.specs.Ways.{Leads}
 use Rattle.task_step.proofs.Doing.{doable}
 
 -- ---- what a statement keeps
 
-abbrev KeepsTurn : StepState → Turn → Type 0
-KeepsTurn so_far (onward next) = (next.view ≡ so_far.view) × (next.cost ≡ so_far.cost) × (length next.items ≤ length so_far.items + 1)
-KeepsTurn so_far (ended status last) = Unit {0}
+abbrev KeepsActed : StepState → Acted → Type 0
+KeepsActed so_far (onward next) = (next.view ≡ so_far.view) × (next.cost ≡ so_far.cost) × (length next.items ≤ length so_far.items + 1)
+KeepsActed so_far (ended status last) = Unit {0}
 
-evaluated_keeps : (so_far : StepState) (result : Evaluated) (go : Value → StepState → Turn) → ((value : Value) (read_flags : List Bool) → KeepsTurn so_far (go value (with_flags so_far read_flags))) → KeepsTurn so_far (with_evaluated so_far result go)
+evaluated_keeps : (so_far : StepState) (result : Evaluated) (go : Value → StepState → Acted) → ((value : Value) (read_flags : List Bool) → KeepsActed so_far (go value (with_flags so_far read_flags))) → KeepsActed so_far (with_evaluated so_far result go)
 evaluated_keeps so_far (Ok value, read_flags) go h = h value read_flags
 evaluated_keeps so_far (Err fault, read_flags) go h = tt
 
@@ -51,15 +51,15 @@ all_notes : (exprs : List Expr) (so_far : StepState) → (later : List Bool) × 
 all_notes [] so_far = (so_far.read_flags, refl)
 all_notes (expr ∷ rest) so_far = first_notes so_far (valued so_far expr) (valued_all rest) (λ read_flags. all_notes rest (with_flags so_far read_flags))
 
-all_keeps : (so_far : StepState) (result : Result (List Value) Fault × StepState) (go : List Value → StepState → Turn) → ((later : List Bool) × (result.1 ≡ with_flags so_far later)) →
-    ((values : List Value) (read_flags : List Bool) → KeepsTurn so_far (go values (with_flags so_far read_flags))) → KeepsTurn so_far (with_all result go)
-all_keeps so_far (Ok values, last) go n h = subst (λ c. KeepsTurn so_far (go values c)) (sym n.1) (h values n.0)
+all_keeps : (so_far : StepState) (result : Result (List Value) Fault × StepState) (go : List Value → StepState → Acted) → ((later : List Bool) × (result.1 ≡ with_flags so_far later)) →
+    ((values : List Value) (read_flags : List Bool) → KeepsActed so_far (go values (with_flags so_far read_flags))) → KeepsActed so_far (with_all result go)
+all_keeps so_far (Ok values, last) go n h = subst (λ c. KeepsActed so_far (go values c)) (sym n.1) (h values n.0)
 all_keeps so_far (Err fault, last) go n h = tt
 
 one_more : (items : List Item) (more : Item) → length (items ++ more ∷ []) ≤ length items + 1
 one_more items more = omega (arith, length-append items (more ∷ []))
 
-act_keeps : (kind : BodyId) (at : ℕ) (stmt : Stmt-F Stmt) (so_far : StepState) → KeepsTurn so_far (act kind at stmt so_far)
+act_keeps : (kind : BodyId) (at : ℕ) (stmt : Stmt-F Stmt) (so_far : StepState) → KeepsActed so_far (act kind at stmt so_far)
 act_keeps kind at (Stmt-F.Let slot expr) so_far = evaluated_keeps so_far (valued so_far expr) (λ value c. onward (assigned c slot value)) (λ value read_flags. (refl, refl, omega arith))
 act_keeps kind at (Stmt-F.Assign slot expr) so_far = evaluated_keeps so_far (valued so_far expr) (λ value c. onward (assigned c slot value)) (λ value read_flags. (refl, refl, omega arith))
 act_keeps kind at (Stmt-F.Emit cell what) so_far = evaluated_keeps so_far (valued so_far (emission_expr what)) _ (λ value read_flags. (refl, refl, one_more so_far.items (item.Emit cell (effect_of what value))))
@@ -128,17 +128,17 @@ module _ (model : Parts) (code : List Instruction) (kind : BodyId) (at : ℕ) (i
       ap (λ l. steps kind (suc budget) l so_far) st.2
       ∙ perform_simple kind (record { at = at; what = stmt }) (left (body_of model kind) (at + 1)) (out-Stmt stmt) (paid so_far) (steps kind budget) st.0
 
-  turn_is : (stmt : Stmt) (next : StepState) (end known : Option End) → turn_of end kind at next ≡ act kind at (out-Stmt stmt) paid_so_far → end ≡ known → turn_of known kind at next ≡ act kind at (out-Stmt stmt) (paid so_far)
-  turn_is stmt next end known turn e = sym (ap (λ x. turn_of x kind at next) e) ∙ turn ∙ ap (act kind at (out-Stmt stmt)) pays
+  acted_is : (stmt : Stmt) (next : StepState) (end known : Option End) → acted_of end kind at next ≡ act kind at (out-Stmt stmt) paid_so_far → end ≡ known → acted_of known kind at next ≡ act kind at (out-Stmt stmt) (paid so_far)
+  acted_is stmt next end known acted e = sym (ap (λ x. acted_of x kind at next) e) ∙ acted ∙ ap (act kind at (out-Stmt stmt)) pays
 
-  pub do_onward : (stmt : Stmt) (next : StepState) (end : Option End) → RunsOn → instruction ≡ Do stmt → turn_of end kind at next ≡ act kind at (out-Stmt stmt) paid_so_far → end ≡ None →
+  pub do_onward : (stmt : Stmt) (next : StepState) (end : Option End) → RunsOn → instruction ≡ Do stmt → acted_of end kind at next ≡ act kind at (out-Stmt stmt) paid_so_far → end ≡ None →
       Leads model code kind at so_far (at + 1) next
-  do_onward stmt next end on e turn none =
+  do_onward stmt next end on e acted none =
       let here : Placed = record { at = at; what = stmt } in
       let rest = left (body_of model kind) (at + 1) in
       let st = do_stands stmt e in
-      let t = turn_is stmt next end None turn none in
-      let keeps = subst (KeepsTurn (paid so_far)) (sym t) (act_keeps kind at (out-Stmt stmt) (paid so_far)) in
+      let t = acted_is stmt next end None acted none in
+      let keeps = subst (KeepsActed (paid so_far)) (sym t) (act_keeps kind at (out-Stmt stmt) (paid so_far)) in
       let goes = on model kind here rest (paid so_far) next valid (left_as (here ∷ rest) st.2) cells (sym t) in
       record {
         place = st.1;
@@ -150,10 +150,10 @@ module _ (model : Parts) (code : List Instruction) (kind : BodyId) (at : ℕ) (i
         same = λ budget. do_steps stmt budget e ∙ ap (λ x. after x (steps kind budget rest)) (sym t);
       }
 
-  pub do_ended : (stmt : Stmt) (last : StepState) (end : Option End) (how : End) → instruction ≡ Do stmt → turn_of end kind at last ≡ act kind at (out-Stmt stmt) paid_so_far → end ≡ Some how →
+  pub do_ended : (stmt : Stmt) (last : StepState) (end : Option End) (how : End) → instruction ≡ Do stmt → acted_of end kind at last ≡ act kind at (out-Stmt stmt) paid_so_far → end ≡ Some how →
       (budget : ℕ) → steps kind (suc budget) (left (body_of model kind) at) so_far ≡ Some (status_of how kind at last, last)
-  do_ended stmt last end how e turn some budget =
-      do_steps stmt budget e ∙ ap (λ x. after x (steps kind budget (left (body_of model kind) (at + 1)))) (sym (turn_is stmt last end (Some how) turn some))
+  do_ended stmt last end how e acted some budget =
+      do_steps stmt budget e ∙ ap (λ x. after x (steps kind budget (left (body_of model kind) (at + 1)))) (sym (acted_is stmt last end (Some how) acted some))
 
   -- ---- a test
 

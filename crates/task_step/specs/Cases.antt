@@ -30,7 +30,7 @@ use Rattle.run_data.specs.declared.frames.Item.TheVariants as item
 use Rattle.run_data.specs.declared.frames.Status.{Status}
 use Rattle.run_data.specs.declared.frames.Status.TheVariants.{Delayed, Waiting, Calling, Done, Faulted}
 use Rattle.run_data.specs.declared.frames.Frame.{Frame}
-use Rattle.run_data.specs.cases.Missions.{number, local, reading, activity, mission, add, delay, ints}
+use Rattle.run_data.specs.cases.SmallModels.{number, local, reading, activity, small_model, add, delay, ints}
 
 -- ---- steps of one body
 
@@ -43,7 +43,7 @@ job locals = record { path = root 1; state = at_place 0 locals; view = state.Cou
 
 -- the frame of its step, which may cost so much
 abbrev frame_in : List Stmt → List Value → ℕ → Option Frame
-frame_in stmts locals fuel = job_frame (mission [] (activity [] 2 stmts ∷ []) []) fuel (job locals)
+frame_in stmts locals fuel = job_frame (small_model [] (activity [] 2 stmts ∷ []) []) fuel (job locals)
 
 -- a frame of that job
 abbrev frame : List Value → List (ℕ × CellState) → List Item → Status → ℕ → Option Frame

@@ -8,14 +8,14 @@ use Rattle.body_code.specs.declared.instructions.Instruction.TheVariants.{Do, Te
 use Rattle.body_code.specs.Denoting.{IsCodeOf}
 use Rattle.run_data.specs.declared.tasks.BodyId.{BodyId}
 use Rattle.run_data.specs.StepStates.{StepState}
-use Rattle.run_data.specs.Steps.{Turn, onward, ended}
+use Rattle.run_data.specs.Steps.{Acted, onward, ended}
 use Rattle.task_step.specs.declared.ends.End.{End as HowEnded}
 use Rattle.task_step.specs.Ends.{status_of}
 
 -- how a statement at a place of a body ends, as the code says it
-abbrev pub turn_of : Option HowEnded → BodyId → ℕ → StepState → Turn
-turn_of None kind at so_far = onward so_far
-turn_of (Some end) kind at so_far = ended (status_of end kind at so_far) so_far
+abbrev pub acted_of : Option HowEnded → BodyId → ℕ → StepState → Acted
+acted_of None kind at so_far = onward so_far
+acted_of (Some end) kind at so_far = ended (status_of end kind at so_far) so_far
 
 -- values in front of those of further arguments
 abbrev pub with_front : List Value → Result (List Value) Fault × StepState → Result (List Value) Fault × StepState

@@ -12,7 +12,7 @@ ghost use Rattle.run_data.specs.StepStates.{assigned, giving};
 ghost use Rattle.run_data.specs.Steps.{onward, ended, with_value, with_values, act, state_behind, delay_of, effect_of, emission_expr};
 ghost use Rattle.task_step.specs.Doable.{HasType, have_types, IsDoable, cells_of};
 ghost use Rattle.task_step.specs.Fillable.{IsConditionOfSome};
-ghost use Rattle.task_step.specs.Moves.{turn_of};
+ghost use Rattle.task_step.specs.Moves.{acted_of};
 ghost use Rattle.task_step.specs.OwnCells.{most_items};
 
 use crate::arguments::values;
@@ -27,7 +27,7 @@ use std::alloc::Global;
 fn act_set(slot: u16, expr: &Expr, so_far: &mut StepState) -> Option<End>
     requires slot { slot < length so_far.old.locals }
     requires typed { HasType so_far.old expr.now }
-    ensures { (body : Body) (at : ℕ) → turn_of result body at so_far.new ≡ with_value so_far.old expr.now (λ value c. onward (assigned c slot value)) }
+    ensures { (body : Body) (at : ℕ) → acted_of result body at so_far.new ≡ with_value so_far.old expr.now (λ value c. onward (assigned c slot value)) }
 {
     match so_far.value(expr) {
         Err(fault) => Some(End::Faulted(fault)),
@@ -43,7 +43,7 @@ fn act_emit(cell: u16, what: &Emission, so_far: &mut StepState) -> Result<Option
     requires cell { cell < length (cells_of so_far.old) }
     requires typed { HasType so_far.old (emission_expr what.now) }
     requires few { length so_far.old.items < most_items }
-    ensures { IfOk result (λ end. (body : Body) (at : ℕ) → turn_of end body at so_far.new ≡ with_value so_far.old (emission_expr what.now) (λ value c. onward (giving c (Emit cell (effect_of what.now value))))) }
+    ensures { IfOk result (λ end. (body : Body) (at : ℕ) → acted_of end body at so_far.new ≡ with_value so_far.old (emission_expr what.now) (λ value c. onward (giving c (Emit cell (effect_of what.now value))))) }
 {
     match so_far.value(emission_expr(what)) {
         Err(fault) => Ok(Some(End::Faulted(fault))),
@@ -57,7 +57,7 @@ fn act_emit(cell: u16, what: &Emission, so_far: &mut StepState) -> Result<Option
 /// `delay`
 fn act_delay(expr: &Expr, so_far: &mut StepState) -> End
     requires typed { HasType so_far.old expr.now }
-    ensures { (body : Body) (at : ℕ) → turn_of (Some result) body at so_far.new ≡ with_value so_far.old expr.now (λ value c. ended (delay_of (number_in value) (state_behind body at c)) c) }
+    ensures { (body : Body) (at : ℕ) → acted_of (Some result) body at so_far.new ≡ with_value so_far.old expr.now (λ value c. ended (delay_of (number_in value) (state_behind body at c)) c) }
 {
     match so_far.value(expr) {
         Err(fault) => End::Faulted(fault),
@@ -68,7 +68,7 @@ fn act_delay(expr: &Expr, so_far: &mut StepState) -> End
 /// `wait until`
 fn act_wait(alloc: Global, condition: &Cond, so_far: &StepState) -> Result<End, OutOfMemory>
     requires { IsConditionOfSome condition.now }
-    ensures { IfOk result (λ end. (body : Body) (at : ℕ) → turn_of (Some end) body at so_far.now ≡ ended (status.Waiting (filled condition.now so_far.now.locals) (state_behind body at so_far.now)) so_far.now) }
+    ensures { IfOk result (λ end. (body : Body) (at : ℕ) → acted_of (Some end) body at so_far.now ≡ ended (status.Waiting (filled condition.now so_far.now.locals) (state_behind body at so_far.now)) so_far.now) }
 {
     let condition = fill(alloc, condition, so_far.locals())?;
     Ok(End::Waiting(Boxed::new(alloc, condition)?))
@@ -83,7 +83,7 @@ fn act_spawn(
 ) -> Result<Option<End>, OutOfMemory>
     requires typed { IsTrue (have_types so_far.old arguments.now) }
     requires few { length so_far.old.items < most_items }
-    ensures { IfOk result (λ end. (body : Body) (at : ℕ) → turn_of end body at so_far.new ≡ with_values so_far.old arguments.now (λ values c. onward (giving c (Child child values)))) }
+    ensures { IfOk result (λ end. (body : Body) (at : ℕ) → acted_of end body at so_far.new ≡ with_values so_far.old arguments.now (λ values c. onward (giving c (Child child values)))) }
 {
     match values(alloc, arguments, so_far)? {
         Err(fault) => Ok(Some(End::Faulted(fault))),
@@ -104,7 +104,7 @@ fn act_call(
 ) -> Result<End, OutOfMemory>
     requires typed { IsTrue (have_types so_far.old arguments.now) }
     requires few { length so_far.old.items < most_items }
-    ensures { IfOk result (λ end. (body : Body) (at : ℕ) → turn_of (Some end) body at so_far.new ≡ with_values so_far.old arguments.now (λ values c. ended (status.Calling into (state_behind body at c)) (giving c (Child child values)))) }
+    ensures { IfOk result (λ end. (body : Body) (at : ℕ) → acted_of (Some end) body at so_far.new ≡ with_values so_far.old arguments.now (λ values c. ended (status.Calling into (state_behind body at c)) (giving c (Child child values)))) }
 {
     match values(alloc, arguments, so_far)? {
         Err(fault) => Ok(End::Faulted(fault)),
@@ -118,7 +118,7 @@ fn act_call(
 /// `return` with a value.
 fn act_return(expr: &Expr, so_far: &mut StepState) -> End
     requires typed { HasType so_far.old expr.now }
-    ensures { (body : Body) (at : ℕ) → turn_of (Some result) body at so_far.new ≡ with_value so_far.old expr.now (λ value c. ended (status.Done (Some value)) c) }
+    ensures { (body : Body) (at : ℕ) → acted_of (Some result) body at so_far.new ≡ with_value so_far.old expr.now (λ value c. ended (status.Done (Some value)) c) }
 {
     match so_far.value(expr) {
         Err(fault) => End::Faulted(fault),
@@ -136,7 +136,7 @@ pub(crate) fn act(
     requires simple { is_simple stmt.now ≡ true }
     requires doable { IsDoable so_far.old (out-Stmt stmt.now) }
     requires few { length so_far.old.items < most_items }
-    ensures { IfOk result (λ end. (body : Body) (at : ℕ) → turn_of end body at so_far.new ≡ act body at (out-Stmt stmt.now) so_far.old) }
+    ensures { IfOk result (λ end. (body : Body) (at : ℕ) → acted_of end body at so_far.new ≡ act body at (out-Stmt stmt.now) so_far.old) }
 {
     match stmt {
         Stmt::Let { slot, value } => Ok(act_set(*slot, value, so_far)),

@@ -64,7 +64,7 @@ impl<'a> Stepper for Direct<'a> {
 
     ghost opened = { λ direct. min direct.opened last_count };
 
-    ghost anchor = { λ direct. direct.codes_at };
+    ghost address = { λ direct. direct.codes_at };
 
     ghost shares = { Unit {0} };
 

@@ -107,7 +107,7 @@ fn a_sure_sink_takes_pieces_past_its_room(rt: HostRuntime) -> Result<(), Fail> {
 }
 
 #[test]
-fn a_gate_tells_whether_the_other_ended_or_the_turns_ran_out(rt: HostRuntime) {
+fn a_gate_tells_whether_the_other_ended_or_the_iterations_ran_out(rt: HostRuntime) {
     simulate(&Open, 1);
 
     let after = HoldUntil::new(1, 2, 3);

@@ -1,6 +1,6 @@
 //! Values and lines of JSON.
 
-use aerie_text::{line, object, text_value};
+use json_line::{line, object, text_value};
 use serde_json::json;
 
 #[test]

@@ -17,7 +17,7 @@ use Rattle.effect_cells.specs.Reads.{state_value, value_on}
 use Rattle.effect_cells.specs.States.{state_after}
 use Rattle.effect_cells.specs.declared.effects.CellState.{CellState}
 use Rattle.effect_cells.specs.declared.effects.CellState.TheVariants.{Counter, Register, Volume}
-use Rattle.wait_solver.proofs.Products.{sum_times, times_sum, times_times}
+use Rattle.aerie_base.specs.Products.{sum_times, times_sum, times_times}
 use Rattle.wait_solver.specs.Lines.{line_value, still, sum_of_lines, scaled, state_line, operand_line, term_line, terms_line, form_line}
 use Rattle.wait_solver.specs.declared.lines.Line.{Line}
 

@@ -1,6 +1,5 @@
 pub mod FormLaws
 pub mod Telling
-pub mod Products
 pub mod Signs
 pub mod Steady
 pub mod There

@@ -115,9 +115,9 @@ not_reached : (away nearer n : ℕ) → n < until_reached (suc away) (suc nearer
 not_reached away nearer n h =
     let one_less : (suc away - 1) / suc nearer ≡ away / suc nearer = ap (λ (m : ℕ). m / suc nearer) (omega arith) in
     let most = mul-le n (suc nearer) (away / suc nearer) (suc nearer) (omega (arith, one_less)) (omega arith) in
-    let turn = mul_comm n (suc nearer) in
+    let swapped = mul_comm n (suc nearer) in
     let whole = div-mul-le_self away (suc nearer) in
-    omega (arith, most, turn, whole)
+    omega (arith, most, swapped, whole)
 
 at_once : (value rate : ℤ) (n : ℕ) → n < 1 → sign_of (value +ℤ rate *ℤ pos n) ≡ sign_of value
 at_once value rate n h =

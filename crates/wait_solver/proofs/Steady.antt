@@ -32,7 +32,7 @@ use Rattle.wait_solver.specs.Changes.{until_change}
 use Rattle.wait_solver.specs.Outlooks.{IsBefore}
 use Rattle.wait_solver.specs.declared.lines.Line.{Line}
 use Rattle.wait_solver.proofs.FormLaws.{form_at}
-use Rattle.wait_solver.proofs.Products.{difference_times}
+use Rattle.aerie_base.specs.Products.{difference_times}
 use Rattle.wait_solver.proofs.Signs.{answer, sign_of, compared_by_sign, keeps_sign}
 
 -- ---- what stands while time passes

@@ -7,8 +7,8 @@ use Rattle.wait_solver.specs.Lines.{still, sum_of_lines, term_line, terms_line}
 use Rattle.wait_solver.specs.declared.lines.Line.{Line}
 use Rattle.wait_solver.proofs.FormLaws.{same_line}
 
-pub sums_turn : (a b : Line) → sum_of_lines a b ≡ sum_of_lines b a
-sums_turn a b = same_line (sum_of_lines a b) (sum_of_lines b a) (omega (arith, ints)) (omega (arith, ints))
+pub sums_swapped : (a b : Line) → sum_of_lines a b ≡ sum_of_lines b a
+sums_swapped a b = same_line (sum_of_lines a b) (sum_of_lines b a) (omega (arith, ints)) (omega (arith, ints))
 
 pub sums_join : (a b c : Line) → sum_of_lines (sum_of_lines a b) c ≡ sum_of_lines a (sum_of_lines b c)
 sums_join a b c = same_line (sum_of_lines (sum_of_lines a b) c) (sum_of_lines a (sum_of_lines b c)) (omega (arith, ints)) (omega (arith, ints))

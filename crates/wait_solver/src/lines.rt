@@ -4,6 +4,8 @@ ghost use Rattle.std.specs.Prelude.{◌≡◌, ◌≤◌, ◌<◌, ◌+◌, ◌*
 ghost use Rattle.aerie_base.specs.Ranges.{IsTime, number_limit, rate_limit};
 ghost use Rattle.wait_solver.specs.Lines.{line_value, still, sum_of_lines, scaled, gap_from, IsWithin};
 
+use aerie_base::product;
+
 /// A number that changes at a constant rate.
 #[derive(Clone, Copy, Debug)]
 pub(crate) struct Line {
@@ -75,17 +77,6 @@ impl Line {
             rate: difference(self.rate, other.rate),
         }
     }
-}
-
-/// A number multiplied by a coefficient.
-#[tactic(auto, using(crate::proofs::Products::product_within))]
-fn product(factor: i128, number: i128) -> i128
-    requires factor { unsigned_abs factor ≤ 1_000_000 }
-    requires number { unsigned_abs number ≤ number_limit }
-    ensures value { result ≡ factor *ℤ number }
-    ensures small { unsigned_abs result ≤ 1_000_000 * unsigned_abs number }
-{
-    factor * number
 }
 
 /// The difference of two numbers below 2^119.

@@ -84,23 +84,12 @@ pub(crate) fn of_both(left: Outlook, right: Outlook) -> Outlook
     }
 }
 
-/// What `||` makes of two, the other way round.
+/// What `||` makes of two: the opposite of what `&&` makes of their opposites.
 pub(crate) fn of_either(left: Outlook, right: Outlook) -> Outlook
     requires left { IsSoon left.stays }
     requires right { IsSoon right.stays }
     ensures value { result ≡ of_disjunction left right }
     ensures soon { IsSoon result.stays }
 {
-    match (left.holds, right.holds) {
-        (false, false) => Outlook {
-            holds: false,
-            stays: earlier(left.stays, right.stays),
-        },
-        (false, true) => right,
-        (true, false) => left,
-        (true, true) => Outlook {
-            holds: true,
-            stays: later(left.stays, right.stays),
-        },
-    }
+    negated(of_both(negated(left), negated(right)))
 }

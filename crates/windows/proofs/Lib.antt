@@ -4,6 +4,7 @@ pub mod Clips
 pub mod Either
 pub mod Found
 pub mod Joins
+pub mod LastBegun
 pub mod Left
 pub mod Lines
 pub mod Long

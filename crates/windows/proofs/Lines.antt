@@ -79,8 +79,8 @@ by_place at step before there after result earlier same later = go (int_lt step 
 pub rising : (m : ℕ) (step q rest away : ℤ) → q *ℤ pos (suc m) +ℤ rest ≡ away → unsigned_abs rest < suc m →
     int_cmp (pos (suc m) *ℤ step) away ≡ cond (int_lt step q) Less (cond (int_lt q step) Greater (int_cmp (pos 0) rest))
 rising m step q rest away whole small =
-    let turn = *ℤ_comm (pos (suc m)) step in
-    ap (λ (z : ℤ). int_cmp z away) turn
+    let swapped = *ℤ_comm (pos (suc m)) step in
+    ap (λ (z : ℤ). int_cmp z away) swapped
     ∙ by_place q step Less (int_cmp (pos 0) rest) Greater (int_cmp (step *ℤ pos (suc m)) away)
     (λ below. less_is _ _ (rising_before m step q rest away whole small below))
     (λ same. at_meeting _ rest away (ap (λ (z : ℤ). z *ℤ pos (suc m) +ℤ rest) same ∙ whole))
@@ -89,12 +89,12 @@ rising m step q rest away whole small =
 pub falling : (m : ℕ) (step q rest away : ℤ) → q *ℤ negsuc m +ℤ rest ≡ away → unsigned_abs rest < suc m →
     int_cmp (negsuc m *ℤ step) away ≡ cond (int_lt step q) Greater (cond (int_lt q step) Less (int_cmp (pos 0) rest))
 falling m step q rest away whole small =
-    let turn = *ℤ_comm (negsuc m) step in
+    let swapped = *ℤ_comm (negsuc m) step in
     let down = *ℤ-negsuc step m in
     let down_there = *ℤ-negsuc q m in
     let mirrored : q *ℤ pos (suc m) +ℤ neg_ℤ rest ≡ neg_ℤ away = omega (arith, ints, whole, down_there) in
     let small_too : unsigned_abs (neg_ℤ rest) < suc m = omega (arith, ints) in
-    ap (λ (z : ℤ). int_cmp z away) turn
+    ap (λ (z : ℤ). int_cmp z away) swapped
     ∙ by_place q step Greater (int_cmp (pos 0) rest) Less (int_cmp (step *ℤ negsuc m) away)
     (λ below. greater_is (step *ℤ negsuc m) away (let up = rising_before m step q (neg_ℤ rest) (neg_ℤ away) mirrored small_too below in omega (arith, ints, up, down)))
     (λ same. at_meeting _ rest away (ap (λ (z : ℤ). z *ℤ negsuc m +ℤ rest) same ∙ whole))

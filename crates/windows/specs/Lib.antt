@@ -1,3 +1,5 @@
+pub mod Begun
+pub mod BegunLaws
 pub mod Crossing
 pub mod Ends
 pub mod IntervalLaws

@@ -1,7 +1,6 @@
 ghost use Rattle.std.specs.Prelude.{◌≤◌, OnOk};
 ghost use Rattle.windows.specs.Joining.{last_start, Joins};
 
-use crate::ends::{is_by, later};
 use aerie_base::{List, OutOfMemory, Time};
 
 /// Puts the times from `from` up to `to` behind intervals that began no later, and joins them to the last one where
@@ -14,15 +13,15 @@ pub(crate) fn join(
     requires order { last_start intervals.old ≤ from }
     ensures { OnOk result (Joins intervals.old from to intervals.new) }
 {
-    if is_by(to, from) {
+    if to.is_by(from) {
         return Ok(());
     }
     let Some(last) = intervals.items.pop() else {
         intervals.push((from, to))?;
         return Ok(());
     };
-    if is_by(from, last.1) {
-        intervals.push((last.0, later(last.1, to)))?;
+    if from.is_by(last.1) {
+        intervals.push((last.0, last.1.later(to)))?;
         return Ok(());
     }
     intervals.push(last)?;

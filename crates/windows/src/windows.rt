@@ -7,7 +7,6 @@ mod linear;
 mod spans;
 mod splices;
 
-use crate::ends::{first_time, is_by};
 use crate::joining::join;
 use aerie_base::{List, OutOfMemory, Time};
 use std::alloc::Global;
@@ -45,9 +44,9 @@ impl Windows {
         ensures { result ≡ contains self.now.intervals t }
     {
         let intervals = self.intervals.as_slice();
-        let ended = intervals.partition_point(|interval| is_by(interval.1, t));
+        let ended = intervals.partition_point(|interval| interval.1.is_by(t));
         match intervals.get(ended) {
-            Some(interval) => is_by(interval.0, t),
+            Some(interval) => interval.0.is_by(t),
             None => false,
         }
     }
@@ -69,7 +68,7 @@ impl Windows {
         ensures times { IfOk result (λ all. AreIntervals all.reach (λ t. true) all.intervals) }
     {
         let mut intervals = List::new(alloc);
-        join(&mut intervals, first_time(), reach)?;
+        join(&mut intervals, Time::zero(), reach)?;
         Ok(Windows { reach, intervals })
     }
 }

@@ -5,7 +5,7 @@ use Rattle.aerie_base.specs.declared.plans.Edge.TheVariants.{Start, End}
 use Rattle.aerie_base.specs.declared.plans.Directive.{Directive}
 use Rattle.aerie_base.specs.declared.values.Kind.TheVariants as kind
 use Rattle.aerie_base.specs.declared.values.Value.TheVariants as value
-use Rattle.aerie_base.specs.plans.OfModel.{are_values_of, rise_to, followed, is_there}
+use Rattle.aerie_base.specs.plans.OfModel.{are_values_of, rise_to, followed, is_id_of, is_there, is_dangling}
 
 pub ids_that_rise : rise_to 10 0 (1 ∷ 3 ∷ 9 ∷ []) ≡ true
 ids_that_rise = refl
@@ -47,3 +47,6 @@ anchored_to_a_directive_of_the_plan = refl
 
 pub anchored_to_none_of_the_plan : is_there three (Some 4) ≡ false
 anchored_to_none_of_the_plan = refl
+
+pub an_anchor_to_none_of_the_plan_dangles : is_dangling (is_id_of three) (Some (record { to = 4; edge = End })) ≡ true
+an_anchor_to_none_of_the_plan_dangles = refl

@@ -1,11 +1,12 @@
 -- When a plan is of a model.
-use Rattle.std.specs.Prelude.{◌≡◌, ℕ, zero, suc, ◌≤◌, ◌&&◌, Bool, true, false, IsTrue, List, [], ◌∷◌, Option, Some, None, option_and_then, option_map, nat_eq, nat_lt, length, map, slice_get, if◌then◌else◌}
+use Rattle.std.specs.Prelude.{◌≡◌, ℕ, zero, suc, ◌≤◌, ◌&&◌, not, Bool, true, false, IsTrue, List, [], ◌∷◌, Option, Some, None, option_and_then, option_map, nat_eq, nat_lt, length, map, slice_get, if◌then◌else◌}
 use Rattle.std.specs.List.{list_all, list_any}
 use Rattle.aerie_base.specs.declared.values.Kind.{Kind}
 use Rattle.aerie_base.specs.declared.values.Value.{Value}
 use Rattle.aerie_base.specs.declared.models.EnumType.{EnumType}
 use Rattle.aerie_base.specs.declared.models.Activity.{Activity}
 use Rattle.aerie_base.specs.declared.models.model.Parts.{Parts}
+use Rattle.aerie_base.specs.declared.plans.Anchor.{Anchor}
 use Rattle.aerie_base.specs.declared.plans.Directive.{Directive}
 use Rattle.aerie_base.specs.declared.plans.Plan.{Plan}
 use Rattle.aerie_base.specs.models.Signatures.{parameter_kinds}
@@ -66,9 +67,25 @@ abbrev pub followed : List Directive → ℕ → ℕ → Option ℕ
 followed directives zero id = Some id
 followed directives (suc steps) id = option_and_then (followed directives steps) (anchor_of directives id)
 
+-- the directive at a place, where there is one, is anchored to this id, or to none
+abbrev pub IsAnchorAt : List Directive → ℕ → Option ℕ → Type 0
+IsAnchorAt directives at anchor = (found : Directive) → slice_get directives at ≡ Some found → anchor ≡ anchored_to found
+
+-- whether one of some directives has the id
+abbrev pub is_id_of : List Directive → ℕ → Bool
+is_id_of directives id = list_any (nat_eq id) (ids_of directives)
+
+-- whether an id, where there is one, is one of these
+abbrev pub is_none_or : (ℕ → Bool) → Option ℕ → Bool
+is_none_or is_id None = true
+is_none_or is_id (Some id) = is_id id
+
 abbrev pub is_there : List Directive → Option ℕ → Bool
-is_there directives None = true
-is_there directives (Some id) = list_any (nat_eq id) (ids_of directives)
+is_there directives id = is_none_or (is_id_of directives) id
+
+-- whether an anchor is to none of these ids
+abbrev pub is_dangling : (ℕ → Bool) → Option Anchor → Bool
+is_dangling is_id anchor = not (is_none_or is_id (option_map (λ anchor. anchor.to) anchor))
 
 -- ---- plans
 

@@ -2,21 +2,26 @@
 --
 -- What rising ids give: each id is one directive's, so that a search by halves finds the one with an id; and ids still
 -- rise once a directive is put behind the last, taken out or changed.
-use Rattle.std.proofs.Common.{◌≡◌, ℕ, zero, suc, ◌<◌, ◌≤◌, Bool, true, false, ◌&&◌, IsTrue, List, [], ◌∷◌, ◌++◌, Some, None, option_map, slice_get, slice_set, nat_lt, refl, sym, ap, ◌∙◌, subst, true≢false, lt-ltb, ltb-true, eq-eqb, ne_eqb, lt_of_lt_of_le, lt_trans, ne_of_lt, not-suc-le-zero, le_of_suc-le-suc, if◌then◌else◌}
-use Rattle.std.specs.List.{remove}
+use Rattle.std.proofs.Common.{◌≡◌, ℕ, zero, suc, ◌<◌, ◌≤◌, Bool, true, false, ◌&&◌, ◌||◌, IsTrue, List, [], ◌∷◌, ◌++◌, Option, Some, None, option_map, slice_get, slice_set, nat_eq, nat_lt, refl, sym, ap, ◌∙◌, subst, true≢false, lt-ltb, ltb-true, eq-eqb, ne_eqb, lt_of_lt_of_le, lt_trans, ne_of_lt, not-suc-le-zero, le_of_suc-le-suc, if◌then◌else◌}
+use Rattle.std.specs.List.{remove, list_all, list_any}
+use Rattle.std.proofs.lemmas.List.Folds.{list_any-append}
 use Rattle.std.proofs.lemmas.Option.{none-some, same_Some}
 use Rattle.aerie_base.specs.declared.plans.Directive.{Directive}
-use Rattle.aerie_base.specs.plans.OfModel.{rise_to, ids_of, with_id}
+use Rattle.aerie_base.specs.plans.OfModel.{rise_to, ids_of, is_there, with_id}
 
 -- ---- both of two facts
 
-both : (a b : Bool) → IsTrue (a && b) → IsTrue a × IsTrue b
+pub both : (a b : Bool) → IsTrue (a && b) → IsTrue a × IsTrue b
 both true b h = (refl, h)
 both false b h = absurd (true≢false (sym h))
 
-and_too : (a b : Bool) → IsTrue a → IsTrue b → IsTrue (a && b)
+pub and_too : (a b : Bool) → IsTrue a → IsTrue b → IsTrue (a && b)
 and_too true b h k = k
 and_too false b h k = absurd (true≢false (sym h))
+
+pub or_first : (a b : Bool) → IsTrue a → IsTrue (a || b)
+or_first true b h = refl
+or_first false b h = absurd (true≢false (sym h))
 
 -- ---- ids
 
@@ -118,3 +123,18 @@ none_by_id [] id absent = refl
 none_by_id (directive ∷ rest) id absent =
     ap (λ (b : Bool). if b then Some directive else with_id rest id) (ne_eqb directive.id id (absent zero directive refl))
     ∙ none_by_id rest id (λ at found here. absent (suc at) found here)
+
+-- ---- one directive more
+
+-- an id that is there still is with one more
+pub there_more : (directives : List Directive) (more : Directive) (id : Option ℕ) → IsTrue (is_there directives id) → IsTrue (is_there (directives ++ more ∷ []) id)
+there_more directives more None h = refl
+there_more directives more (Some id) h =
+    ap (list_any (nat_eq id)) (ids_pushed directives more) ∙ list_any-append (nat_eq id) (ids_of directives) (more.id ∷ [])
+    ∙ or_first (list_any (nat_eq id) (ids_of directives)) (list_any (nat_eq id) (more.id ∷ [])) h
+
+pub all_pushed : (test : Directive → Bool) (directives : List Directive) (more : Directive) → IsTrue (list_all test directives) → IsTrue (test more) → IsTrue (list_all test (directives ++ more ∷ []))
+all_pushed test [] more all one = and_too (test more) true one refl
+all_pushed test (first ∷ rest) more all one =
+    let parts = both (test first) (list_all test rest) all in
+    and_too (test first) (list_all test (rest ++ more ∷ [])) parts.0 (all_pushed test rest more parts.1 one)

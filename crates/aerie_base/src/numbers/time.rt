@@ -1,4 +1,4 @@
-ghost use Rattle.std.specs.Prelude.{◌≡◌, pos};
+ghost use Rattle.std.specs.Prelude.{◌≡◌, ◌-◌, min, max, nat_le, nat_lt, pos};
 ghost use Rattle.aerie_base.specs.Ranges.{IsTime, time_of_signed};
 
 use crate::ranges::TIME_LIMIT;
@@ -47,5 +47,57 @@ impl Time {
         ensures range { IsTime self.now }
     {
         self.micros
+    }
+
+    /// The time 0, with which a plan starts.
+    pub fn zero() -> Time
+        ensures { result ≡ 0 }
+    {
+        Time { micros: 0 }
+    }
+
+    /// Whether it is no later than the other.
+    pub fn is_by(self, other: Time) -> bool
+        ensures { result ≡ nat_le self other }
+    {
+        self.micros <= other.micros
+    }
+
+    /// Whether it is before the other.
+    pub fn is_before(self, other: Time) -> bool
+        ensures { result ≡ nat_lt self other }
+    {
+        self.micros < other.micros
+    }
+
+    /// The earlier of the two.
+    pub fn earlier(self, other: Time) -> Time
+        ensures { result ≡ min self other }
+    {
+        if self.is_by(other) { self } else { other }
+    }
+
+    /// The later of the two.
+    pub fn later(self, other: Time) -> Time
+        ensures { result ≡ max self other }
+    {
+        if self.is_by(other) { other } else { self }
+    }
+
+    /// How long it is from this time to a later one; 0 if that is not later.
+    pub fn until(self, end: Time) -> Time
+        ensures { result ≡ end - self }
+    {
+        Time {
+            micros: (end.micros - self.micros).max(0),
+        }
+    }
+
+    /// The microseconds from this time to a later one; 0 if that is not later.
+    pub fn micros_until(self, end: Time) -> u128
+        ensures micros { result ≡ end - self }
+        ensures time { IsTime result }
+    {
+        self.until(end).micros as u128
     }
 }

@@ -5,7 +5,7 @@ use Rattle.aerie_base.specs.declared.plans.Plan.{Plan}
 use Rattle.aerie_base.specs.plans.OfModel.{is_there}
 use Rattle.hangar_core.specs.declared.actions.Action.TheVariants.{Drop}
 use Rattle.hangar_core.specs.declared.branches.Branch.{Branch}
-use Rattle.hangar_core.specs.declared.commands.Command.{Command}
+use Rattle.commands.specs.declared.commands.Command.{Command}
 use Rattle.hangar_core.specs.declared.workspaces.Workspace.{Workspace}
 use Rattle.hangar_core.specs.Fits.{Fits}
 use Rattle.hangar_core.specs.Journals.{Entries, after_entries}

@@ -5,7 +5,8 @@ ghost use Rattle.aerie_base.specs.Paths.{may_have_children};
 ghost use Rattle.run_data.specs.Frames.{child_job};
 ghost use Rattle.run_data.specs.laws.Generations.{child_jobs, deep_frame};
 ghost use Rattle.engine_core.specs.BatchDues.{fresh, deep_children};
-ghost use Rattle.engine_core.specs.BatchViews.{seen_after, CanEmit, CanEmitAll};
+ghost use Rattle.run_data.specs.StepStates.{after_item, after_items};
+ghost use Rattle.engine_core.specs.BatchViews.{CanEmit, CanEmitAll};
 
 use crate::beginnings::activity_state;
 use crate::ready_jobs::ReadyJobs;
@@ -17,7 +18,7 @@ use std::alloc::Global;
 /// Applies the effect that an item is; a child is none.
 fn emit(cells: &mut Cells, item: &Item)
     requires { CanEmit cells.old item.now }
-    ensures { cells.new ≡ seen_after cells.old (item.now ∷ []) }
+    ensures { cells.new ≡ after_item cells.old item.now }
 {
     match item {
         Item::Emit { cell, effect } => cells.emit(*cell, effect),
@@ -32,7 +33,7 @@ fn seen_after(
     items: &[Item],
 ) -> Result<Shared<Cells>, OutOfMemory>
     requires { CanEmitAll view.now items.now }
-    ensures { IfOk result (λ seen. seen ≡ seen_after view.now items.now) }
+    ensures { IfOk result (λ seen. seen ≡ after_items view.now items.now) }
 {
     if items.is_empty() {
         return view.share();

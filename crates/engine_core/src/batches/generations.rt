@@ -5,7 +5,7 @@ ghost use Rattle.aerie_base.specs.Ranges.{step_limit};
 ghost use Rattle.run_data.specs.Batches.{cost_of};
 ghost use Rattle.run_data.specs.Waves.{last_count};
 ghost use Rattle.engine_core.specs.BatchDues.{AreSeenSteps, IsSeenStep};
-ghost use Rattle.engine_core.specs.BatchGenerations.{AddsGeneration, MayRun, IsTurn, PaysForTurn, LooksForTurn, PaysForAll, LooksForAll, Ran, AreDueJobs, AreAllFrames, AddsFrame, HaveRoomForChildren, jobs_of};
+ghost use Rattle.engine_core.specs.BatchGenerations.{AddsGeneration, MayRun, IsGenerationRun, PaysForGeneration, LooksForGeneration, PaysForAll, LooksForAll, Ran, AreDueJobs, AreAllFrames, AddsFrame, HaveRoomForChildren, jobs_of};
 
 use super::children::{deep_frames, with_children};
 use crate::ready_jobs::ReadyJobs;
@@ -165,11 +165,11 @@ fn run_generation<S: Stepper, L: Ledger, K: Ledger>(
     requires bound { bound ≤ step_limit }
     requires fuel { fuel ≤ bound }
     requires jobs { MayRun model.now bound jobs.now }
-    ensures turn { IfOk result (λ next. IsTurn model.now jobs.now fuel made.old.items made.new.items next) }
-    ensures pays { IfOk result (λ next. PaysForTurn next (S.records stepper.old) made.old.items made.new.items steps.old steps.new) }
-    ensures few_looks { IfOk result (λ next. LooksForTurn next made.old.items made.new.items looks.old looks.new) }
+    ensures iteration { IfOk result (λ next. IsGenerationRun model.now jobs.now fuel made.old.items made.new.items next) }
+    ensures pays { IfOk result (λ next. PaysForGeneration next (S.records stepper.old) made.old.items made.new.items steps.old steps.new) }
+    ensures few_looks { IfOk result (λ next. LooksForGeneration next made.old.items made.new.items looks.old looks.new) }
     ensures ran { Ran (S.is_of stepper.old) (S.is_of stepper.new) (S.records stepper.old) (S.records stepper.new)
-        (S.anchor stepper.old) (S.anchor stepper.new) (S.opened stepper.old) steps.old looks.old
+        (S.address stepper.old) (S.address stepper.new) (S.opened stepper.old) steps.old looks.old
         (S.opened stepper.new) steps.new looks.new }
 {
     waves_go_by_what_is_left();
@@ -204,7 +204,7 @@ pub(super) fn all_frames<S: Stepper, L: Ledger, K: Ledger>(
     ensures pays { IfOk result (λ frames. PaysForAll (option_map (λ all. all.items) frames) (S.records stepper.old) steps.old steps.new) }
     ensures few_looks { IfOk result (λ frames. LooksForAll (option_map (λ all. all.items) frames) looks.old looks.new) }
     ensures ran { Ran (S.is_of stepper.old) (S.is_of stepper.new) (S.records stepper.old) (S.records stepper.new)
-        (S.anchor stepper.old) (S.anchor stepper.new) (S.opened stepper.old) steps.old looks.old
+        (S.address stepper.old) (S.address stepper.new) (S.opened stepper.old) steps.old looks.old
         (S.opened stepper.new) steps.new looks.new }
 {
     same_by_generations();
@@ -220,7 +220,7 @@ pub(super) fn all_frames<S: Stepper, L: Ledger, K: Ledger>(
     let Some((mut dues, mut left)) = first else {
         return Ok(None);
     };
-    for turn in 0..CHILD_LIMIT {
+    for iteration in 0..CHILD_LIMIT {
         if dues.len() == 0 {
             return Ok(Some(made));
         }

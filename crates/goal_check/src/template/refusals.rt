@@ -4,19 +4,19 @@
 ghost use Rattle.std.specs.Prelude.{◌≡◌, ◌≤◌, OnOk, IsTrue, Some, [], length, option_copied, slice_get};
 ghost use Rattle.std.specs.List.{list_all};
 ghost use Rattle.aerie_base.specs.plans.OfModel.{takes};
-ghost use Rattle.rule_check.specs.Refusals.{found_with, first_of_refusals};
+ghost use Rattle.rule_check.specs.Refusals.{noted, first_diagnostic};
 ghost use Rattle.rule_check.specs.RuleLiterals.{activity_named};
 ghost use Rattle.goal_check.specs.TemplateRefusals.{has_argument, is_kind_if_known, refusals_of_value, refusals_of_argument, refusals_of_arguments_from, is_given_or_default, refusals_of_given, refusals_of_requires, refusals_of_meant, refusals_by_type, refusals_of_template};
 
 use crate::template::meaning::meant_template;
 use aerie_base::{Activity, Kind, Model, Name, OutOfMemory, Parameter};
+use diagnostics::{Diagnostic, note, note_unless};
 use goals::Template;
 use model_reader::{RawLiteral, RawName};
 use plan_edit::unmet_require;
 use rule_check::laws::read_parts_are_of_models;
 use rule_check::{
-    RuleRefusal, WrongRule, activity_named, is_of_kind, judge_literal, known_parameter,
-    literal_kind, refuse, refuse_unless,
+    WrongRule, activity_named, is_of_kind, judge_literal, known_parameter, literal_kind,
 };
 use rule_grammar::RawTemplate;
 use std::alloc::Global;
@@ -43,33 +43,33 @@ fn judge_value(
     name: &RawName,
     value: &RawLiteral,
     parameter: Option<&Parameter>,
-    found: &mut Option<RuleRefusal>,
+    found: &mut Option<Diagnostic<WrongRule>>,
 )
-    ensures { found.new ≡ found_with found.old (refusals_of_value model.now name.now value.now (option_copied parameter.entry)) }
+    ensures { found.new ≡ noted found.old (refusals_of_value model.now name.now value.now (option_copied parameter.entry)) }
 {
     match parameter {
-        None => refuse(found, WrongRule::Unknown, name.at),
+        None => note(found, name.at, WrongRule::Unknown),
         Some(parameter) => {
             let fits = is_kind_if_known(literal_kind(model, &value.what), parameter.kind);
-            refuse_unless(fits, found, WrongRule::WrongType, name.at);
+            note_unless(fits, found, name.at, WrongRule::WrongType);
         }
     }
 }
 
 /// Judges an argument behind others.
-#[tactic(auto, using(rule_check::specs::RefusalLaws::found_with_both))]
+#[tactic(auto, using(diagnostics::specs::NotedInTurn::noted_appended))]
 fn judge_argument(
     model: &Model,
     parameters: &[Parameter],
     others: &[(RawName, RawLiteral)],
     argument: &(RawName, RawLiteral),
-    found: &mut Option<RuleRefusal>,
+    found: &mut Option<Diagnostic<WrongRule>>,
 )
-    ensures { found.new ≡ found_with found.old (refusals_of_argument model.now parameters.now others.now argument.now) }
+    ensures { found.new ≡ noted found.old (refusals_of_argument model.now parameters.now others.now argument.now) }
 {
     let (name, value) = argument;
     let is_new = !has_argument(others, &name.name);
-    refuse_unless(is_new, found, WrongRule::Duplicate, name.at);
+    note_unless(is_new, found, name.at, WrongRule::Duplicate);
     judge_value(
         model,
         name,
@@ -86,8 +86,8 @@ fn refused_argument(
     parameters: &[Parameter],
     others: &[(RawName, RawLiteral)],
     argument: &(RawName, RawLiteral),
-) -> Option<RuleRefusal>
-    ensures { result ≡ first_of_refusals (refusals_of_argument model.now parameters.now others.now argument.now) }
+) -> Option<Diagnostic<WrongRule>>
+    ensures { result ≡ first_diagnostic (refusals_of_argument model.now parameters.now others.now argument.now) }
 {
     let mut found = None;
     judge_argument(model, parameters, others, argument, &mut found);
@@ -100,10 +100,10 @@ fn judge_arguments(
     parameters: &[Parameter],
     arguments: &[(RawName, RawLiteral)],
     at: usize,
-    found: &mut Option<RuleRefusal>,
+    found: &mut Option<Diagnostic<WrongRule>>,
 )
     requires there { at ≤ length arguments.now }
-    ensures { found.new ≡ found_with found.old (refusals_of_arguments_from model.now parameters.now at arguments.now) }
+    ensures { found.new ≡ noted found.old (refusals_of_arguments_from model.now parameters.now at arguments.now) }
 {
     let (others, rest) = arguments.split_at(at);
     match rest.split_first() {
@@ -136,25 +136,29 @@ fn are_given_or_default(arguments: &[(RawName, RawLiteral)], parameters: &[Param
 }
 
 /// Judges what is given for a type.
-#[tactic(auto, using(rule_check::specs::RefusalLaws::found_with_both))]
+#[tactic(auto, using(diagnostics::specs::NotedInTurn::noted_appended))]
 fn judge_given(
     model: &Model,
     activity: &Activity,
     template: &RawTemplate,
-    found: &mut Option<RuleRefusal>,
+    found: &mut Option<Diagnostic<WrongRule>>,
 )
-    ensures { found.new ≡ found_with found.old (refusals_of_given model.now activity.now template.now) }
+    ensures { found.new ≡ noted found.old (refusals_of_given model.now activity.now template.now) }
 {
     let parameters = activity.parameters.as_slice();
     let arguments = template.arguments.as_slice();
     let is_whole = are_given_or_default(arguments, parameters);
-    refuse_unless(is_whole, found, WrongRule::WrongType, template.kind.at);
+    note_unless(is_whole, found, template.kind.at, WrongRule::WrongType);
     judge_arguments(model, parameters, arguments, 0, found);
 }
 
 /// What is refused first of what is given for a type.
-fn refused_given(model: &Model, activity: &Activity, template: &RawTemplate) -> Option<RuleRefusal>
-    ensures { result ≡ first_of_refusals (refusals_of_given model.now activity.now template.now) }
+fn refused_given(
+    model: &Model,
+    activity: &Activity,
+    template: &RawTemplate,
+) -> Option<Diagnostic<WrongRule>>
+    ensures { result ≡ first_diagnostic (refusals_of_given model.now activity.now template.now) }
 {
     let mut found = None;
     judge_given(model, activity, template, &mut found);
@@ -166,13 +170,13 @@ fn judge_requires(
     model: &Model,
     kind: &RawName,
     template: &Template,
-    found: &mut Option<RuleRefusal>,
+    found: &mut Option<Diagnostic<WrongRule>>,
 )
     requires { IsTrue (takes model.now.enums (slice_get model.now.activities template.now.kind) template.now.arguments) }
-    ensures { found.new ≡ found_with found.old (refusals_of_requires model.now kind.now template.now) }
+    ensures { found.new ≡ noted found.old (refusals_of_requires model.now kind.now template.now) }
 {
     let is_met = unmet_require(model, template.kind, template.arguments.as_slice()).is_none();
-    refuse_unless(is_met, found, WrongRule::Invalid, kind.at);
+    note_unless(is_met, found, kind.at, WrongRule::Invalid);
 }
 
 /// Judges a template for a type of which nothing else is refused.
@@ -181,11 +185,11 @@ fn judge_good(
     model: &Model,
     template: &RawTemplate,
     activity: &Activity,
-    found: &mut Option<RuleRefusal>,
+    found: &mut Option<Diagnostic<WrongRule>>,
 ) -> Result<(), OutOfMemory>
     requires named { activity_named model.now template.now.kind.name ≡ Some activity.now }
     requires given { refusals_of_given model.now activity.now template.now ≡ [] }
-    ensures { OnOk result (found.new ≡ found_with found.old (refusals_of_meant model.now template.now)) }
+    ensures { OnOk result (found.new ≡ noted found.old (refusals_of_meant model.now template.now)) }
 {
     read_parts_are_of_models();
     let _ = model.name();
@@ -200,10 +204,10 @@ fn judge_for(
     model: &Model,
     template: &RawTemplate,
     activity: &Activity,
-    found: &mut Option<RuleRefusal>,
+    found: &mut Option<Diagnostic<WrongRule>>,
 ) -> Result<(), OutOfMemory>
     requires { activity_named model.now template.now.kind.name ≡ Some activity.now }
-    ensures { OnOk result (found.new ≡ found_with found.old (refusals_by_type model.now template.now (Some activity.now))) }
+    ensures { OnOk result (found.new ≡ noted found.old (refusals_by_type model.now template.now (Some activity.now))) }
 {
     match refused_given(model, activity, template) {
         Some(_) => {
@@ -220,14 +224,14 @@ fn judge_by_type(
     model: &Model,
     template: &RawTemplate,
     activity: Option<&Activity>,
-    found: &mut Option<RuleRefusal>,
+    found: &mut Option<Diagnostic<WrongRule>>,
 ) -> Result<(), OutOfMemory>
     requires { activity_named model.now template.now.kind.name ≡ option_copied activity }
-    ensures { OnOk result (found.new ≡ found_with found.old (refusals_by_type model.now template.now (option_copied activity.entry))) }
+    ensures { OnOk result (found.new ≡ noted found.old (refusals_by_type model.now template.now (option_copied activity.entry))) }
 {
     match activity {
         None => {
-            refuse(found, WrongRule::Unknown, template.kind.at);
+            note(found, template.kind.at, WrongRule::Unknown);
             Ok(())
         }
         Some(activity) => judge_for(alloc, model, template, activity, found),
@@ -239,9 +243,9 @@ pub(crate) fn judge_template(
     alloc: Global,
     model: &Model,
     template: &RawTemplate,
-    found: &mut Option<RuleRefusal>,
+    found: &mut Option<Diagnostic<WrongRule>>,
 ) -> Result<(), OutOfMemory>
-    ensures { OnOk result (found.new ≡ found_with found.old (refusals_of_template model.now template.now)) }
+    ensures { OnOk result (found.new ≡ noted found.old (refusals_of_template model.now template.now)) }
 {
     let activity = activity_named(model, &template.kind.name);
     judge_by_type(alloc, model, template, activity, found)

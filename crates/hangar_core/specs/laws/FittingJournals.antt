@@ -1,6 +1,6 @@
 -- Journals that fit.
 use Rattle.std.specs.Prelude.{◌≡◌, List, ◌++◌, map}
-use Rattle.hangar_core.specs.declared.commands.Command.{Command}
+use Rattle.commands.specs.declared.commands.Command.{Command}
 use Rattle.hangar_core.specs.declared.workspaces.Workspace.{Workspace}
 use Rattle.hangar_core.specs.Fits.{Fits, Meanings, triple_of}
 use Rattle.hangar_core.specs.Journals.{Entries, IsReplay}
@@ -12,7 +12,7 @@ TriplesTellAll = (meanings : Meanings) (first : Workspace) (clients : List (List
     Fits meanings first clients entries → Fits meanings first clients others →
     map triple_of entries ≡ map triple_of others → entries ≡ others
 
--- the journal of clients who take turns fits
+-- the journal of clients in rounds fits
 abbrev pub SerialFits : Type 0
 SerialFits = (meanings : Meanings) (first : Workspace) (clients : List (List Command)) →
     Fits meanings first clients (serial meanings first clients)

@@ -1,7 +1,7 @@
 -- An action on one branch looks at that branch alone.
 use Rattle.std.specs.Prelude.{◌≡◌, ℕ, List, Option, Some, None}
 use Rattle.hangar_core.specs.declared.actions.Action.{Action}
-use Rattle.hangar_core.specs.declared.actions.Action.TheVariants.{New, Fork, Drop, Add, Remove, Move, Set, Load, Migrate, Fetch, Attach, Place}
+use Rattle.hangar_core.specs.declared.actions.Action.TheVariants.{New, Fork, Drop, Edit, Migrate, Fetch, Attach, Place}
 use Rattle.hangar_core.specs.declared.workspaces.Workspace.{Workspace}
 use Rattle.hangar_core.specs.Steps.{step}
 use Rattle.hangar_core.specs.Workspaces.{branch_named}
@@ -11,11 +11,7 @@ abbrev pub only_branch : Action → Option (List ℕ)
 only_branch (New branch) = None
 only_branch (Fork branch source) = None
 only_branch (Drop branch) = Some branch
-only_branch (Add branch at kind arguments) = Some branch
-only_branch (Remove branch id) = Some branch
-only_branch (Move branch id at) = Some branch
-only_branch (Set branch id parameter value) = Some branch
-only_branch (Load branch text) = Some branch
+only_branch (Edit branch edit) = Some branch
 only_branch (Migrate branch model) = Some branch
 only_branch (Fetch branch) = Some branch
 only_branch (Attach branch kept) = Some branch

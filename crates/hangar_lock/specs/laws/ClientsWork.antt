@@ -1,12 +1,12 @@
 -- How the work of a client goes on.
 use Rattle.std.specs.Prelude.{◌≡◌, ℕ, ◌+◌, ◌<◌, List, [], ◌∷◌, ◌++◌, length, take, Some, None, slice_index_or}
 use Rattle.hangar_core.specs.declared.actions.Action.{Action}
-use Rattle.hangar_core.specs.declared.commands.Command.{Command}
+use Rattle.commands.specs.declared.commands.Command.{Command}
 use Rattle.hangar_core.specs.declared.replies.Reply.{Reply}
 use Rattle.hangar_core.specs.Fits.{Meanings, next_action}
 use Rattle.hangar_lock.specs.declared.receipts.Receipt.{Receipt}
 use Rattle.hangar_lock.specs.Passes.{HasActed, PassView}
-use Rattle.hangar_lock.specs.Works.{HasBegun, HasDone, HasWorked}
+use Rattle.hangar_lock.specs.ClientEntries.{HasBegun, HasDone, HasWorked}
 
 -- a command of which nothing was done has begun
 abbrev pub CommandsBegin : Type 0

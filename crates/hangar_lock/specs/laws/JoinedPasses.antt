@@ -1,12 +1,13 @@
 -- From the passes of all clients to a journal that fits.
-use Rattle.std.specs.Prelude.{◌≡◌, ℕ, ◌+◌, List, [], ◌∷◌, ◌++◌, length, Some, slice_get}
-use Rattle.hangar_core.specs.declared.commands.Command.{Command}
+use Rattle.std.specs.Prelude.{◌≡◌, ℕ, ◌+◌, List, [], ◌∷◌, ◌++◌, length, map, Some, slice_get}
+use Rattle.std.specs.List.{filter}
+use Rattle.commands.specs.declared.commands.Command.{Command}
 use Rattle.hangar_core.specs.declared.workspaces.Workspace.{Workspace}
-use Rattle.hangar_core.specs.Fits.{commands_of, Fits, Meanings}
+use Rattle.hangar_core.specs.Fits.{commands_of, Fits, is_of_client, Meanings}
 use Rattle.hangar_core.specs.Journals.{Entries, IsReplay}
 use Rattle.hangar_lock.specs.Passes.{IsWhole, joined_with, PassView}
 use Rattle.hangar_lock.specs.Places.{HaveAllOf, Places, StandIn}
-use Rattle.hangar_lock.specs.Works.{HasWorked}
+use Rattle.hangar_lock.specs.ClientEntries.{HasWorked, own_entry}
 
 -- a client's commands were done with a pass, and nothing else
 pub record HasWorkedAlone (meanings : Meanings) (client : ℕ) (commands : List Command) (pass : PassView) : Type 0 where
@@ -31,6 +32,13 @@ JoinedPassesFit = (meanings : Meanings) (opened : Workspace) (clients : List (Li
     (passes : List PassView) (journal : Entries) →
     AreWorked meanings clients passes → IsReplay opened journal →
     StandIn (all_mine passes) journal → HaveAllOf (all_mine passes) journal → Fits meanings opened clients journal
+
+-- and the entries of a client's pass are those of the journal that are the client's
+abbrev pub PassesHaveTheirEntries : Type 0
+PassesHaveTheirEntries = (meanings : Meanings) (clients : List (List Command)) (passes : List PassView) (journal : Entries) →
+    AreWorked meanings clients passes → StandIn (all_mine passes) journal → HaveAllOf (all_mine passes) journal →
+    (client : ℕ) (pass : PassView) → slice_get passes client ≡ Some pass →
+    map own_entry pass.mine ≡ filter (is_of_client client) journal
 
 -- ---- passes split from the first one, and joined into it again
 

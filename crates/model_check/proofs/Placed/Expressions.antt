@@ -5,7 +5,8 @@ use Rattle.aerie_base.specs.declared.values.Kind.{Kind}
 use Rattle.aerie_base.specs.declared.values.Kind.TheVariants.{Int, Truth}
 use Rattle.model_reader.specs.declared.raw.expressions.RawExpr.{RawExpr}
 use Rattle.model_reader.specs.declared.raw.expressions.RawExprKind.{RawExprKind, Literal, Read, Not', Negate', Binary', Row_of-RawExpr, end_of-RawExpr, more_of-RawExpr}
-use Rattle.model_check.specs.declared.diagnostics.Diagnostic.{Diagnostic}
+use Rattle.diagnostics.specs.declared.diagnostic.Diagnostic.{Diagnostic}
+use Rattle.model_check.specs.declared.causes.Cause.{Cause}
 use Rattle.model_check.specs.declared.scopes.BodyScope.{BodyScope}
 use Rattle.model_check.specs.declared.symbols.Symbols.{Symbols}
 use Rattle.model_check.specs.Expressions.{raw_kind, side_kind_of, is_wanted, sides_diagnostics, expr_diagnostics_step, expr_diagnostics, typed_diagnostics}
@@ -44,11 +45,11 @@ module _ (P : Place → Type 0) where
   first_of raw all = own_place raw.at raw.what all
 
   module _ (symbols : Symbols) (scope : BodyScope) where
-    abbrev judged : Place → RawExprKind → List Diagnostic
-    judged = raw_gives (List Diagnostic) [] (expr_diagnostics_step symbols scope)
+    abbrev judged : Place → RawExprKind → List (Diagnostic Cause)
+    judged = raw_gives (List (Diagnostic Cause)) [] (expr_diagnostics_step symbols scope)
 
-    abbrev row_judged : {m : _} → Row_of-RawExpr m → RawExpr × List Diagnostic
-    row_judged = raw_row_gives (List Diagnostic) [] (expr_diagnostics_step symbols scope)
+    abbrev row_judged : {m : _} → Row_of-RawExpr m → RawExpr × List (Diagnostic Cause)
+    row_judged = raw_row_gives (List (Diagnostic Cause)) [] (expr_diagnostics_step symbols scope)
 
     pub wanted_placed : (wanted : Kind) (part : RawExpr) → P part.at → Stand P (is_wanted symbols scope wanted part)
     wanted_placed wanted part is = mismatched P part.at (Some wanted) (raw_kind symbols scope part.what) is
@@ -62,15 +63,15 @@ module _ (P : Place → Type 0) where
       judged_placed at (Literal literal) all = literal_placed P symbols.enums literal all.1
       judged_placed at (Read read) all = read_placed P symbols scope read all.1.0
       judged_placed at (Not' _ inner) all =
-          stand_both P (row_judged inner).1 _ (row_stands inner all.1) (wanted_placed Truth (row_judged inner).0 (row_place (List Diagnostic) [] (expr_diagnostics_step symbols scope) inner all.1))
+          stand_both P (row_judged inner).1 _ (row_stands inner all.1) (wanted_placed Truth (row_judged inner).0 (row_place (List (Diagnostic Cause)) [] (expr_diagnostics_step symbols scope) inner all.1))
       judged_placed at (Negate' _ inner) all =
-          stand_both P (row_judged inner).1 _ (row_stands inner all.1) (wanted_placed Int (row_judged inner).0 (row_place (List Diagnostic) [] (expr_diagnostics_step symbols scope) inner all.1))
+          stand_both P (row_judged inner).1 _ (row_stands inner all.1) (wanted_placed Int (row_judged inner).0 (row_place (List (Diagnostic Cause)) [] (expr_diagnostics_step symbols scope) inner all.1))
       judged_placed at (Binary' operator _ left _ right) all =
           let one = in_front P (row_placed left).1 (row_placed right).1 all.1 in
           let two = behind P (row_placed left).1 (row_placed right).1 all.1 in
           stand_both P ((row_judged left).1 ++ (row_judged right).1) _ (stand_both P (row_judged left).1 (row_judged right).1 (row_stands left one) (row_stands right two))
           (sides_placed (side_kind_of operator) (row_judged left).0 (row_judged right).0
-          (row_place (List Diagnostic) [] (expr_diagnostics_step symbols scope) left one) (row_place (List Diagnostic) [] (expr_diagnostics_step symbols scope) right two))
+          (row_place (List (Diagnostic Cause)) [] (expr_diagnostics_step symbols scope) left one) (row_place (List (Diagnostic Cause)) [] (expr_diagnostics_step symbols scope) right two))
 
       row_stands : {m : _} (row : Row_of-RawExpr m) → Places P (row_placed row).1 → Stand P (row_judged row).1
       row_stands end_of-RawExpr all = tt

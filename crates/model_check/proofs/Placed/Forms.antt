@@ -12,8 +12,9 @@ use Rattle.model_reader.specs.declared.raw.expressions.RawExprKind.{RawExprKind,
 use Rattle.model_reader.specs.declared.raw.literals.RawLiteralKind.{RawLiteralKind}
 use Rattle.model_reader.specs.declared.raw.literals.RawLiteralKind.TheVariants as literal
 use Rattle.model_reader.specs.declared.raw.reads.RawRead.{RawRead}
-use Rattle.model_check.specs.declared.diagnostics.Cause.TheVariants.{OutOfRange, TooManyTerms}
-use Rattle.model_check.specs.declared.diagnostics.Diagnostic.{Diagnostic}
+use Rattle.model_check.specs.declared.causes.Cause.TheVariants.{OutOfRange, TooManyTerms}
+use Rattle.diagnostics.specs.declared.diagnostic.Diagnostic.{Diagnostic}
+use Rattle.model_check.specs.declared.causes.Cause.{Cause}
 use Rattle.model_check.specs.declared.leaves.FormUse.{FormUse}
 use Rattle.model_check.specs.declared.leaves.FormUse.TheVariants.{Comparison, Resource}
 use Rattle.model_check.specs.declared.leaves.Leaf.{Leaf}
@@ -132,11 +133,11 @@ module _ (P : Place → Type 0) where
   -- ---- conditions
 
   module _ (symbols : Symbols) (scope : BodyScope) where
-    abbrev cond_judged : Place → RawExprKind → List Diagnostic
-    cond_judged = raw_gives (List Diagnostic) [] (cond_diagnostics_step symbols scope)
+    abbrev cond_judged : Place → RawExprKind → List (Diagnostic Cause)
+    cond_judged = raw_gives (List (Diagnostic Cause)) [] (cond_diagnostics_step symbols scope)
 
-    abbrev row_cond_judged : {m : _} → Row_of-RawExpr m → RawExpr × List Diagnostic
-    row_cond_judged = raw_row_gives (List Diagnostic) [] (cond_diagnostics_step symbols scope)
+    abbrev row_cond_judged : {m : _} → Row_of-RawExpr m → RawExpr × List (Diagnostic Cause)
+    row_cond_judged = raw_row_gives (List (Diagnostic Cause)) [] (cond_diagnostics_step symbols scope)
 
     side_placed : (raw : RawExpr) → Places P (expr_places raw) → Stand P (side_diagnostics symbols scope raw)
     side_placed raw all = unless P (is_side symbols scope raw.what) _ raw.at (first_of P raw all)
@@ -159,8 +160,8 @@ module _ (P : Place → Type 0) where
           (row_cond_stands right (behind P (row_placed left).1 (row_placed right).1 all.1))
       cond_stands at (Binary' (operator.Compare how) _ left _ right) all =
           compared_placed (row_cond_judged left).0 (row_cond_judged right).0 (forms_compared symbols scope how (row_cond_judged left).0 (row_cond_judged right).0)
-          (row_expr P (List Diagnostic) [] (cond_diagnostics_step symbols scope) left (in_front P (row_placed left).1 (row_placed right).1 all.1))
-          (row_expr P (List Diagnostic) [] (cond_diagnostics_step symbols scope) right (behind P (row_placed left).1 (row_placed right).1 all.1))
+          (row_expr P (List (Diagnostic Cause)) [] (cond_diagnostics_step symbols scope) left (in_front P (row_placed left).1 (row_placed right).1 all.1))
+          (row_expr P (List (Diagnostic Cause)) [] (cond_diagnostics_step symbols scope) right (behind P (row_placed left).1 (row_placed right).1 all.1))
       cond_stands at (Binary' operator.Plus _ left _ right) all = (all.0, tt)
       cond_stands at (Binary' operator.Minus _ left _ right) all = (all.0, tt)
       cond_stands at (Binary' operator.Times _ left _ right) all = (all.0, tt)

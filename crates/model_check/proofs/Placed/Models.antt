@@ -18,7 +18,7 @@ use Rattle.model_reader.specs.declared.raw.reads.RawPart.{RawPart}
 use Rattle.model_reader.specs.declared.raw.reads.RawPart.TheVariants.{Whole, Volume, Rate, Conflicted}
 use Rattle.model_reader.specs.declared.raw.statements.RawStmt.{RawStmt}
 use Rattle.model_reader.specs.declared.raw.types.RawType.{RawType}
-use Rattle.model_check.specs.declared.diagnostics.Cause.TheVariants.{Duplicate, WrongType, OutOfRange}
+use Rattle.model_check.specs.declared.causes.Cause.TheVariants.{Duplicate, WrongType, OutOfRange}
 use Rattle.model_check.specs.declared.leaves.FormUse.TheVariants.{Resource}
 use Rattle.model_check.specs.declared.scopes.BodyScope.{BodyScope}
 use Rattle.model_check.specs.declared.symbols.CellSymbol.{CellSymbol}
@@ -26,12 +26,12 @@ use Rattle.model_check.specs.declared.symbols.Symbols.{Symbols}
 use Rattle.model_check.specs.declared.tables.NameTable.{NameTable}
 use Rattle.model_check.specs.BodyScopes.{empty_scope, with_new_local, local_diagnostics}
 use Rattle.model_check.specs.CellReads.{FoundCell, read_diagnostics}
-use Rattle.model_check.specs.Diagnostics.{refused_unless}
+use Rattle.diagnostics.specs.Diagnostics.{refused_unless}
 use Rattle.model_check.specs.Expressions.{expr_diagnostics, typed_diagnostics}
 use Rattle.model_check.specs.Literals.{literal_kind, literal_diagnostics}
 use Rattle.model_check.specs.ModelDiagnostics.{repeated_diagnostics, shared_name, resource_name, names_in, typed_literal_diagnostics, rate_diagnostics, shown_diagnostics, default_diagnostics, parameter_diagnostics, parameter_scope, parameters_diagnostics, result_type_diagnostics, requires_diagnostics, returns_at_end, end_diagnostics, item_diagnostics, items_diagnostics, model_diagnostics}
 use Rattle.model_check.specs.ModelSymbols.{Enums, type_kind, type_diagnostics, with_enum_symbol, enum_symbols_from, with_cell_symbol, cell_symbols_from, result_symbol, symbols_of, bare_symbols}
-use Rattle.model_check.specs.NameLists.{with_name}
+use Rattle.diagnostics.specs.NameLists.{with_name}
 use Rattle.model_check.specs.NameTables.{no_entries, with_entry, entry_in}
 use Rattle.model_check.specs.RawPlaces.{places_in_all, places_if_any, name_places, type_places, literal_places, expr_places, parameter_places, item_places, model_places, IsPlaceOf}
 use Rattle.model_check.proofs.Placed.Parts.{in_front, behind, in_both, Places, Stand, stand_both, unless, mismatched, literal_placed, type_placed, read_placed}

@@ -12,8 +12,8 @@ use Rattle.model_reader.specs.declared.raw.reads.RawPart.TheVariants.{Whole, Vol
 use Rattle.model_reader.specs.declared.raw.reads.RawRead.{RawRead}
 use Rattle.model_reader.specs.declared.raw.types.RawType.{RawType}
 use Rattle.model_reader.specs.declared.raw.types.RawType.TheVariants as type
-use Rattle.model_check.specs.declared.diagnostics.Cause.{Cause}
-use Rattle.model_check.specs.declared.diagnostics.Diagnostic.{Diagnostic}
+use Rattle.model_check.specs.declared.causes.Cause.{Cause}
+use Rattle.diagnostics.specs.declared.diagnostic.Diagnostic.{Diagnostic}
 use Rattle.model_check.specs.declared.scopes.BodyScope.{BodyScope}
 use Rattle.model_check.specs.declared.symbols.CellSort.{CellSort}
 use Rattle.model_check.specs.declared.symbols.CellSort.TheVariants.{Counter, Register, Accumulator}
@@ -21,10 +21,10 @@ use Rattle.model_check.specs.declared.symbols.EnumSymbol.{EnumSymbol}
 use Rattle.model_check.specs.declared.symbols.Symbols.{Symbols}
 use Rattle.model_check.specs.declared.tables.NameTable.{NameTable}
 use Rattle.model_check.specs.CellReads.{FoundLocal, FoundCell, whole_sort, flow_sort, flag_sort, on_cell, part_diagnostics, read_diagnostics}
-use Rattle.model_check.specs.Diagnostics.{refused_unless}
+use Rattle.diagnostics.specs.Diagnostics.{refused_unless}
 use Rattle.model_check.specs.Literals.{mismatch, no_variant, variant_diagnostics, literal_diagnostics}
 use Rattle.model_check.specs.ModelSymbols.{Enums, known_enum, type_diagnostics}
-use Rattle.model_check.specs.NameLists.{name_number}
+use Rattle.diagnostics.specs.NameLists.{name_number}
 use Rattle.model_check.specs.NameTables.{numbered_value, entry_in}
 use Rattle.model_check.specs.RawPlaces.{literal_names, type_places}
 
@@ -69,10 +69,10 @@ module _ (P : Place → Type 0) where
   Places = AllByRecursion P
 
   -- each of these refusals stands at one
-  abbrev pub Stand : List Diagnostic → Type 0
+  abbrev pub Stand : List (Diagnostic Cause) → Type 0
   Stand = AllByRecursion (λ refusal. P refusal.place)
 
-  pub stand_both : (xs ys : List Diagnostic) → Stand xs → Stand ys → Stand (xs ++ ys)
+  pub stand_both : (xs ys : List (Diagnostic Cause)) → Stand xs → Stand ys → Stand (xs ++ ys)
   stand_both xs ys one two = in_both (λ refusal. P refusal.place) xs ys one two
 
   pub unless : (holds : Bool) (cause : Cause) (at : Place) → P at → Stand (refused_unless holds cause at)
@@ -111,7 +111,7 @@ module _ (P : Place → Type 0) where
   -- ---- reads
 
   -- a test of a cell refuses at the place that it is given
-  abbrev pub Judges : (Place → CellSort → List Diagnostic) → Type 0
+  abbrev pub Judges : (Place → CellSort → List (Diagnostic Cause)) → Type 0
   Judges judged = (at : Place) (sort : CellSort) → P at → Stand (judged at sort)
 
   whole_judges : Judges whole_sort
@@ -129,7 +129,7 @@ module _ (P : Place → Type 0) where
   flag_judges at (Register kind) is = tt
   flag_judges at Accumulator is = (is, tt)
 
-  pub cell_placed : (judged : Place → CellSort → List Diagnostic) → Judges judged → (at : Place) (cell : FoundCell) → P at → Stand (on_cell judged at cell)
+  pub cell_placed : (judged : Place → CellSort → List (Diagnostic Cause)) → Judges judged → (at : Place) (cell : FoundCell) → P at → Stand (on_cell judged at cell)
   cell_placed judged judges at None is = (is, tt)
   cell_placed judged judges at (Some cell) is = judges at cell.1.sort is
 

@@ -11,7 +11,7 @@ use Rattle.model_reader.specs.declared.raw.invokes.RawInvoke.{RawInvoke}
 use Rattle.model_reader.specs.declared.raw.names.RawName.{RawName}
 use Rattle.model_reader.specs.declared.raw.statements.RawStmt.{RawStmt}
 use Rattle.model_reader.specs.declared.raw.statements.RawStmtKind.{RawStmtKind, Let, LetCall, Assign, Add, Put, AddVolume, AddRate, Delay, WaitUntil, Spawn, Call, If', While', Return, Row_of-RawStmt, end_of-RawStmt, more_of-RawStmt}
-use Rattle.model_check.specs.declared.diagnostics.Cause.TheVariants.{Duplicate, WrongType}
+use Rattle.model_check.specs.declared.causes.Cause.TheVariants.{Duplicate, WrongType}
 use Rattle.model_check.specs.declared.scopes.BodyScope.{BodyScope}
 use Rattle.model_check.specs.declared.symbols.CellSort.TheVariants.{Counter, Register, Accumulator}
 use Rattle.model_check.specs.declared.symbols.CellSymbol.{CellSymbol}
@@ -22,7 +22,7 @@ use Rattle.model_check.specs.declared.symbols.Symbols.{Symbols}
 use Rattle.model_check.specs.declared.symbols.TypeSymbol.{TypeSymbol}
 use Rattle.model_check.specs.BodyScopes.{later_place, clash, enum_place, cell_place, local_diagnostics, let_diagnostics}
 use Rattle.model_check.specs.CellReads.{FoundLocal, on_cell, flow_sort}
-use Rattle.model_check.specs.Diagnostics.{is_place_before, refused_unless}
+use Rattle.diagnostics.specs.Diagnostics.{is_place_before, refused_unless}
 use Rattle.model_check.specs.Expressions.{raw_kind, expr_diagnostics, typed_diagnostics}
 use Rattle.model_check.specs.Invokes.{NamedArgument, Parameters, given_value, parameter_kind, argument_name_diagnostics, argument_diagnostics, arguments_diagnostics, missing_diagnostics, values_diagnostics, invoked_diagnostics, invoke_diagnostics, result_wanted}
 use Rattle.model_check.specs.NameTables.{entry_in}

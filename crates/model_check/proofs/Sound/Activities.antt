@@ -29,7 +29,7 @@ use Rattle.model_reader.specs.declared.raw.literals.RawLiteral.{RawLiteral}
 use Rattle.model_reader.specs.declared.raw.names.RawName.{RawName}
 use Rattle.model_reader.specs.declared.raw.statements.RawStmt.{RawStmt}
 use Rattle.model_reader.specs.declared.raw.types.RawType.{RawType}
-use Rattle.model_check.specs.declared.diagnostics.Cause.TheVariants.{Duplicate}
+use Rattle.model_check.specs.declared.causes.Cause.TheVariants.{Duplicate}
 use Rattle.model_check.specs.declared.scopes.BodyScope.{BodyScope}
 use Rattle.model_check.specs.declared.symbols.EnumSymbol.{EnumSymbol}
 use Rattle.model_check.specs.declared.symbols.ParameterSymbol.{ParameterSymbol}
@@ -37,16 +37,17 @@ use Rattle.model_check.specs.declared.symbols.ResultSymbol.{ResultSymbol}
 use Rattle.model_check.specs.declared.symbols.Symbols.{Symbols}
 use Rattle.model_check.specs.declared.tables.NameTable.{NameTable}
 use Rattle.model_check.specs.BodyScopes.{empty_scope, with_new_local, clash, enum_place, cell_place, local_diagnostics}
-use Rattle.model_check.specs.Diagnostics.{refused_unless}
+use Rattle.diagnostics.specs.Diagnostics.{refused_unless}
 use Rattle.model_check.specs.Expressions.{typed_diagnostics}
 use Rattle.model_check.specs.ModelDiagnostics.{repeated_diagnostics, default_diagnostics, parameter_diagnostics, parameter_scope, parameters_diagnostics, result_type_diagnostics, requires_diagnostics, returns_at_end, end_diagnostics, activity_diagnostics_in}
 use Rattle.model_check.specs.ModelMeaning.{names_of, kind_written, model_parameters, result_written, model_requires, activity_in}
 use Rattle.model_check.specs.ModelSymbols.{type_kind, type_diagnostics, default_value, parameters_from, result_symbol, bare_symbols}
-use Rattle.model_check.specs.Literals.{short}
+use Rattle.diagnostics.specs.ShortNumbers.{short}
 use Rattle.model_check.specs.NameTables.{no_entries, numbered_value, entry_in}
 use Rattle.model_check.specs.StatementScopes.{scope_behind_all}
 use Rattle.model_check.specs.Statements.{block_diagnostics, block_of}
-use Rattle.model_check.proofs.Sound.Empty.{front_empty, back_empty, three, five, holds_if_empty}
+use Rattle.diagnostics.specs.NotedInTurn.{front_empty, back_empty, holds_if_empty}
+use Rattle.model_check.proofs.Sound.Empty.{three, five}
 use Rattle.model_check.proofs.Sound.Knows.{Knows, IsEnum}
 use Rattle.model_check.proofs.Sound.Expressions.{wanted_expr}
 use Rattle.model_check.proofs.Sound.Invokes.{AllPairs, IsDefaultOf, IsParameterOf}

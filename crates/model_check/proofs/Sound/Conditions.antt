@@ -24,7 +24,8 @@ use Rattle.model_reader.specs.declared.raw.expressions.RawExpr.{RawExpr}
 use Rattle.model_reader.specs.declared.raw.expressions.RawExprKind.{RawExprKind, Literal, Read, Not', Negate', Binary', Row_of-RawExpr, end_of-RawExpr, more_of-RawExpr}
 use Rattle.model_reader.specs.declared.raw.reads.RawPart.{RawPart}
 use Rattle.model_reader.specs.declared.raw.reads.RawPart.TheVariants.{Whole, Volume, Rate, Conflicted}
-use Rattle.model_check.specs.declared.diagnostics.Diagnostic.{Diagnostic}
+use Rattle.diagnostics.specs.declared.diagnostic.Diagnostic.{Diagnostic}
+use Rattle.model_check.specs.declared.causes.Cause.{Cause}
 use Rattle.model_check.specs.declared.leaves.FormUse.TheVariants.{Comparison as InComparison}
 use Rattle.model_check.specs.declared.scopes.BodyScope.{BodyScope}
 use Rattle.model_check.specs.declared.symbols.CellSort.{CellSort}
@@ -33,11 +34,12 @@ use Rattle.model_check.specs.declared.symbols.Symbols.{Symbols}
 use Rattle.model_check.specs.CellReads.{FoundLocal, FoundCell, sort_kind, sort_operand, part_kind, part_operand, raw_read_kind}
 use Rattle.model_check.specs.Expressions.{raw_kind, compared_kind, sides_diagnostics, expr_diagnostics, typed_diagnostics}
 use Rattle.model_check.specs.LinearForms.{form_diagnostics}
-use Rattle.model_check.specs.Literals.{short}
+use Rattle.diagnostics.specs.ShortNumbers.{short}
 use Rattle.model_check.specs.NameTables.{entry_in}
 use Rattle.model_check.specs.RawExpressions.{raw_gives, raw_row_gives}
 use Rattle.model_check.specs.Waits.{is_side_part, is_side, side_diagnostics, side_of, is_int, compares_forms, is_equal, compared_diagnostics, forms_compared, compared_of, is_truth, cond_diagnostics_step, cond_diagnostics, wait_diagnostics, cond_step, cond_of}
-use Rattle.model_check.proofs.Sound.Empty.{front_empty, back_empty, three, holds_if_empty, same_kind_is}
+use Rattle.diagnostics.specs.NotedInTurn.{front_empty, back_empty, holds_if_empty}
+use Rattle.model_check.proofs.Sound.Empty.{three, same_kind_is}
 use Rattle.model_check.proofs.Sound.Knows.{Knows, sound_literal, sound_read}
 use Rattle.model_check.proofs.Sound.Expressions.{judged, row_judged, SidesFit, sides_fit, sound_made}
 use Rattle.model_check.proofs.Sound.Linear.{sound_form}
@@ -70,11 +72,11 @@ unfolding cond_depth
 depth_Or left right = gives-Or ℕ 0 cond_depth_step left right
 
 module _ (symbols : Symbols) (scope : BodyScope) where
-  abbrev cond_judged : Place → RawExprKind → List Diagnostic
-  cond_judged = raw_gives (List Diagnostic) [] (cond_diagnostics_step symbols scope)
+  abbrev cond_judged : Place → RawExprKind → List (Diagnostic Cause)
+  cond_judged = raw_gives (List (Diagnostic Cause)) [] (cond_diagnostics_step symbols scope)
 
-  abbrev row_cond_judged : {m : _} → Row_of-RawExpr m → RawExpr × List Diagnostic
-  row_cond_judged = raw_row_gives (List Diagnostic) [] (cond_diagnostics_step symbols scope)
+  abbrev row_cond_judged : {m : _} → Row_of-RawExpr m → RawExpr × List (Diagnostic Cause)
+  row_cond_judged = raw_row_gives (List (Diagnostic Cause)) [] (cond_diagnostics_step symbols scope)
 
   abbrev cond_made : Place → RawExprKind → Cond
   cond_made = raw_gives Cond (cond.Literal false) (cond_step symbols scope)

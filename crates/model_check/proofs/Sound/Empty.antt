@@ -5,17 +5,8 @@ use Rattle.aerie_base.specs.declared.values.Kind.{Kind}
 use Rattle.aerie_base.specs.declared.values.Kind.TheVariants.{Int, Truth, Enum}
 use Rattle.aerie_base.specs.expressions.Typing.{same_kind}
 use Rattle.std.proofs.lemmas.Bool.Decides.{nat_tests}
-use Rattle.model_check.specs.declared.diagnostics.Cause.{Cause}
-use Rattle.model_check.specs.Diagnostics.{refused_unless}
+use Rattle.diagnostics.specs.NotedInTurn.{holds_if_empty}
 use Rattle.model_check.specs.Literals.{mismatch}
-
-pub front_empty : {A : Type 0} (xs ys : List A) → xs ++ ys ≡ [] → xs ≡ []
-front_empty [] ys e = refl
-front_empty (x ∷ xs) ys e = cc
-
-pub back_empty : {A : Type 0} (xs ys : List A) → xs ++ ys ≡ [] → ys ≡ []
-back_empty [] ys e = e
-back_empty (x ∷ xs) ys e = cc
 
 -- three, four or five lists that are empty together, the first of them and the others behind it
 pub three : {A : Type 0} (a b c : List A) → a ++ b ++ c ≡ [] → a ++ (b ++ c) ≡ []
@@ -26,11 +17,6 @@ four a b c d e = three a b (c ++ d) (sym (append_assoc (a ++ b) c d) ∙ e)
 
 pub five : {A : Type 0} (a b c d f : List A) → a ++ b ++ c ++ d ++ f ≡ [] → a ++ (b ++ (c ++ (d ++ f))) ≡ []
 five a b c d f e = four a b c (d ++ f) (sym (append_assoc (a ++ b ++ c) d f) ∙ e)
-
--- nothing is refused: it holds
-pub holds_if_empty : (holds : Bool) (cause : Cause) (at : Place) → refused_unless holds cause at ≡ [] → holds ≡ true
-holds_if_empty true cause at e = refl
-holds_if_empty false cause at e = cc
 
 -- ---- types
 
@@ -50,8 +36,8 @@ same_kind_as Int = refl
 same_kind_as Truth = refl
 same_kind_as (Enum a) = grind (arith, nat_tests)
 
-pub same_kind_turned : (a b : Kind) → same_kind a b ≡ true → same_kind b a ≡ true
-same_kind_turned a b e = ap (λ (k : Kind). same_kind b k) (same_kind_is a b e) ∙ same_kind_as b
+pub same_kind_swapped : (a b : Kind) → same_kind a b ≡ true → same_kind b a ≡ true
+same_kind_swapped a b e = ap (λ (k : Kind). same_kind b k) (same_kind_is a b e) ∙ same_kind_as b
 
 pub kinds_match : (at : Place) (wanted found : Kind) → mismatch at (Some wanted) (Some found) ≡ [] → same_kind wanted found ≡ true
 kinds_match at wanted found e = holds_if_empty (same_kind wanted found) _ at e

@@ -20,13 +20,15 @@ use Rattle.aerie_base.specs.models.Limits.{depth_limit}
 use Rattle.model_reader.specs.Limits.{raw_depth, part_depth, HasLiteralsInRange, PartInRange, IsLimitedExpr}
 use Rattle.model_reader.specs.declared.raw.expressions.RawExpr.{RawExpr}
 use Rattle.model_reader.specs.declared.raw.expressions.RawExprKind.{RawExprKind, Literal, Read, Not', Negate', Binary', Row_of-RawExpr, end_of-RawExpr, more_of-RawExpr}
-use Rattle.model_check.specs.declared.diagnostics.Diagnostic.{Diagnostic}
+use Rattle.diagnostics.specs.declared.diagnostic.Diagnostic.{Diagnostic}
+use Rattle.model_check.specs.declared.causes.Cause.{Cause}
 use Rattle.model_check.specs.declared.scopes.BodyScope.{BodyScope}
 use Rattle.model_check.specs.declared.symbols.Symbols.{Symbols}
 use Rattle.model_check.specs.Expressions.{kind_of_operator, side_kind_of, raw_kind, is_wanted, sides_diagnostics, expr_diagnostics_step, expr_diagnostics, typed_diagnostics, expr_step, expr_of}
 use Rattle.model_check.specs.Literals.{mismatch}
 use Rattle.model_check.specs.RawExpressions.{raw_gives, raw_row_gives}
-use Rattle.model_check.proofs.Sound.Empty.{front_empty, back_empty, three, same_kind_is, same_kind_turned, kinds_match}
+use Rattle.diagnostics.specs.NotedInTurn.{front_empty, back_empty}
+use Rattle.model_check.proofs.Sound.Empty.{three, same_kind_is, same_kind_swapped, kinds_match}
 use Rattle.model_check.proofs.Sound.Knows.{Knows, sound_literal, sound_read}
 
 -- ---- what the definitions give at each form
@@ -76,7 +78,7 @@ SidesFit None left right = same_kind left right ≡ true
 SidesFit (Some wanted) left right = (same_kind wanted left ≡ true) × (same_kind wanted right ≡ true)
 
 fits_both : (w l r g : Kind) → same_kind w l ≡ true → same_kind w r ≡ true → kind_if (same_kind l w && same_kind r w) g ≡ Some g
-fits_both w l r g h i = rw (same_kind_turned w l h, same_kind_turned w r i) refl
+fits_both w l r g h i = rw (same_kind_swapped w l h, same_kind_swapped w r i) refl
 
 combined : (o : Operator) (l r : Kind) → SidesFit (side_kind_of o) l r → combined_kind o l r ≡ Some (kind_of_operator o)
 combined operator.Or l r fit = fits_both Truth l r Truth fit.0 fit.1
@@ -99,14 +101,14 @@ abbrev no_expr : Expr
 no_expr = expr.Literal (value.Truth false)
 
 module _ (symbols : Symbols) (scope : BodyScope) where
-  abbrev pub judged : Place → RawExprKind → List Diagnostic
-  judged = raw_gives (List Diagnostic) [] (expr_diagnostics_step symbols scope)
+  abbrev pub judged : Place → RawExprKind → List (Diagnostic Cause)
+  judged = raw_gives (List (Diagnostic Cause)) [] (expr_diagnostics_step symbols scope)
 
   abbrev made : Place → RawExprKind → Expr
   made = raw_gives Expr no_expr (expr_step symbols scope)
 
-  abbrev pub row_judged : {m : _} → Row_of-RawExpr m → RawExpr × List Diagnostic
-  row_judged = raw_row_gives (List Diagnostic) [] (expr_diagnostics_step symbols scope)
+  abbrev pub row_judged : {m : _} → Row_of-RawExpr m → RawExpr × List (Diagnostic Cause)
+  row_judged = raw_row_gives (List (Diagnostic Cause)) [] (expr_diagnostics_step symbols scope)
 
   abbrev row_made : {m : _} → Row_of-RawExpr m → RawExpr × Expr
   row_made = raw_row_gives Expr no_expr (expr_step symbols scope)
@@ -231,4 +233,4 @@ module _ (symbols : Symbols) (scope : BodyScope) where
     wanted_expr wanted raw limited none =
         let sound = typed_expr raw limited (front_empty (expr_diagnostics symbols scope raw) _ none) in
         let found = subst (λ (k : Option Kind). mismatch raw.at (Some wanted) k ≡ []) sound.raw_is (back_empty (expr_diagnostics symbols scope raw) _ none) in
-        ap (λ (k : Option Kind). is_kind_of k wanted) sound.typed_is ∙ same_kind_turned wanted sound.of (kinds_match raw.at wanted sound.of found)
+        ap (λ (k : Option Kind). is_kind_of k wanted) sound.typed_is ∙ same_kind_swapped wanted sound.of (kinds_match raw.at wanted sound.of found)

@@ -32,12 +32,14 @@ use Rattle.model_check.specs.declared.symbols.CellSort.TheVariants as sort
 use Rattle.model_check.specs.declared.symbols.CellSymbol.{CellSymbol}
 use Rattle.model_check.specs.declared.symbols.EnumSymbol.{EnumSymbol}
 use Rattle.model_check.specs.declared.symbols.Symbols.{Symbols}
-use Rattle.model_check.specs.Literals.{short, enum_kind, literal_kind, literal_diagnostics, literal_value, mismatch}
+use Rattle.diagnostics.specs.ShortNumbers.{short}
+use Rattle.model_check.specs.Literals.{enum_kind, literal_kind, literal_diagnostics, literal_value, mismatch}
 use Rattle.model_check.specs.ModelDiagnostics.{typed_literal_diagnostics, rate_diagnostics, item_diagnostics}
 use Rattle.model_check.specs.ModelMeaning.{names_of, enum_of, known_kind, kind_written, rate_of, cell_of_item}
 use Rattle.model_check.specs.ModelSymbols.{type_kind, known_enum, type_diagnostics}
 use Rattle.model_check.specs.NameTables.{entry_in}
-use Rattle.model_check.proofs.Sound.Empty.{front_empty, back_empty, holds_if_empty, kinds_match, same_kind_turned}
+use Rattle.diagnostics.specs.NotedInTurn.{front_empty, back_empty, holds_if_empty}
+use Rattle.model_check.proofs.Sound.Empty.{kinds_match, same_kind_swapped}
 use Rattle.model_check.proofs.Sound.Invokes.{AllPairs}
 use Rattle.model_check.proofs.Sound.Knows.{IsCell, IsEnum, sound_literal}
 use Rattle.model_check.proofs.Sound.Names.{are_new}
@@ -140,7 +142,7 @@ module _ (symbols : Symbols) (enums : List EnumType) (known : (name : List ℕ) 
       let sound = sound_literal symbols.enums enums (λ name entry found. (known name entry found).1) raw.what within (front_empty (literal_diagnostics symbols.enums raw.what) _ none) in
       let found = subst (λ (k : Option Kind). mismatch raw.at (Some of) k ≡ []) sound.kind
       (subst (λ (k : Option Kind). mismatch raw.at k (literal_kind symbols.enums raw.what) ≡ []) e (back_empty (literal_diagnostics symbols.enums raw.what) _ none)) in
-      rw (same_kind_turned of (value_kind (literal_value symbols.enums raw.what)) (kinds_match raw.at of (value_kind (literal_value symbols.enums raw.what)) found), sound.value) refl
+      rw (same_kind_swapped of (value_kind (literal_value symbols.enums raw.what)) (kinds_match raw.at of (value_kind (literal_value symbols.enums raw.what)) found), sound.value) refl
 
   -- ---- cells
 

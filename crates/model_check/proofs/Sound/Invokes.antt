@@ -16,17 +16,18 @@ use Rattle.aerie_base.specs.models.Scopes.{Scope}
 use Rattle.aerie_base.specs.models.Values.{is_value, is_value_of}
 use Rattle.model_reader.specs.Limits.{IsLimitedExpr, AreLimitedArguments}
 use Rattle.model_reader.specs.declared.raw.expressions.RawExpr.{RawExpr}
-use Rattle.model_check.specs.declared.diagnostics.Cause.TheVariants.{WrongType}
+use Rattle.model_check.specs.declared.causes.Cause.TheVariants.{WrongType}
 use Rattle.model_check.specs.declared.scopes.BodyScope.{BodyScope}
 use Rattle.model_check.specs.declared.symbols.ParameterSymbol.{ParameterSymbol}
 use Rattle.model_check.specs.declared.symbols.Symbols.{Symbols}
-use Rattle.model_check.specs.Diagnostics.{refused_unless}
+use Rattle.diagnostics.specs.Diagnostics.{refused_unless}
 use Rattle.model_check.specs.Expressions.{raw_kind, expr_diagnostics}
 use Rattle.model_check.specs.Invokes.{NamedArgument, Parameters, is_this_number, given_value, parameter_kind, argument_name_diagnostics, argument_diagnostics, arguments_diagnostics, missing_diagnostics, default_expr, argument_expr, filled_arguments}
 use Rattle.model_check.specs.Literals.{mismatch}
-use Rattle.model_check.specs.NameLists.{name_number}
+use Rattle.diagnostics.specs.NameLists.{name_number}
 use Rattle.model_check.specs.NameTables.{numbered_value, entry_in}
-use Rattle.model_check.proofs.Sound.Empty.{front_empty, back_empty, three, holds_if_empty, same_kind_turned, kinds_match}
+use Rattle.diagnostics.specs.NotedInTurn.{front_empty, back_empty, holds_if_empty}
+use Rattle.model_check.proofs.Sound.Empty.{three, same_kind_swapped, kinds_match}
 use Rattle.model_check.proofs.Sound.Knows.{Knows}
 use Rattle.model_check.proofs.Sound.Expressions.{typed_expr}
 
@@ -119,7 +120,7 @@ module _ (symbols : Symbols) (scope : BodyScope) (enums : List EnumType) (locals
         let match = found.2 parameter at in
         let same = subst (λ (k : Option Kind). mismatch raw.at k (raw_kind symbols scope raw.what) ≡ []) is.0 match in
         let one = kinds_match raw.at kind sound.of (subst (λ (k : Option Kind). mismatch raw.at (Some kind) k ≡ []) sound.raw_is same) in
-        ap (λ (k : Option Kind). is_kind_of k kind) sound.typed_is ∙ same_kind_turned kind sound.of one
+        ap (λ (k : Option Kind). is_kind_of k kind) sound.typed_is ∙ same_kind_swapped kind sound.of one
 
     -- ---- all arguments
 

@@ -31,8 +31,9 @@ use Rattle.model_check.specs.declared.tables.NameTable.{NameTable}
 use Rattle.model_check.specs.CellReads.{FoundLocal, FoundCell, sort_kind, flow_sort_kind, flag_sort_kind, whole_sort, flow_sort, flag_sort, sort_operand, part_kind, part_diagnostics, part_operand, raw_read_kind, read_diagnostics, read_operand}
 use Rattle.aerie_base.specs.declared.operands.Operand.{Operand}
 use Rattle.aerie_base.specs.declared.operands.Operand.TheVariants as operand
-use Rattle.model_check.specs.Literals.{short, enum_kind, literal_kind, literal_diagnostics, literal_value, no_variant, variant_diagnostics, numbered_variant, variant_value}
-use Rattle.model_check.specs.NameLists.{name_number}
+use Rattle.diagnostics.specs.ShortNumbers.{short}
+use Rattle.model_check.specs.Literals.{enum_kind, literal_kind, literal_diagnostics, literal_value, no_variant, variant_diagnostics, numbered_variant, variant_value}
+use Rattle.diagnostics.specs.NameLists.{name_number}
 use Rattle.model_check.specs.NameTables.{entry_in}
 
 -- a local of a known type, which its slot has

@@ -25,8 +25,9 @@ use Rattle.model_reader.specs.declared.raw.literals.RawLiteralKind.{RawLiteralKi
 use Rattle.model_reader.specs.declared.raw.literals.RawLiteralKind.TheVariants as literal
 use Rattle.model_reader.specs.declared.raw.names.RawName.{RawName}
 use Rattle.model_reader.specs.declared.raw.reads.RawRead.{RawRead}
-use Rattle.model_check.specs.declared.diagnostics.Diagnostic.{Diagnostic}
-use Rattle.model_check.specs.declared.diagnostics.Cause.TheVariants.{OutOfRange}
+use Rattle.diagnostics.specs.declared.diagnostic.Diagnostic.{Diagnostic}
+use Rattle.model_check.specs.declared.causes.Cause.{Cause}
+use Rattle.model_check.specs.declared.causes.Cause.TheVariants.{OutOfRange}
 use Rattle.model_check.specs.declared.leaves.FormUse.{FormUse}
 use Rattle.model_check.specs.declared.leaves.FormUse.TheVariants.{Comparison}
 use Rattle.model_check.specs.declared.leaves.Leaf.{Leaf}
@@ -39,7 +40,8 @@ use Rattle.model_check.specs.LinearForms.{is_leaf_kind, is_leaf_read, may_stand,
 use Rattle.model_check.specs.Literals.{enum_kind, variant_diagnostics, literal_diagnostics}
 use Rattle.model_check.specs.NameTables.{entry_in}
 use Rattle.model_check.specs.RawExpressions.{raw_gives, raw_row_gives}
-use Rattle.model_check.proofs.Sound.Empty.{front_empty, back_empty, three, holds_if_empty}
+use Rattle.diagnostics.specs.NotedInTurn.{front_empty, back_empty, holds_if_empty}
+use Rattle.model_check.proofs.Sound.Empty.{three}
 use Rattle.model_check.proofs.Sound.Expressions.{judged, row_judged}
 use Rattle.model_check.proofs.Sound.Knows.{Knows, sound_read}
 
@@ -145,7 +147,7 @@ few_leaves before (leaf ∷ rest) le none =
     let more = few_leaves (before + 1) rest (omega (arith, lt)) (back_empty (leaf_diagnostics before leaf) _ none) in
     omega (arith, more)
 
-nothing_wrong : (wrong : Option Diagnostic) → option_to_list wrong ≡ [] → wrong ≡ None
+nothing_wrong : (wrong : Option (Diagnostic Cause)) → option_to_list wrong ≡ [] → wrong ≡ None
 nothing_wrong None none = refl
 nothing_wrong (Some diagnostic) none = cc
 
@@ -208,7 +210,7 @@ module _ (locals : ℕ → Option Kind) (reads : CellRead → Option Kind) where
     small_coefficient : (at : Place) (coefficient : ℤ) → coefficient_wrong at coefficient ≡ None → nat_le (unsigned_abs coefficient) coefficient_limit ≡ true
     small_coefficient at coefficient = go (nat_le (unsigned_abs coefficient) coefficient_limit)
       where
-        go : (b : Bool) → (let wrong : Option Diagnostic = if b then None else Some (record { place = at; cause = OutOfRange }) in wrong) ≡ None → b ≡ true
+        go : (b : Bool) → (let wrong : Option (Diagnostic Cause) = if b then None else Some (record { place = at; cause = OutOfRange }) in wrong) ≡ None → b ≡ true
         go true none = refl
         go false none = cc
 

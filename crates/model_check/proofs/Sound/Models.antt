@@ -28,14 +28,15 @@ use Rattle.model_check.specs.declared.symbols.Symbols.{Symbols}
 use Rattle.model_check.specs.declared.symbols.TypeSymbol.{TypeSymbol}
 use Rattle.model_check.specs.declared.tables.NameTable.{NameTable}
 use Rattle.model_check.specs.BodyScopes.{empty_scope}
-use Rattle.model_check.specs.Literals.{short}
+use Rattle.diagnostics.specs.ShortNumbers.{short}
 use Rattle.model_check.specs.ModelDiagnostics.{repeated_diagnostics, shared_name, resource_name, names_in, parameter_scope, parameters_diagnostics, result_type_diagnostics, requires_diagnostics, item_diagnostics, items_diagnostics, model_diagnostics}
 use Rattle.model_check.specs.ModelMeaning.{names_of, enum_of, cell_of_item, resource_of, activity_of, daemon_of, parts_of_items, model_by, model_of}
 use Rattle.model_check.specs.ModelSymbols.{enum_symbols_from, cell_symbols_from, type_symbols_from, symbols_of}
 use Rattle.model_check.specs.ModelSymbols.{result_symbol}
 use Rattle.model_check.specs.NameTables.{no_entries, entry_in}
 use Rattle.model_check.specs.Statements.{block_diagnostics}
-use Rattle.model_check.proofs.Sound.Empty.{front_empty, back_empty, three, five}
+use Rattle.diagnostics.specs.NotedInTurn.{front_empty, back_empty}
+use Rattle.model_check.proofs.Sound.Empty.{three, five}
 use Rattle.model_check.proofs.Sound.Knows.{IsCell, IsEnum}
 use Rattle.model_check.proofs.Sound.Invokes.{AllPairs}
 use Rattle.model_check.proofs.Sound.Scopes.{entry_stands, SameResult, HasSignature, Suits}

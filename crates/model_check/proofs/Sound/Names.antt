@@ -8,15 +8,15 @@ use Rattle.aerie_base.specs.models.Names.{is_name_among, are_distinct}
 use Rattle.model_reader.specs.declared.raw.items.RawItem.{RawItem}
 use Rattle.model_reader.specs.declared.raw.items.RawItem.TheVariants as item
 use Rattle.model_reader.specs.declared.raw.names.RawName.{RawName}
-use Rattle.model_check.specs.declared.diagnostics.Cause.TheVariants.{Duplicate}
+use Rattle.model_check.specs.declared.causes.Cause.TheVariants.{Duplicate}
 use Rattle.model_check.specs.declared.tables.NameTable.{NameTable}
-use Rattle.model_check.specs.Diagnostics.{refused_unless}
+use Rattle.diagnostics.specs.Diagnostics.{refused_unless}
 use Rattle.model_check.specs.ModelDiagnostics.{repeated_diagnostics, shared_name, names_in}
 use Rattle.model_check.specs.ModelMeaning.{names_of, parts_of_items}
 use Rattle.model_check.specs.ModelSymbols.{with_names}
-use Rattle.model_check.specs.NameLists.{with_name}
+use Rattle.diagnostics.specs.NameLists.{with_name}
 use Rattle.model_check.specs.NameTables.{with_entry}
-use Rattle.model_check.proofs.Sound.Empty.{front_empty, back_empty, holds_if_empty}
+use Rattle.diagnostics.specs.NotedInTurn.{front_empty, back_empty, holds_if_empty}
 
 pub both_true : (a b : Bool) → (a && b) ≡ true → (a ≡ true) × (b ≡ true)
 both_true true b e = (refl, e)

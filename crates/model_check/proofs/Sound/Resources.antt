@@ -22,8 +22,9 @@ use Rattle.model_reader.specs.declared.raw.expressions.RawExprKind.{RawExprKind,
 use Rattle.model_reader.specs.declared.raw.reads.RawPart.{RawPart}
 use Rattle.model_reader.specs.declared.raw.reads.RawPart.TheVariants.{Whole, Volume, Rate, Conflicted}
 use Rattle.model_reader.specs.declared.raw.reads.RawRead.{RawRead}
-use Rattle.model_check.specs.declared.diagnostics.Cause.TheVariants.{OutOfRange}
-use Rattle.model_check.specs.declared.diagnostics.Diagnostic.{Diagnostic}
+use Rattle.model_check.specs.declared.causes.Cause.TheVariants.{OutOfRange}
+use Rattle.diagnostics.specs.declared.diagnostic.Diagnostic.{Diagnostic}
+use Rattle.model_check.specs.declared.causes.Cause.{Cause}
 use Rattle.model_check.specs.declared.leaves.FormUse.TheVariants.{Resource}
 use Rattle.model_check.specs.declared.leaves.Leaf.{Leaf}
 use Rattle.model_check.specs.declared.scopes.LocalSymbol.{LocalSymbol}
@@ -35,12 +36,12 @@ use Rattle.model_check.specs.BodyScopes.{empty_scope}
 use Rattle.model_check.specs.CellReads.{FoundCell, whole_sort, flow_sort, flag_sort, sort_operand, part_diagnostics, part_operand, read_diagnostics, read_operand}
 use Rattle.model_check.specs.Expressions.{expr_diagnostics}
 use Rattle.model_check.specs.LinearForms.{is_leaf_kind, is_leaf_read, is_counter_sort, is_summed_part, may_stand, coefficient_wrong, signed_by, read_leaf, unfit_leaf, plain_number, negated_leaf, negated_leaves, Leaves, leaves_step, no_leaves, leaves_of, terms_in, constants_in, sum_of_leaves, linear_of}
-use Rattle.model_check.specs.Literals.{short}
+use Rattle.diagnostics.specs.ShortNumbers.{short}
 use Rattle.model_check.specs.ModelDiagnostics.{shown_diagnostics, discrete_diagnostics, linear_diagnostics}
 use Rattle.model_check.specs.ModelMeaning.{read_of}
 use Rattle.model_check.specs.NameTables.{entry_in}
 use Rattle.model_check.specs.RawExpressions.{raw_gives}
-use Rattle.model_check.proofs.Sound.Empty.{front_empty, back_empty}
+use Rattle.diagnostics.specs.NotedInTurn.{front_empty, back_empty}
 use Rattle.model_check.proofs.Sound.Knows.{IsCell, IsLocal, part_typed}
 use Rattle.model_check.proofs.Sound.Linear.{all_of_form, few_leaves, none_wrong, signed_size}
 
@@ -100,7 +101,7 @@ module _ (symbols : Symbols) (cells : NamedCells) (its : (name : List ℕ) (entr
   small_coefficient : (at : Place) (coefficient : ℤ) → coefficient_wrong at coefficient ≡ None → nat_le (unsigned_abs coefficient) coefficient_limit ≡ true
   small_coefficient at coefficient = go (nat_le (unsigned_abs coefficient) coefficient_limit)
     where
-      go : (b : Bool) → (let wrong : Option Diagnostic = if b then None else Some (record { place = at; cause = OutOfRange }) in wrong) ≡ None → b ≡ true
+      go : (b : Bool) → (let wrong : Option (Diagnostic Cause) = if b then None else Some (record { place = at; cause = OutOfRange }) in wrong) ≡ None → b ≡ true
       go true none = refl
       go false none = cc
 

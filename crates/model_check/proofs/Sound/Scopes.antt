@@ -20,8 +20,8 @@ use Rattle.model_check.specs.declared.symbols.Symbols.{Symbols}
 use Rattle.model_check.specs.declared.symbols.TypeSymbol.{TypeSymbol}
 use Rattle.model_check.specs.declared.tables.NameTable.{NameTable}
 use Rattle.model_check.specs.BodyScopes.{next_slot, with_new_local, block_left}
-use Rattle.model_check.specs.Literals.{short}
-use Rattle.model_check.specs.NameLists.{name_number}
+use Rattle.diagnostics.specs.ShortNumbers.{short}
+use Rattle.diagnostics.specs.NameLists.{name_number}
 use Rattle.model_check.specs.NameTables.{numbered_value, entry_in}
 use Rattle.model_check.proofs.Sound.Invokes.{AllPairs, IsParameterOf}
 use Rattle.model_check.proofs.Sound.Knows.{Knows, IsCell, IsEnum, IsLocal}

@@ -24,7 +24,8 @@ use Rattle.model_reader.specs.declared.raw.invokes.RawInvoke.{RawInvoke}
 use Rattle.model_reader.specs.declared.raw.names.RawName.{RawName}
 use Rattle.model_reader.specs.declared.raw.statements.RawStmt.{RawStmt}
 use Rattle.model_reader.specs.declared.raw.statements.RawStmtKind.{RawStmtKind, Let, LetCall, Assign, Add, Put, AddVolume, AddRate, Delay, WaitUntil, Spawn, Call, If', While', Return, Row_of-RawStmt, end_of-RawStmt, more_of-RawStmt}
-use Rattle.model_check.specs.declared.diagnostics.Diagnostic.{Diagnostic}
+use Rattle.diagnostics.specs.declared.diagnostic.Diagnostic.{Diagnostic}
+use Rattle.model_check.specs.declared.causes.Cause.{Cause}
 use Rattle.model_check.specs.declared.scopes.BodyScope.{BodyScope}
 use Rattle.model_check.specs.declared.scopes.LocalSymbol.{LocalSymbol}
 use Rattle.model_check.specs.declared.symbols.CellSort.{CellSort}
@@ -37,13 +38,14 @@ use Rattle.model_check.specs.BodyScopes.{with_new_local, block_left, local_diagn
 use Rattle.model_check.specs.CellReads.{FoundLocal, FoundCell, of_cell, on_cell, cell_number, flow_sort}
 use Rattle.model_check.specs.Expressions.{raw_kind, expr_diagnostics, typed_diagnostics, expr_of}
 use Rattle.model_check.specs.Invokes.{arguments_diagnostics, invoked_diagnostics, invoke_diagnostics, result_wanted, result_diagnostics, result_symbol_kind, type_result_kind, call_kind, type_number, invoked_number, invoked_arguments, invoke_arguments}
-use Rattle.model_check.specs.Literals.{short}
+use Rattle.diagnostics.specs.ShortNumbers.{short}
 use Rattle.model_check.specs.NameTables.{entry_in}
 use Rattle.model_check.specs.RawStatements.{StmtLevel, raw_stmt_gives, block_gives}
 use Rattle.model_check.specs.StatementScopes.{Scoping, scoped_in_turn, scope_step, scope_behind, scope_behind_all}
 use Rattle.model_check.specs.Statements.{local_in, cell_in, assigned_diagnostics, local_kind, local_slot, counter_sort, register_sort, register_sort_kind, valued_diagnostics, return_diagnostics, returned_of, assign_diagnostics, add_diagnostics, put_diagnostics, flow_diagnostics, Judging, judged_in_turn, statements_in, stmt_diagnostics_step, stmt_diagnostics, block_diagnostics, RawMaking, made_in_turn, stmt_step, stmt_of, block_of}
 use Rattle.model_check.specs.Waits.{wait_diagnostics, cond_of}
-use Rattle.model_check.proofs.Sound.Empty.{front_empty, back_empty, three, four, holds_if_empty}
+use Rattle.diagnostics.specs.NotedInTurn.{front_empty, back_empty, holds_if_empty}
+use Rattle.model_check.proofs.Sound.Empty.{three, four}
 use Rattle.model_check.proofs.Sound.Knows.{Knows, IsCell}
 use Rattle.model_check.proofs.Sound.Expressions.{typed_expr, wanted_expr}
 use Rattle.model_check.proofs.Sound.Conditions.{sound_wait}
@@ -286,7 +288,7 @@ module _ (symbols : Symbols) (returns : Option ResultSymbol) (setting : Setting)
   abbrev scoped : Place → RawStmtKind → Scoping
   scoped = raw_stmt_gives Scoping (scope_step symbols)
 
-  abbrev row_judged : {m : _} → Row_of-RawStmt m → BodyScope → List Diagnostic
+  abbrev row_judged : {m : _} → Row_of-RawStmt m → BodyScope → List (Diagnostic Cause)
   row_judged row = judged_in_turn symbols (block_gives Judging (stmt_diagnostics_step symbols returns) row)
 
   abbrev row_made : {m : _} → Row_of-RawStmt m → BodyScope → List Stmt

@@ -12,9 +12,10 @@ use Rattle.readers.proofs.Listing.{listed_conforms, parenthesized_conforms, row_
 use Rattle.model_reader.specs.declared.reading.declarations.Declarations.{Declarations}
 use Rattle.model_reader.specs.declared.reading.declarations.ItemKind.{ItemKind}
 use Rattle.model_reader.specs.declared.reading.declarations.ItemKind.TheVariants as kind
-use Rattle.model_reader.specs.grammar.Factored.{look, item_first, variants_form, enum_form, counter_form, register_form, accumulator_form, cell_form, discrete_form, linear_form, resource_form, given_default_form, default_form, parameters_form, given_result_form, result_form, require_form, activity_body_form, activity_form, daemon_form}
+use Rattle.model_reader.specs.grammar.Factored.{look, item_first, variants_form, cell_form, resource_form, given_default_form, default_form, parameters_form, given_result_form, result_form, require_form, activity_body_form, activity_form}
+use Rattle.model_reader.specs.grammar.Written.{enum_form, counter_form, register_form, accumulator_form, discrete_form, linear_form, daemon_form}
 use Rattle.model_reader.specs.grammar.Rules.{Rule, item_rule, param_rule, int_rule}
-use Rattle.model_reader.specs.reading.Items.{most_variants, most_parameters, most_requires, variants_at, enum_at, counter_at, register_at, int_literal_at, accumulator_at, discrete_at, linear_at, given_default_at, default_at, param_at, params_at, given_result_at, result_at, require_at, requires_at, activity_body_at, activity_at, daemon_at, kind_at, declared_at, turn_at, cell_at, resource_at, item_at, begins_item, items_at}
+use Rattle.model_reader.specs.reading.Items.{most_variants, most_parameters, most_requires, variants_at, enum_at, counter_at, register_at, int_literal_at, accumulator_at, discrete_at, linear_at, given_default_at, default_at, param_at, params_at, given_result_at, result_at, require_at, requires_at, activity_body_at, activity_at, daemon_at, kind_at, declared_at, iteration_at, cell_at, resource_at, item_at, begins_item, items_at}
 use Rattle.model_reader.proofs.Following.Expressions.{expr_conforms}
 use Rattle.model_reader.proofs.Following.Literals.{int_conforms, literal_conforms}
 use Rattle.model_reader.proofs.Following.Names.{Along, begins_with, take_conforms, raw_name_conforms}
@@ -181,18 +182,18 @@ unfolding declared_at
 declared_conforms kind d marks = then_value _ (kind_conforms kind marks) (λ last rest. value)
 
 -- the same, where it begins here and the model may have one more
-turn_conforms : (kind : ItemKind) (d : Declarations) (marks : List Mark) → next_in_first look (form_of_kind kind) marks ≡ true → Along (form_of_kind kind) marks (turn_at kind d marks)
-unfolding turn_at
-turn_conforms kind d marks begun = limited_conforms _ _ (declared_at kind d) predictive (λ past. begun) (λ within. declared_conforms kind d marks)
+iteration_conforms : (kind : ItemKind) (d : Declarations) (marks : List Mark) → next_in_first look (form_of_kind kind) marks ≡ true → Along (form_of_kind kind) marks (iteration_at kind d marks)
+unfolding iteration_at
+iteration_conforms kind d marks begun = limited_conforms _ _ (declared_at kind d) predictive (λ past. begun) (λ within. declared_conforms kind d marks)
 
 item_conforms : (d : Declarations) (marks : List Mark) → Along (rule item_rule) marks (item_at d marks)
 unfolding item_at
 item_conforms d marks =
-    rule_conforms predictive (either_conforms _ _ enum_begins refl (λ next. turn_conforms kind.Enum d marks (begins_here marks enum_begins next))
-    (λ next. either_conforms _ _ cell_begins refl (λ next. turn_conforms kind.Cell d marks (begins_here marks cell_begins next))
-    (λ next. either_conforms _ _ resource_begins refl (λ next. turn_conforms kind.Resource d marks (begins_here marks resource_begins next))
-    (λ next. either_conforms _ _ activity_begins refl (λ next. turn_conforms kind.Activity d marks (begins_here marks activity_begins next))
-    (λ next. chosen_conforms _ _ _ (λ next. turn_conforms kind.Daemon d marks (begins_here marks daemon_begins next)) (λ next. failed_conforms (begins_here marks daemon_begins next) refl))))))
+    rule_conforms predictive (either_conforms _ _ enum_begins refl (λ next. iteration_conforms kind.Enum d marks (begins_here marks enum_begins next))
+    (λ next. either_conforms _ _ cell_begins refl (λ next. iteration_conforms kind.Cell d marks (begins_here marks cell_begins next))
+    (λ next. either_conforms _ _ resource_begins refl (λ next. iteration_conforms kind.Resource d marks (begins_here marks resource_begins next))
+    (λ next. either_conforms _ _ activity_begins refl (λ next. iteration_conforms kind.Activity d marks (begins_here marks activity_begins next))
+    (λ next. chosen_conforms _ _ _ (λ next. iteration_conforms kind.Daemon d marks (begins_here marks daemon_begins next)) (λ next. failed_conforms (begins_here marks daemon_begins next) refl))))))
 
 pub items_conform : (marks : List Mark) → Along (many (rule item_rule)) marks (items_at marks)
 unfolding items_at

@@ -8,7 +8,7 @@ use Rattle.readers.specs.grammar.Alike.{AreAlike}
 use Rattle.readers.specs.grammar.Forms.{rule}
 use Rattle.readers.specs.grammar.Readings.{IsRead}
 use Rattle.readers.proofs.Conforming.{and_then, then_value, value, rule_conforms}
-use Rattle.readers.proofs.Grammars.Alike.{alike_turned}
+use Rattle.readers.proofs.Grammars.Alike.{alike_swapped}
 use Rattle.readers.proofs.Judged.{judged_as_written, none_in_front}
 use Rattle.model_reader.specs.grammar.Factored.{tables, factored}
 use Rattle.model_reader.specs.grammar.Rules.{model_rule}
@@ -26,7 +26,7 @@ model_conforms marks =
     (λ brace from. and_then _ (items_conform from) (λ items left. then_value _ (take_conforms sort.CloseBrace left) (λ close last. value))))))
 
 same : AreAlike factored model_rule written model_rule
-same = alike_turned written model_rule factored model_rule alike
+same = alike_swapped written model_rule factored model_rule alike
 
 pub model_judged : (marks : List Mark) → Judges written model_rule marks (model_at marks)
 model_judged marks = judged_as_written tables predictive model_rule written model_rule same marks (model_at marks) (model_conforms marks)

@@ -15,9 +15,10 @@ use Rattle.model_reader.specs.declared.raw.names.RawName.{RawName}
 use Rattle.model_reader.specs.declared.reading.body.Body.{Body}
 use Rattle.model_reader.specs.declared.reading.assignment_operator.AssignmentOperator.TheVariants as change
 use Rattle.model_reader.specs.declared.reading.child_start.ChildStart.TheVariants as start
-use Rattle.model_reader.specs.grammar.Factored.{look, stmt_first, simple_form, argument_form, let_call_form, let_value_form, let_form, changed_part_form, part_change_form, change_sign_form, change_form, delay_form, wait_form, start_word_form, start_form, given_else_form, else_form, if_form, while_form, return_form, block_form}
+use Rattle.model_reader.specs.grammar.Factored.{look, stmt_first, simple_form, argument_form, let_call_form, let_value_form, let_form, changed_part_form, part_change_form, change_sign_form, change_form, start_word_form, given_else_form, else_form}
+use Rattle.model_reader.specs.grammar.Written.{delay_form, wait_form, start_form, if_form, while_form, return_form, block_form}
 use Rattle.model_reader.specs.grammar.Rules.{stmt_rule, block_rule, invoke_rule, expr_rule}
-use Rattle.model_reader.specs.reading.Statements.{argument_at, invoke_at, let_call_at, let_expr_at, let_value_at, let_at, part_change_word_at, part_change_at, change_sign_at, change_at, delay_at, wait_at, start_word_at, start_at, some_expr_at, optional_expr_at, return_at, Blocks, opened_block_at, block_at, else_block_at, else_at, choice_at, if_at, while_at, simple_at, simple_turn_at, stmt_at, stmt_turn_at, begins_stmt, stmts_by, inner_blocks, body_at}
+use Rattle.model_reader.specs.reading.Statements.{argument_at, invoke_at, let_call_at, let_expr_at, let_value_at, let_at, part_change_word_at, part_change_at, change_sign_at, change_at, delay_at, wait_at, start_word_at, start_at, some_expr_at, optional_expr_at, return_at, Blocks, opened_block_at, block_at, else_block_at, else_at, choice_at, if_at, while_at, simple_at, simple_iteration_at, stmt_at, stmt_iteration_at, begins_stmt, stmts_by, inner_blocks, body_at}
 use Rattle.model_reader.proofs.Following.Expressions.{expr_rule_begins, expr_conforms}
 use Rattle.model_reader.proofs.Following.Names.{Along, begins_with, take_conforms, raw_name_conforms, begins_with_one_of, word_conforms, one_standing_for_conforms}
 use Rattle.model_reader.proofs.Grammar.Predictive.{predictive}
@@ -122,9 +123,9 @@ simple_conforms marks =
     (λ next. return_conforms marks)))))
 
 -- the same behind the others
-simple_turn_conforms : (body : Body) (marks : List Mark) → Along simple_form marks (simple_turn_at body marks)
-unfolding simple_turn_at
-simple_turn_conforms body marks = then_value _ (simple_conforms marks) (λ last rest. value)
+simple_iteration_conforms : (body : Body) (marks : List Mark) → Along simple_form marks (simple_iteration_at body marks)
+unfolding simple_iteration_at
+simple_iteration_conforms body marks = then_value _ (simple_conforms marks) (λ last rest. value)
 
 -- ---- with which marks statements and blocks begin
 
@@ -181,15 +182,15 @@ module _ (room : ℕ) (blocks : Blocks) (law : (room == 0) ≡ false → Conform
   unfolding stmt_at
   stmt_conforms body marks =
       rule_conforms predictive (either_conforms _ _ (begins_both (begins_with sort.If) refl) refl (λ next. if_conforms body marks)
-      (λ next. either_conforms _ _ (begins_both (begins_with sort.While) refl) refl (λ next. while_conforms body marks) (λ next. simple_turn_conforms body marks)))
+      (λ next. either_conforms _ _ (begins_both (begins_with sort.While) refl) refl (λ next. while_conforms body marks) (λ next. simple_iteration_conforms body marks)))
 
-  stmt_turn_conforms : (body : Body) (marks : List Mark) → next_fits begins_stmt marks ≡ true → Along (rule stmt_rule) marks (stmt_turn_at room blocks body marks)
-  unfolding stmt_turn_at
-  stmt_turn_conforms body marks next = limited_conforms (body.spare == 0) Statements (stmt_at room blocks body) predictive (λ past. begins_here marks stmt_rule_begins next) (λ within. stmt_conforms body marks)
+  stmt_iteration_conforms : (body : Body) (marks : List Mark) → next_fits begins_stmt marks ≡ true → Along (rule stmt_rule) marks (stmt_iteration_at room blocks body marks)
+  unfolding stmt_iteration_at
+  stmt_iteration_conforms body marks next = limited_conforms (body.spare == 0) Statements (stmt_at room blocks body) predictive (λ past. begins_here marks stmt_rule_begins next) (λ within. stmt_conforms body marks)
 
   stmts_by_conform : ConformBlocks (stmts_by room blocks)
   unfolding stmts_by
-  stmts_by_conform spare marks = repeated_conforms _ stmt_rule_begins refl (λ now here next. stmt_turn_conforms now here next)
+  stmts_by_conform spare marks = repeated_conforms _ stmt_rule_begins refl (λ now here next. stmt_iteration_conforms now here next)
 
 -- the statements of blocks conform to the grammar where there may be a block
 inner_blocks_conform : (room : ℕ) → (room == 0) ≡ false → ConformBlocks (inner_blocks room)

@@ -9,10 +9,10 @@ use Rattle.readers.specs.grammar.Forms.{Form, rule, Grammar}
 use Rattle.readers.specs.grammar.Alternatives.{SameExpansions}
 use Rattle.readers.specs.grammar.Alike.{AreAlike, rewritten, is_rule, StandsFor, named, inlined}
 use Rattle.readers.proofs.Grammars.Alternatives.{same_form, same_alternatives}
-use Rattle.readers.proofs.Grammars.Alike.{alike_forms, alike_named, alike_turned, alike_chained}
+use Rattle.readers.proofs.Grammars.Alike.{alike_forms, alike_named, alike_swapped, alike_chained}
 use Rattle.model_reader.specs.grammar.Rules.{Rule, model_rule, item_rule, param_rule, type_rule, int_rule, literal_rule, read_rule, stmt_rule, block_rule, invoke_rule, expr_rule, and_rule, compare_rule, sum_rule, product_rule, unary_rule, primary_rule}
-use Rattle.model_reader.specs.grammar.Written.{written}
-use Rattle.model_reader.specs.grammar.Factored.{factored, read_form}
+use Rattle.model_reader.specs.grammar.Written.{written, read_form}
+use Rattle.model_reader.specs.grammar.Factored.{factored}
 
 -- a read is its form, each other rule is itself
 abbrev pub without_read : Rule → Form Rule Sort
@@ -79,8 +79,7 @@ same read_rule = same_form ((put_in written).form read_rule)
 same stmt_rule =
     same_alternatives ((put_in written).form stmt_rule) ((put_in factored).form stmt_rule) (record { in_second = 4 ∷ 3 ∷ places 5 9 ++ (0 ∷ 1 ∷ 2 ∷ 14 ∷ 15 ∷ []); in_first = 11 ∷ 12 ∷ 13 ∷ 1 ∷ 0 ∷ places 2 9 ++ (14 ∷ 15 ∷ []); onward = refl; back = refl })
 same block_rule = same_form ((put_in written).form block_rule)
-same invoke_rule =
-    same_alternatives ((put_in written).form invoke_rule) ((put_in factored).form invoke_rule) (record { in_second = places 0 2; in_first = places 0 2; onward = refl; back = refl })
+same invoke_rule = same_form ((put_in written).form invoke_rule)
 same expr_rule = same_form ((put_in written).form expr_rule)
 same and_rule = same_form ((put_in written).form and_rule)
 same compare_rule = same_form ((put_in written).form compare_rule)
@@ -94,4 +93,4 @@ pub alike : AreAlike written model_rule factored model_rule
 alike =
     alike_chained written model_rule (put_in written) model_rule factored model_rule (alike_put_in written (λ t k. refl) refl refl model_rule refl)
     (alike_chained (put_in written) model_rule (put_in factored) model_rule factored model_rule (alike_forms (put_in written) (put_in factored) (λ t k. refl) same model_rule)
-    (alike_turned factored model_rule (put_in factored) model_rule (alike_put_in factored (λ t k. refl) refl refl model_rule refl)))
+    (alike_swapped factored model_rule (put_in factored) model_rule (alike_put_in factored (λ t k. refl) refl refl model_rule refl)))

@@ -13,7 +13,7 @@ use Rattle.model_reader.specs.declared.reading.declarations.Declarations.{Declar
 use Rattle.model_reader.specs.declared.reading.declarations.ItemKind.{ItemKind}
 use Rattle.model_reader.specs.declared.reading.declarations.ItemKind.TheVariants as kind
 use Rattle.model_reader.specs.Limits.{CountNumbers, IsLimitedExpr, IsLimitedBody, IsLimitedDefault, IsLimitedItem, kind_of_item, one_where_same, count_of_kind}
-use Rattle.model_reader.specs.reading.Items.{most_variants, variants_at, enum_at, counter_at, register_at, int_literal_at, accumulator_at, discrete_at, linear_at, given_default_at, default_at, param_at, most_parameters, params_at, given_result_at, result_at, require_at, most_requires, requires_at, activity_body_at, activity_at, daemon_at, none_declared, declared_count, most_of, with_item, cell_at, resource_at, kind_at, declared_at, turn_at, item_at, begins_item, items_at}
+use Rattle.model_reader.specs.reading.Items.{most_variants, variants_at, enum_at, counter_at, register_at, int_literal_at, accumulator_at, discrete_at, linear_at, given_default_at, default_at, param_at, most_parameters, params_at, given_result_at, result_at, require_at, most_requires, requires_at, activity_body_at, activity_at, daemon_at, none_declared, declared_count, most_of, with_item, cell_at, resource_at, kind_at, declared_at, iteration_at, item_at, begins_item, items_at}
 use Rattle.model_reader.proofs.Limited.Keeping.{Nothing, Keeps, gives, fails, and_then, one_of_two, unless_over, take_keeps, repeated_keeps}
 use Rattle.model_reader.proofs.Limited.Lists.{AreListed, AreSome, all_behind, listed_keeps, parenthesized_keeps, row_keeps}
 use Rattle.model_reader.proofs.Limited.Literals.{InRange, raw_name_keeps, type_keeps, read_keeps, int_keeps, literal_keeps}
@@ -266,19 +266,19 @@ declared_keeps : (other : ItemKind) (d : Declarations) (marks : List Mark) → d
 unfolding declared_at
 declared_keeps other d marks free are count = and_then _ (kind_keeps other marks count) (λ last rest is left. gives (one_more_counted other d last free are is) left)
 
-turn_keeps : (other : ItemKind) (d : Declarations) (marks : List Mark) → AreCounted d → CountNumbers marks → Keeps AreCounted (turn_at other d marks)
-unfolding turn_at
-turn_keeps other d marks are count =
+iteration_keeps : (other : ItemKind) (d : Declarations) (marks : List Mark) → AreCounted d → CountNumbers marks → Keeps AreCounted (iteration_at other d marks)
+unfolding iteration_at
+iteration_keeps other d marks are count =
     unless_over (nat_le (most_of other).count (declared_count other d)) _ _ (λ free. declared_keeps other d marks (leb-false (most_of other).count (declared_count other d) free) are count)
 
 item_keeps : (d : Declarations) (marks : List Mark) → AreCounted d → CountNumbers marks → Keeps AreCounted (item_at d marks)
 unfolding item_at
 item_keeps d marks are count =
-    one_of_two (next_is sort.Enum marks) _ _ (turn_keeps kind.Enum d marks are count)
-    (one_of_two (next_is_one_of (sort.Counter ∷ sort.Register ∷ sort.Accumulator ∷ []) marks) _ _ (turn_keeps kind.Cell d marks are count)
-    (one_of_two (next_is_one_of (sort.Discrete ∷ sort.Linear ∷ []) marks) _ _ (turn_keeps kind.Resource d marks are count)
-    (one_of_two (next_is sort.Activity marks) _ _ (turn_keeps kind.Activity d marks are count)
-    (one_of_two (next_is sort.Daemon marks) _ _ (turn_keeps kind.Daemon d marks are count) fails))))
+    one_of_two (next_is sort.Enum marks) _ _ (iteration_keeps kind.Enum d marks are count)
+    (one_of_two (next_is_one_of (sort.Counter ∷ sort.Register ∷ sort.Accumulator ∷ []) marks) _ _ (iteration_keeps kind.Cell d marks are count)
+    (one_of_two (next_is_one_of (sort.Discrete ∷ sort.Linear ∷ []) marks) _ _ (iteration_keeps kind.Resource d marks are count)
+    (one_of_two (next_is sort.Activity marks) _ _ (iteration_keeps kind.Activity d marks are count)
+    (one_of_two (next_is sort.Daemon marks) _ _ (iteration_keeps kind.Daemon d marks are count) fails))))
 
 abbrev pub AreWithinLimits : List RawItem → Type 0
 AreWithinLimits items = ((of : ItemKind) → count_of_kind of items ≤ (most_of of).count) × AllByRecursion IsLimitedItem items

@@ -5,7 +5,7 @@ use Rattle.aerie_base.specs.Ranges.{IsNumber}
 use Rattle.aerie_text.specs.declared.sorts.Sort.{Sort}
 use Rattle.aerie_text.specs.declared.sorts.Sort.TheVariants.{Name}
 use Rattle.readers.specs.Marks.{Mark}
-use Rattle.readers.specs.Parsed.{Parsed, parsed, failed, over_limit, ◌>>=◌, next_fits, next_is, is_of, one_of_at, chosen, taken, mark_at, take_at, name_at, number_at, limited, turns_at, repeated}
+use Rattle.readers.specs.Parsed.{Parsed, parsed, failed, over_limit, ◌>>=◌, next_fits, next_is, is_of, one_of_at, chosen, taken, mark_at, take_at, name_at, number_at, limited, iterations_at, repeated}
 use Rattle.readers.specs.declared.limits.Limit.{Limit}
 use Rattle.model_reader.specs.Limits.{CountNumbers}
 
@@ -89,14 +89,14 @@ one_of_keeps [] marks count = fails
 one_of_keeps (entry ∷ others) marks count =
     one_of_two (next_is entry.0 marks) _ _ (mark_keeps entry.0 (λ mark. (mark.at, entry.1)) (λ mark is. tt) marks count) (one_of_keeps others marks count)
 
--- ---- turns
+-- ---- iterations
 
-module _ {S : Type 0} {P : S → Type 0} (test : Mark → Bool) (turn : S → List Mark → Parsed S)
-    (turn_keeps : (state : S) (marks : List Mark) → P state → CountNumbers marks → Keeps P (turn state marks)) where
-  pub turns_keep : (most : ℕ) (state : S) (marks : List Mark) → P state → CountNumbers marks → Keeps P (turns_at test turn most state marks)
-  turns_keep zero state marks is count = gives is count
-  turns_keep (suc most) state marks is count =
-      one_of_two (next_fits test marks) _ _ (and_then _ (turn_keeps state marks is count) (λ after rest here left. turns_keep most after rest here left)) (gives is count)
+module _ {S : Type 0} {P : S → Type 0} (test : Mark → Bool) (iteration : S → List Mark → Parsed S)
+    (iteration_keeps : (state : S) (marks : List Mark) → P state → CountNumbers marks → Keeps P (iteration state marks)) where
+  pub iterations_keep : (most : ℕ) (state : S) (marks : List Mark) → P state → CountNumbers marks → Keeps P (iterations_at test iteration most state marks)
+  iterations_keep zero state marks is count = gives is count
+  iterations_keep (suc most) state marks is count =
+      one_of_two (next_fits test marks) _ _ (and_then _ (iteration_keeps state marks is count) (λ after rest here left. iterations_keep most after rest here left)) (gives is count)
 
-  pub repeated_keeps : (state : S) (marks : List Mark) → P state → CountNumbers marks → Keeps P (repeated test turn state marks)
-  repeated_keeps state marks is count = turns_keep (length marks) state marks is count
+  pub repeated_keeps : (state : S) (marks : List Mark) → P state → CountNumbers marks → Keeps P (repeated test iteration state marks)
+  repeated_keeps state marks is count = iterations_keep (length marks) state marks is count

@@ -19,7 +19,7 @@ use Rattle.model_reader.specs.declared.reading.child_start.ChildStart.{ChildStar
 use Rattle.model_reader.specs.declared.reading.child_start.ChildStart.TheVariants as start
 use Rattle.model_reader.specs.Limits.{CountNumbers, IsLimitedExpr, AreLimitedArguments, IsLimitedValue, raw_count, row_count, raw_nesting, row_nesting, HasLimitedExprs, RowLimited, stmts_count, stmts_nesting, AreLimitedStmts, IsLimitedBody}
 use Rattle.model_reader.specs.reading.Expressions.{begins_expr}
-use Rattle.model_reader.specs.reading.Statements.{argument_at, invoke_at, stmt, let_call_at, let_expr_at, let_value_at, let_at, part_change_word_at, part_change_at, change_sign_at, statement_of, change_at, delay_at, wait_at, start_word_at, started, start_at, some_expr_at, optional_expr_at, return_at, Blocks, opened_block_at, block_at, else_block_at, else_at, with_stmt, choice_at, if_at, while_at, simple_at, simple_turn_at, stmt_at, stmt_turn_at, begins_stmt, stmts_by, inner_blocks, body_at}
+use Rattle.model_reader.specs.reading.Statements.{argument_at, invoke_at, stmt, let_call_at, let_expr_at, let_value_at, let_at, part_change_word_at, part_change_at, change_sign_at, statement_of, change_at, delay_at, wait_at, start_word_at, started, start_at, some_expr_at, optional_expr_at, return_at, Blocks, opened_block_at, block_at, else_block_at, else_at, with_stmt, choice_at, if_at, while_at, simple_at, simple_iteration_at, stmt_at, stmt_iteration_at, begins_stmt, stmts_by, inner_blocks, body_at}
 use Rattle.model_reader.proofs.Limited.Keeping.{Nothing, Keeps, gives, fails, and_then, weakened, one_of_two, unless_over, take_keeps, one_of_keeps, repeated_keeps}
 use Rattle.model_reader.proofs.Limited.Lists.{all_behind, parenthesized_keeps}
 use Rattle.model_reader.proofs.Limited.Literals.{raw_name_keeps, one_standing_for_keeps}
@@ -217,9 +217,9 @@ some_spare (suc spare) e = omega arith
 plain_kept : (room before : ℕ) (body : Body) (last : RawStmt) → 1 ≤ body.spare → IsKept room before body → IsPlainStmt last → IsKept room before (with_stmt body (body.spare - 1) last)
 plain_kept room before body last some kept is = one_more_kept room before (body.spare - 1) body last kept (omega (arith, is.count, some)) (omega (arith, is.nesting)) is.exprs
 
-simple_turn_keeps : (room before : ℕ) (body : Body) (marks : List Mark) → (body.spare == 0) ≡ false → IsKept room before body → CountNumbers marks → Keeps (IsKept room before) (simple_turn_at body marks)
-unfolding simple_turn_at
-simple_turn_keeps room before body marks free kept count =
+simple_iteration_keeps : (room before : ℕ) (body : Body) (marks : List Mark) → (body.spare == 0) ≡ false → IsKept room before body → CountNumbers marks → Keeps (IsKept room before) (simple_iteration_at body marks)
+unfolding simple_iteration_at
+simple_iteration_keeps room before body marks free kept count =
     and_then _ (simple_keeps marks count) (λ last rest is left. gives (plain_kept room before body last (some_spare body.spare free) kept is) left)
 
 -- the readers of blocks keep within the limits, with blocks in them a level less deep than the room
@@ -284,15 +284,15 @@ module _ (room : ℕ) (blocks : Blocks) (law : KeepBlocks room blocks) where
   unfolding stmt_at
   stmt_keeps before body marks free kept count =
       one_of_two (next_is sort.If marks) _ _ (if_keeps before body marks (some_spare body.spare free) kept count)
-      (one_of_two (next_is sort.While marks) _ _ (while_keeps before body marks (some_spare body.spare free) kept count) (simple_turn_keeps room before body marks free kept count))
+      (one_of_two (next_is sort.While marks) _ _ (while_keeps before body marks (some_spare body.spare free) kept count) (simple_iteration_keeps room before body marks free kept count))
 
-  stmt_turn_keeps : (before : ℕ) (body : Body) (marks : List Mark) → IsKept room before body → CountNumbers marks → Keeps (IsKept room before) (stmt_turn_at room blocks body marks)
-  unfolding stmt_turn_at
-  stmt_turn_keeps before body marks kept count = unless_over (body.spare == 0) _ _ (λ free. stmt_keeps before body marks free kept count)
+  stmt_iteration_keeps : (before : ℕ) (body : Body) (marks : List Mark) → IsKept room before body → CountNumbers marks → Keeps (IsKept room before) (stmt_iteration_at room blocks body marks)
+  unfolding stmt_iteration_at
+  stmt_iteration_keeps before body marks kept count = unless_over (body.spare == 0) _ _ (λ free. stmt_keeps before body marks free kept count)
 
   stmts_by_keep : (spare : ℕ) (marks : List Mark) → CountNumbers marks → Keeps (IsKept room spare) (stmts_by room blocks spare marks)
   unfolding stmts_by
-  stmts_by_keep spare marks count = repeated_keeps begins_stmt (stmt_turn_at room blocks) (stmt_turn_keeps spare) (record { stmts = []; spare = spare }) marks (none_kept room spare) count
+  stmts_by_keep spare marks count = repeated_keeps begins_stmt (stmt_iteration_at room blocks) (stmt_iteration_keeps spare) (record { stmts = []; spare = spare }) marks (none_kept room spare) count
 
 kept_below : (room before : ℕ) (body : Body) → IsKept room before body → IsKeptBelow (suc room) before body
 kept_below room before body kept = (record { count = kept.count; nesting = omega (arith, kept.nesting); exprs = kept.exprs }, omega (arith, kept.nesting))

@@ -9,21 +9,14 @@ use Rattle.readers.specs.grammar.Lookahead.{Lookahead}
 use Rattle.readers.specs.grammar.MarkTables.{look_of}
 use Rattle.readers.specs.grammar.Tables.{Tables}
 use Rattle.readers.specs.grammar.Notation.{◌then◌, ◌or◌}
+use Rattle.model_reader.specs.grammar.Written.{enum_form, counter_form, register_form, accumulator_form, discrete_form, linear_form, daemon_form, delay_form, wait_form, start_form, if_form, while_form, return_form, form_of as written_form}
 use Rattle.model_reader.specs.grammar.Rules.{Rule, model_rule, item_rule, param_rule, type_rule, int_rule, literal_rule, read_rule, stmt_rule, block_rule, invoke_rule, expr_rule, and_rule, compare_rule, sum_rule, product_rule, unary_rule, primary_rule}
-
--- model = "model" NAME "{" { item } "}"
-abbrev pub model_form : Form Rule Sort
-model_form = token sort.Model then token sort.Name then token sort.OpenBrace then many (rule item_rule) then token sort.CloseBrace
 
 -- ---- names, numbers and literals
 
 -- [ "-" ]
 abbrev pub sign_form : Form Rule Sort
 sign_form = option (token sort.Minus)
-
--- int = [ "-" ] NUMBER
-abbrev pub int_form : Form Rule Sort
-int_form = sign_form then token sort.Number
 
 -- NUMBER | DURATION
 abbrev pub amount_form : Form Rule Sort
@@ -41,10 +34,6 @@ signed_amount_form = sign_form then amount_form
 abbrev pub literal_form : Form Rule Sort
 literal_form = signed_amount_form or token sort.True or token sort.False or variant_form
 
--- type = "int" | "duration" | "truth" | NAME
-abbrev pub type_form : Form Rule Sort
-type_form = token sort.Int or token sort.Duration or token sort.Truth or token sort.Name
-
 -- "volume" | "rate" | "conflicted"
 abbrev pub part_form : Form Rule Sort
 part_form = token sort.Volume or token sort.Rate or token sort.Conflicted
@@ -57,43 +46,11 @@ dotted_part_form = token sort.Dot then part_form
 abbrev pub read_part_form : Form Rule Sort
 read_part_form = option dotted_part_form
 
--- read = NAME [ "." ( "volume" | "rate" | "conflicted" ) ]
-abbrev pub read_form : Form Rule Sort
-read_form = token sort.Name then read_part_form
-
 -- ---- items
-
--- NAME { "," NAME }
-abbrev pub variant_list_form : Form Rule Sort
-variant_list_form = separated (token sort.Comma) (token sort.Name)
 
 -- "{" NAME { "," NAME } "}"
 abbrev pub variants_form : Form Rule Sort
-variants_form = token sort.OpenBrace then variant_list_form then token sort.CloseBrace
-
--- "enum" NAME "{" NAME { "," NAME } "}"
-abbrev pub enum_form : Form Rule Sort
-enum_form = token sort.Enum then token sort.Name then variants_form
-
--- "counter" NAME "=" int ";"
-abbrev pub counter_form : Form Rule Sort
-counter_form = token sort.Counter then token sort.Name then token sort.Assign then rule int_rule then token sort.Semicolon
-
--- "register" NAME ":" type "=" literal ";"
-abbrev pub register_form : Form Rule Sort
-register_form = token sort.Register then token sort.Name then token sort.Colon then rule type_rule then token sort.Assign then rule literal_rule then token sort.Semicolon
-
--- "accumulator" NAME "=" int "rate" int ";"
-abbrev pub accumulator_form : Form Rule Sort
-accumulator_form = token sort.Accumulator then token sort.Name then token sort.Assign then rule int_rule then token sort.Rate then rule int_rule then token sort.Semicolon
-
--- "discrete" NAME "=" read ";"
-abbrev pub discrete_form : Form Rule Sort
-discrete_form = token sort.Discrete then token sort.Name then token sort.Assign then rule read_rule then token sort.Semicolon
-
--- "linear" NAME "=" expr ";"
-abbrev pub linear_form : Form Rule Sort
-linear_form = token sort.Linear then token sort.Name then token sort.Assign then rule expr_rule then token sort.Semicolon
+variants_form = token sort.OpenBrace then separated (token sort.Comma) (token sort.Name) then token sort.CloseBrace
 
 -- "=" literal
 abbrev pub given_default_form : Form Rule Sort
@@ -102,10 +59,6 @@ given_default_form = token sort.Assign then rule literal_rule
 -- [ "=" literal ]
 abbrev pub default_form : Form Rule Sort
 default_form = option given_default_form
-
--- param = NAME ":" type [ "=" literal ]
-abbrev pub param_form : Form Rule Sort
-param_form = token sort.Name then token sort.Colon then rule type_rule then default_form
 
 -- param { "," param }
 abbrev pub parameter_list_form : Form Rule Sort
@@ -134,10 +87,6 @@ activity_body_form = token sort.OpenBrace then many require_form then many (rule
 -- "activity" NAME "(" [ param { "," param } ] ")" [ "->" type ] "{" { "require" expr ";" } { stmt } "}"
 abbrev pub activity_form : Form Rule Sort
 activity_form = token sort.Activity then token sort.Name then parameters_form then result_form then activity_body_form
-
--- "daemon" "{" { stmt } "}"
-abbrev pub daemon_form : Form Rule Sort
-daemon_form = token sort.Daemon then token sort.OpenBrace then many (rule stmt_rule) then token sort.CloseBrace
 
 -- counter | register | accumulator
 abbrev pub cell_form : Form Rule Sort
@@ -181,21 +130,9 @@ change_sign_form = (token sort.Assign or token sort.PlusAssign or token sort.Col
 abbrev pub change_form : Form Rule Sort
 change_form = token sort.Name then change_sign_form then rule expr_rule then token sort.Semicolon
 
--- "delay" expr ";"
-abbrev pub delay_form : Form Rule Sort
-delay_form = token sort.Delay then rule expr_rule then token sort.Semicolon
-
--- "wait" "until" expr ";"
-abbrev pub wait_form : Form Rule Sort
-wait_form = token sort.Wait then token sort.Until then rule expr_rule then token sort.Semicolon
-
 -- "spawn" | "call"
 abbrev pub start_word_form : Form Rule Sort
 start_word_form = token sort.Spawn or token sort.Call
-
--- ( "spawn" | "call" ) invoke ";"
-abbrev pub start_form : Form Rule Sort
-start_form = start_word_form then rule invoke_rule then token sort.Semicolon
 
 -- "else" block
 abbrev pub given_else_form : Form Rule Sort
@@ -205,18 +142,6 @@ given_else_form = token sort.Else then rule block_rule
 abbrev pub else_form : Form Rule Sort
 else_form = option given_else_form
 
--- "if" expr block [ "else" block ]
-abbrev pub if_form : Form Rule Sort
-if_form = token sort.If then rule expr_rule then rule block_rule then else_form
-
--- "while" expr block
-abbrev pub while_form : Form Rule Sort
-while_form = token sort.While then rule expr_rule then rule block_rule
-
--- "return" [ expr ] ";"
-abbrev pub return_form : Form Rule Sort
-return_form = token sort.Return then option (rule expr_rule) then token sort.Semicolon
-
 -- a statement without blocks
 abbrev pub simple_form : Form Rule Sort
 simple_form = let_form or change_form or delay_form or wait_form or start_form or return_form
@@ -225,79 +150,23 @@ simple_form = let_form or change_form or delay_form or wait_form or start_form o
 abbrev pub stmt_form : Form Rule Sort
 stmt_form = if_form or while_form or simple_form
 
--- block = "{" { stmt } "}"
-abbrev pub block_form : Form Rule Sort
-block_form = token sort.OpenBrace then many (rule stmt_rule) then token sort.CloseBrace
-
 -- NAME "=" expr
 abbrev pub argument_form : Form Rule Sort
 argument_form = token sort.Name then token sort.Assign then rule expr_rule
 
--- NAME "=" expr { "," NAME "=" expr }
-abbrev pub argument_list_form : Form Rule Sort
-argument_list_form = separated (token sort.Comma) argument_form
-
--- "(" [ NAME "=" expr { "," NAME "=" expr } ] ")"
-abbrev pub arguments_form : Form Rule Sort
-arguments_form = token sort.OpenParenthesis then option argument_list_form then token sort.CloseParenthesis
-
--- invoke = NAME "(" [ NAME "=" expr { "," NAME "=" expr } ] ")"
-abbrev pub invoke_form : Form Rule Sort
-invoke_form = token sort.Name then arguments_form
-
 -- ---- expressions
-
--- "||" and
-abbrev pub expr_operation_form : Form Rule Sort
-expr_operation_form = token sort.DoubleBar then rule and_rule
-
--- expr = and { "||" and }
-abbrev pub expr_form : Form Rule Sort
-expr_form = rule and_rule then many expr_operation_form
-
--- "&&" compare
-abbrev pub and_operation_form : Form Rule Sort
-and_operation_form = token sort.DoubleAmpersand then rule compare_rule
-
--- and = compare { "&&" compare }
-abbrev pub and_form : Form Rule Sort
-and_form = rule compare_rule then many and_operation_form
 
 -- "==" | "!=" | "<" | "<=" | ">" | ">="
 abbrev pub compare_sign_form : Form Rule Sort
 compare_sign_form = token sort.DoubleEqual or token sort.NotEqual or token sort.Less or token sort.LessEqual or token sort.Greater or token sort.GreaterEqual
 
--- ( "==" | "!=" | "<" | "<=" | ">" | ">=" ) sum
-abbrev pub compare_operation_form : Form Rule Sort
-compare_operation_form = compare_sign_form then rule sum_rule
-
--- compare = sum [ ( "==" | "!=" | "<" | "<=" | ">" | ">=" ) sum ]
-abbrev pub compare_form : Form Rule Sort
-compare_form = rule sum_rule then option compare_operation_form
-
 -- "+" | "-"
 abbrev pub sum_sign_form : Form Rule Sort
 sum_sign_form = token sort.Plus or token sort.Minus
 
--- ( "+" | "-" ) product
-abbrev pub sum_operation_form : Form Rule Sort
-sum_operation_form = sum_sign_form then rule product_rule
-
--- sum = product { ( "+" | "-" ) product }
-abbrev pub sum_form : Form Rule Sort
-sum_form = rule product_rule then many sum_operation_form
-
 -- "*" | "/" | "%"
 abbrev pub product_sign_form : Form Rule Sort
 product_sign_form = token sort.Star or token sort.Slash or token sort.Percent
-
--- ( "*" | "/" | "%" ) unary
-abbrev pub product_operation_form : Form Rule Sort
-product_operation_form = product_sign_form then rule unary_rule
-
--- product = unary { ( "*" | "/" | "%" ) unary }
-abbrev pub product_form : Form Rule Sort
-product_form = rule unary_rule then many product_operation_form
 
 -- "-" | "!"
 abbrev pub unary_sign_form : Form Rule Sort
@@ -306,10 +175,6 @@ unary_sign_form = token sort.Minus or token sort.Exclamation
 -- ( "-" | "!" ) unary
 abbrev pub signed_form : Form Rule Sort
 signed_form = unary_sign_form then rule unary_rule
-
--- unary = ( "-" | "!" ) unary | primary
-abbrev pub unary_form : Form Rule Sort
-unary_form = signed_form or rule primary_rule
 
 -- "." ( NAME | "volume" | "rate" | "conflicted" )
 abbrev pub dotted_member_form : Form Rule Sort
@@ -333,24 +198,13 @@ primary_form = amount_form or token sort.True or token sort.False or named_form 
 
 -- ---- the grammar
 
+-- the form of a rule: that of the grammar as it is written where the next token decides there too
 abbrev pub form_of : Rule → Form Rule Sort
-form_of model_rule = model_form
 form_of item_rule = item_form
-form_of param_rule = param_form
-form_of type_rule = type_form
-form_of int_rule = int_form
 form_of literal_rule = literal_form
-form_of read_rule = read_form
 form_of stmt_rule = stmt_form
-form_of block_rule = block_form
-form_of invoke_rule = invoke_form
-form_of expr_rule = expr_form
-form_of and_rule = and_form
-form_of compare_rule = compare_form
-form_of sum_rule = sum_form
-form_of product_rule = product_form
-form_of unary_rule = unary_form
 form_of primary_rule = primary_form
+form_of r = written_form r
 
 -- ---- with which sorts of tokens a rule begins
 

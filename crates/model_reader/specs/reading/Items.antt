@@ -251,18 +251,18 @@ declared_at kind d marks = do
   parsed (with_item kind d last.0) last.1
 
 -- the same, where the model may have one more of the kind
-unfoldable pub turn_at : ItemKind → Declarations → List Mark → Parsed Declarations
-turn_at kind d marks =
+unfoldable pub iteration_at : ItemKind → Declarations → List Mark → Parsed Declarations
+iteration_at kind d marks =
     let most = most_of kind in limited (nat_le most.count (declared_count kind d)) most.limit (declared_at kind d) marks
 
 -- item, behind the others
 unfoldable pub item_at : Declarations → List Mark → Parsed Declarations
 item_at d marks =
-    chosen (next_is sort.Enum marks) (turn_at kind.Enum d)
-    (chosen (next_is_one_of (sort.Counter ∷ sort.Register ∷ sort.Accumulator ∷ []) marks) (turn_at kind.Cell d)
-    (chosen (next_is_one_of (sort.Discrete ∷ sort.Linear ∷ []) marks) (turn_at kind.Resource d)
-    (chosen (next_is sort.Activity marks) (turn_at kind.Activity d)
-    (chosen (next_is sort.Daemon marks) (turn_at kind.Daemon d) failed)))) marks
+    chosen (next_is sort.Enum marks) (iteration_at kind.Enum d)
+    (chosen (next_is_one_of (sort.Counter ∷ sort.Register ∷ sort.Accumulator ∷ []) marks) (iteration_at kind.Cell d)
+    (chosen (next_is_one_of (sort.Discrete ∷ sort.Linear ∷ []) marks) (iteration_at kind.Resource d)
+    (chosen (next_is sort.Activity marks) (iteration_at kind.Activity d)
+    (chosen (next_is sort.Daemon marks) (iteration_at kind.Daemon d) failed)))) marks
 
 -- the mark begins an item
 abbrev pub begins_item : Mark → Bool

@@ -1,5 +1,5 @@
 -- Worked cases of what is read of a model's text.
-use Rattle.std.specs.Prelude.{◌≡◌, ℕ, ℤ, pos, negsuc, true, List, [], ◌∷◌, replicate, Some, None, Result, Ok, Err, codes, refl}
+use Rattle.std.specs.Prelude.{◌≡◌, ℕ, ℤ, pos, negsuc, true, List, [], ◌∷◌, replicate, Some, None, codes, refl}
 use Rattle.std.specs.Str.{chars}
 use Rattle.aerie_base.specs.declared.expressions.Comparison.TheVariants as comparison
 use Rattle.aerie_base.specs.declared.expressions.Operator.{Operator}
@@ -10,8 +10,7 @@ use Rattle.readers.specs.declared.limits.Limit.TheVariants.{Depth, Statements, V
 use Rattle.readers.specs.Lists.{one_more_at}
 use Rattle.readers.specs.Marks.{Mark}
 use Rattle.aerie_text.specs.declared.sorts.Sort.TheVariants as sort
-use Rattle.aerie_text.specs.declared.token.Token.{Token}
-use Rattle.readers.specs.Marks.{marks_of}
+use Rattle.readers.specs.Marks.{marks_in}
 use Rattle.aerie_text.specs.Numerals.{digits_at}
 use Rattle.aerie_text.specs.Sorts.{symbol_sort, word_sort}
 use Rattle.aerie_text.specs.Symbols.{symbol_len}
@@ -36,17 +35,9 @@ use Rattle.model_reader.specs.reading.Expressions.{whole_at, amount_leaf_at, tru
 use Rattle.model_reader.specs.reading.Names.{raw_name_at, standing_for, one_standing_for}
 use Rattle.model_reader.specs.reading.Literals.{minus_at, sign_at, int_at, amount_at, amount_literal_at, truth_literal_at, variant_literal_at, literal_at}
 use Rattle.model_reader.specs.reading.Types.{named_type_at, type_at, part_at, dotted_part_at, read_part_at, read_at}
-use Rattle.model_reader.specs.reading.Statements.{argument_at, invoke_at, let_call_at, let_expr_at, let_value_at, let_at, part_change_word_at, part_change_at, change_sign_at, change_at, delay_at, wait_at, start_word_at, start_at, some_expr_at, optional_expr_at, return_at, opened_block_at, block_at, else_block_at, else_at, choice_at, if_at, while_at, simple_at, simple_turn_at, stmt_at, stmt_turn_at, stmts_by, stmts_at, body_at}
-use Rattle.model_reader.specs.reading.Items.{most_variants, variants_at, enum_at, counter_at, register_at, int_literal_at, accumulator_at, discrete_at, linear_at, given_default_at, default_at, param_at, params_at, given_result_at, result_at, require_at, requires_at, activity_body_at, activity_at, daemon_at, declared_at, turn_at, cell_at, resource_at, item_at, items_at}
+use Rattle.model_reader.specs.reading.Statements.{argument_at, invoke_at, let_call_at, let_expr_at, let_value_at, let_at, part_change_word_at, part_change_at, change_sign_at, change_at, delay_at, wait_at, start_word_at, start_at, some_expr_at, optional_expr_at, return_at, opened_block_at, block_at, else_block_at, else_at, choice_at, if_at, while_at, simple_at, simple_iteration_at, stmt_at, stmt_iteration_at, stmts_by, stmts_at, body_at}
+use Rattle.model_reader.specs.reading.Items.{most_variants, variants_at, enum_at, counter_at, register_at, int_literal_at, accumulator_at, discrete_at, linear_at, given_default_at, default_at, param_at, params_at, given_result_at, result_at, require_at, requires_at, activity_body_at, activity_at, daemon_at, declared_at, iteration_at, cell_at, resource_at, item_at, items_at}
 use Rattle.model_reader.specs.reading.Models.{model_at}
-
--- the marks of a text
-abbrev pub marks_or_none : List ℕ → Result (List Token) ℕ → List Mark
-marks_or_none text (Ok tokens) = marks_of text tokens
-marks_or_none text (Err at) = []
-
-abbrev pub marks_in : List ℕ → List Mark
-marks_in text = marks_or_none text (tokens_of text)
 
 -- what is read, and the columns of the marks that are left
 pub data Outcome (A : Type 0) : Type 0 where
@@ -177,28 +168,28 @@ abbrev pub stmts_in : ℕ → ℕ → List ℕ → Outcome Body
 stmts_in room spare text = outcome (stmts_at room spare (marks_in text))
 
 pub a_change : stmts_in 0 9 (codes "n += 1; }") ≡ gives (body (statement 1 (Add (named 1 (codes "n")) (number 6 (pos 1))) ∷ []) 8) (9 ∷ [])
-unfolding raw_name_at one_standing_for standing_for minus_at sign_at int_at amount_at amount_literal_at truth_literal_at variant_literal_at literal_at named_type_at type_at part_at dotted_part_at read_part_at read_at amount_leaf_at truth_leaf_at variant_at part_read_at dotted_member_at member_at named_at parentheses_at parenthesis_at primary_at unary_sign_at signed_at unary_at operand_at operated_at operation_at chain_at product_sign_at product_at sum_sign_at sum_at compare_sign_at comparison_at conjunction_at disjunction_at expr_at argument_at invoke_at let_call_at let_expr_at let_value_at let_at part_change_word_at part_change_at change_sign_at change_at delay_at wait_at start_word_at start_at some_expr_at optional_expr_at return_at opened_block_at block_at else_block_at else_at choice_at if_at while_at simple_at simple_turn_at stmt_at stmt_turn_at stmts_by body_at tokens_of tokens_from token_at digits_at symbol_len chars word_sort symbol_sort
+unfolding raw_name_at one_standing_for standing_for minus_at sign_at int_at amount_at amount_literal_at truth_literal_at variant_literal_at literal_at named_type_at type_at part_at dotted_part_at read_part_at read_at amount_leaf_at truth_leaf_at variant_at part_read_at dotted_member_at member_at named_at parentheses_at parenthesis_at primary_at unary_sign_at signed_at unary_at operand_at operated_at operation_at chain_at product_sign_at product_at sum_sign_at sum_at compare_sign_at comparison_at conjunction_at disjunction_at expr_at argument_at invoke_at let_call_at let_expr_at let_value_at let_at part_change_word_at part_change_at change_sign_at change_at delay_at wait_at start_word_at start_at some_expr_at optional_expr_at return_at opened_block_at block_at else_block_at else_at choice_at if_at while_at simple_at simple_iteration_at stmt_at stmt_iteration_at stmts_by body_at tokens_of tokens_from token_at digits_at symbol_len chars word_sort symbol_sort
 a_change = refl
 
 pub a_child : stmts_in 0 9 (codes "let x = call A(p = 1);") ≡ gives (body (statement 1 (LetCall (named 5 (codes "x")) (record { name = named 14 (codes "A"); arguments = (named 16 (codes "p"), number 20 (pos 1)) ∷ [] })) ∷ []) 8) []
-unfolding raw_name_at one_standing_for standing_for minus_at sign_at int_at amount_at amount_literal_at truth_literal_at variant_literal_at literal_at named_type_at type_at part_at dotted_part_at read_part_at read_at amount_leaf_at truth_leaf_at variant_at part_read_at dotted_member_at member_at named_at parentheses_at parenthesis_at primary_at unary_sign_at signed_at unary_at operand_at operated_at operation_at chain_at product_sign_at product_at sum_sign_at sum_at compare_sign_at comparison_at conjunction_at disjunction_at expr_at argument_at invoke_at let_call_at let_expr_at let_value_at let_at part_change_word_at part_change_at change_sign_at change_at delay_at wait_at start_word_at start_at some_expr_at optional_expr_at return_at opened_block_at block_at else_block_at else_at choice_at if_at while_at simple_at simple_turn_at stmt_at stmt_turn_at stmts_by body_at tokens_of tokens_from token_at digits_at symbol_len chars word_sort symbol_sort
+unfolding raw_name_at one_standing_for standing_for minus_at sign_at int_at amount_at amount_literal_at truth_literal_at variant_literal_at literal_at named_type_at type_at part_at dotted_part_at read_part_at read_at amount_leaf_at truth_leaf_at variant_at part_read_at dotted_member_at member_at named_at parentheses_at parenthesis_at primary_at unary_sign_at signed_at unary_at operand_at operated_at operation_at chain_at product_sign_at product_at sum_sign_at sum_at compare_sign_at comparison_at conjunction_at disjunction_at expr_at argument_at invoke_at let_call_at let_expr_at let_value_at let_at part_change_word_at part_change_at change_sign_at change_at delay_at wait_at start_word_at start_at some_expr_at optional_expr_at return_at opened_block_at block_at else_block_at else_at choice_at if_at while_at simple_at simple_iteration_at stmt_at stmt_iteration_at stmts_by body_at tokens_of tokens_from token_at digits_at symbol_len chars word_sort symbol_sort
 a_child = refl
 
 -- the statements of a block are counted with the body's
 pub a_loop : stmts_in 1 2 (codes "while x { return; }") ≡ gives (body (statement 1 (While (look 7 (codes "x")) (statement 11 (Return None) ∷ [])) ∷ []) 0) []
-unfolding raw_name_at one_standing_for standing_for minus_at sign_at int_at amount_at amount_literal_at truth_literal_at variant_literal_at literal_at named_type_at type_at part_at dotted_part_at read_part_at read_at amount_leaf_at truth_leaf_at variant_at part_read_at dotted_member_at member_at named_at parentheses_at parenthesis_at primary_at unary_sign_at signed_at unary_at operand_at operated_at operation_at chain_at product_sign_at product_at sum_sign_at sum_at compare_sign_at comparison_at conjunction_at disjunction_at expr_at argument_at invoke_at let_call_at let_expr_at let_value_at let_at part_change_word_at part_change_at change_sign_at change_at delay_at wait_at start_word_at start_at some_expr_at optional_expr_at return_at opened_block_at block_at else_block_at else_at choice_at if_at while_at simple_at simple_turn_at stmt_at stmt_turn_at stmts_by body_at tokens_of tokens_from token_at digits_at symbol_len chars word_sort symbol_sort
+unfolding raw_name_at one_standing_for standing_for minus_at sign_at int_at amount_at amount_literal_at truth_literal_at variant_literal_at literal_at named_type_at type_at part_at dotted_part_at read_part_at read_at amount_leaf_at truth_leaf_at variant_at part_read_at dotted_member_at member_at named_at parentheses_at parenthesis_at primary_at unary_sign_at signed_at unary_at operand_at operated_at operation_at chain_at product_sign_at product_at sum_sign_at sum_at compare_sign_at comparison_at conjunction_at disjunction_at expr_at argument_at invoke_at let_call_at let_expr_at let_value_at let_at part_change_word_at part_change_at change_sign_at change_at delay_at wait_at start_word_at start_at some_expr_at optional_expr_at return_at opened_block_at block_at else_block_at else_at choice_at if_at while_at simple_at simple_iteration_at stmt_at stmt_iteration_at stmts_by body_at tokens_of tokens_from token_at digits_at symbol_len chars word_sort symbol_sort
 a_loop = refl
 
 pub one_statement_too_many : stmts_in 1 1 (codes "while x { return; }") ≡ passes Statements (11 ∷ 17 ∷ 19 ∷ [])
-unfolding raw_name_at one_standing_for standing_for minus_at sign_at int_at amount_at amount_literal_at truth_literal_at variant_literal_at literal_at named_type_at type_at part_at dotted_part_at read_part_at read_at amount_leaf_at truth_leaf_at variant_at part_read_at dotted_member_at member_at named_at parentheses_at parenthesis_at primary_at unary_sign_at signed_at unary_at operand_at operated_at operation_at chain_at product_sign_at product_at sum_sign_at sum_at compare_sign_at comparison_at conjunction_at disjunction_at expr_at argument_at invoke_at let_call_at let_expr_at let_value_at let_at part_change_word_at part_change_at change_sign_at change_at delay_at wait_at start_word_at start_at some_expr_at optional_expr_at return_at opened_block_at block_at else_block_at else_at choice_at if_at while_at simple_at simple_turn_at stmt_at stmt_turn_at stmts_by body_at tokens_of tokens_from token_at digits_at symbol_len chars word_sort symbol_sort
+unfolding raw_name_at one_standing_for standing_for minus_at sign_at int_at amount_at amount_literal_at truth_literal_at variant_literal_at literal_at named_type_at type_at part_at dotted_part_at read_part_at read_at amount_leaf_at truth_leaf_at variant_at part_read_at dotted_member_at member_at named_at parentheses_at parenthesis_at primary_at unary_sign_at signed_at unary_at operand_at operated_at operation_at chain_at product_sign_at product_at sum_sign_at sum_at compare_sign_at comparison_at conjunction_at disjunction_at expr_at argument_at invoke_at let_call_at let_expr_at let_value_at let_at part_change_word_at part_change_at change_sign_at change_at delay_at wait_at start_word_at start_at some_expr_at optional_expr_at return_at opened_block_at block_at else_block_at else_at choice_at if_at while_at simple_at simple_iteration_at stmt_at stmt_iteration_at stmts_by body_at tokens_of tokens_from token_at digits_at symbol_len chars word_sort symbol_sort
 one_statement_too_many = refl
 
 pub a_block_too_deep : stmts_in 0 9 (codes "while x { return; }") ≡ passes Depth (9 ∷ 11 ∷ 17 ∷ 19 ∷ [])
-unfolding raw_name_at one_standing_for standing_for minus_at sign_at int_at amount_at amount_literal_at truth_literal_at variant_literal_at literal_at named_type_at type_at part_at dotted_part_at read_part_at read_at amount_leaf_at truth_leaf_at variant_at part_read_at dotted_member_at member_at named_at parentheses_at parenthesis_at primary_at unary_sign_at signed_at unary_at operand_at operated_at operation_at chain_at product_sign_at product_at sum_sign_at sum_at compare_sign_at comparison_at conjunction_at disjunction_at expr_at argument_at invoke_at let_call_at let_expr_at let_value_at let_at part_change_word_at part_change_at change_sign_at change_at delay_at wait_at start_word_at start_at some_expr_at optional_expr_at return_at opened_block_at block_at else_block_at else_at choice_at if_at while_at simple_at simple_turn_at stmt_at stmt_turn_at stmts_by body_at tokens_of tokens_from token_at digits_at symbol_len chars word_sort symbol_sort
+unfolding raw_name_at one_standing_for standing_for minus_at sign_at int_at amount_at amount_literal_at truth_literal_at variant_literal_at literal_at named_type_at type_at part_at dotted_part_at read_part_at read_at amount_leaf_at truth_leaf_at variant_at part_read_at dotted_member_at member_at named_at parentheses_at parenthesis_at primary_at unary_sign_at signed_at unary_at operand_at operated_at operation_at chain_at product_sign_at product_at sum_sign_at sum_at compare_sign_at comparison_at conjunction_at disjunction_at expr_at argument_at invoke_at let_call_at let_expr_at let_value_at let_at part_change_word_at part_change_at change_sign_at change_at delay_at wait_at start_word_at start_at some_expr_at optional_expr_at return_at opened_block_at block_at else_block_at else_at choice_at if_at while_at simple_at simple_iteration_at stmt_at stmt_iteration_at stmts_by body_at tokens_of tokens_from token_at digits_at symbol_len chars word_sort symbol_sort
 a_block_too_deep = refl
 
 pub a_choice : stmts_in 1 9 (codes "if x { } else { } return 1;") ≡ gives (body (statement 1 (If (look 4 (codes "x")) [] []) ∷ statement 19 (Return (Some (number 26 (pos 1)))) ∷ []) 7) []
-unfolding raw_name_at one_standing_for standing_for minus_at sign_at int_at amount_at amount_literal_at truth_literal_at variant_literal_at literal_at named_type_at type_at part_at dotted_part_at read_part_at read_at amount_leaf_at truth_leaf_at variant_at part_read_at dotted_member_at member_at named_at parentheses_at parenthesis_at primary_at unary_sign_at signed_at unary_at operand_at operated_at operation_at chain_at product_sign_at product_at sum_sign_at sum_at compare_sign_at comparison_at conjunction_at disjunction_at expr_at argument_at invoke_at let_call_at let_expr_at let_value_at let_at part_change_word_at part_change_at change_sign_at change_at delay_at wait_at start_word_at start_at some_expr_at optional_expr_at return_at opened_block_at block_at else_block_at else_at choice_at if_at while_at simple_at simple_turn_at stmt_at stmt_turn_at stmts_by body_at tokens_of tokens_from token_at digits_at symbol_len chars word_sort symbol_sort
+unfolding raw_name_at one_standing_for standing_for minus_at sign_at int_at amount_at amount_literal_at truth_literal_at variant_literal_at literal_at named_type_at type_at part_at dotted_part_at read_part_at read_at amount_leaf_at truth_leaf_at variant_at part_read_at dotted_member_at member_at named_at parentheses_at parenthesis_at primary_at unary_sign_at signed_at unary_at operand_at operated_at operation_at chain_at product_sign_at product_at sum_sign_at sum_at compare_sign_at comparison_at conjunction_at disjunction_at expr_at argument_at invoke_at let_call_at let_expr_at let_value_at let_at part_change_word_at part_change_at change_sign_at change_at delay_at wait_at start_word_at start_at some_expr_at optional_expr_at return_at opened_block_at block_at else_block_at else_at choice_at if_at while_at simple_at simple_iteration_at stmt_at stmt_iteration_at stmts_by body_at tokens_of tokens_from token_at digits_at symbol_len chars word_sort symbol_sort
 a_choice = refl
 
 -- ---- items and models
@@ -207,15 +198,15 @@ abbrev pub items_in : List ℕ → Outcome (List RawItem)
 items_in text = outcome (items_at (marks_in text))
 
 pub an_enumeration : items_in (codes "enum M { A, B }") ≡ gives (item.Enum (named 6 (codes "M")) (named 10 (codes "A") ∷ named 13 (codes "B") ∷ []) ∷ []) []
-unfolding raw_name_at one_standing_for standing_for minus_at sign_at int_at amount_at amount_literal_at truth_literal_at variant_literal_at literal_at named_type_at type_at part_at dotted_part_at read_part_at read_at amount_leaf_at truth_leaf_at variant_at part_read_at dotted_member_at member_at named_at parentheses_at parenthesis_at primary_at unary_sign_at signed_at unary_at operand_at operated_at operation_at chain_at product_sign_at product_at sum_sign_at sum_at compare_sign_at comparison_at conjunction_at disjunction_at expr_at argument_at invoke_at let_call_at let_expr_at let_value_at let_at part_change_word_at part_change_at change_sign_at change_at delay_at wait_at start_word_at start_at some_expr_at optional_expr_at return_at opened_block_at block_at else_block_at else_at choice_at if_at while_at simple_at simple_turn_at stmt_at stmt_turn_at stmts_by body_at variants_at enum_at counter_at register_at int_literal_at accumulator_at discrete_at linear_at given_default_at default_at param_at params_at given_result_at result_at require_at requires_at activity_body_at activity_at daemon_at declared_at turn_at cell_at resource_at item_at items_at tokens_of tokens_from token_at digits_at symbol_len chars word_sort symbol_sort
+unfolding raw_name_at one_standing_for standing_for minus_at sign_at int_at amount_at amount_literal_at truth_literal_at variant_literal_at literal_at named_type_at type_at part_at dotted_part_at read_part_at read_at amount_leaf_at truth_leaf_at variant_at part_read_at dotted_member_at member_at named_at parentheses_at parenthesis_at primary_at unary_sign_at signed_at unary_at operand_at operated_at operation_at chain_at product_sign_at product_at sum_sign_at sum_at compare_sign_at comparison_at conjunction_at disjunction_at expr_at argument_at invoke_at let_call_at let_expr_at let_value_at let_at part_change_word_at part_change_at change_sign_at change_at delay_at wait_at start_word_at start_at some_expr_at optional_expr_at return_at opened_block_at block_at else_block_at else_at choice_at if_at while_at simple_at simple_iteration_at stmt_at stmt_iteration_at stmts_by body_at variants_at enum_at counter_at register_at int_literal_at accumulator_at discrete_at linear_at given_default_at default_at param_at params_at given_result_at result_at require_at requires_at activity_body_at activity_at daemon_at declared_at iteration_at cell_at resource_at item_at items_at tokens_of tokens_from token_at digits_at symbol_len chars word_sort symbol_sort
 an_enumeration = refl
 
 pub an_accumulator : items_in (codes "accumulator e = 5 rate -2; }") ≡ gives (item.Accumulator (named 13 (codes "e")) (pos 5) (record { at = at 24; what = literal.Number (negsuc 1) }) ∷ []) (28 ∷ [])
-unfolding raw_name_at one_standing_for standing_for minus_at sign_at int_at amount_at amount_literal_at truth_literal_at variant_literal_at literal_at named_type_at type_at part_at dotted_part_at read_part_at read_at amount_leaf_at truth_leaf_at variant_at part_read_at dotted_member_at member_at named_at parentheses_at parenthesis_at primary_at unary_sign_at signed_at unary_at operand_at operated_at operation_at chain_at product_sign_at product_at sum_sign_at sum_at compare_sign_at comparison_at conjunction_at disjunction_at expr_at argument_at invoke_at let_call_at let_expr_at let_value_at let_at part_change_word_at part_change_at change_sign_at change_at delay_at wait_at start_word_at start_at some_expr_at optional_expr_at return_at opened_block_at block_at else_block_at else_at choice_at if_at while_at simple_at simple_turn_at stmt_at stmt_turn_at stmts_by body_at variants_at enum_at counter_at register_at int_literal_at accumulator_at discrete_at linear_at given_default_at default_at param_at params_at given_result_at result_at require_at requires_at activity_body_at activity_at daemon_at declared_at turn_at cell_at resource_at item_at items_at tokens_of tokens_from token_at digits_at symbol_len chars word_sort symbol_sort
+unfolding raw_name_at one_standing_for standing_for minus_at sign_at int_at amount_at amount_literal_at truth_literal_at variant_literal_at literal_at named_type_at type_at part_at dotted_part_at read_part_at read_at amount_leaf_at truth_leaf_at variant_at part_read_at dotted_member_at member_at named_at parentheses_at parenthesis_at primary_at unary_sign_at signed_at unary_at operand_at operated_at operation_at chain_at product_sign_at product_at sum_sign_at sum_at compare_sign_at comparison_at conjunction_at disjunction_at expr_at argument_at invoke_at let_call_at let_expr_at let_value_at let_at part_change_word_at part_change_at change_sign_at change_at delay_at wait_at start_word_at start_at some_expr_at optional_expr_at return_at opened_block_at block_at else_block_at else_at choice_at if_at while_at simple_at simple_iteration_at stmt_at stmt_iteration_at stmts_by body_at variants_at enum_at counter_at register_at int_literal_at accumulator_at discrete_at linear_at given_default_at default_at param_at params_at given_result_at result_at require_at requires_at activity_body_at activity_at daemon_at declared_at iteration_at cell_at resource_at item_at items_at tokens_of tokens_from token_at digits_at symbol_len chars word_sort symbol_sort
 an_accumulator = refl
 
 pub a_parameter_is_missing : items_in (codes "activity A(p: int, ) { }") ≡ stops (20 ∷ 22 ∷ 24 ∷ [])
-unfolding raw_name_at one_standing_for standing_for minus_at sign_at int_at amount_at amount_literal_at truth_literal_at variant_literal_at literal_at named_type_at type_at part_at dotted_part_at read_part_at read_at amount_leaf_at truth_leaf_at variant_at part_read_at dotted_member_at member_at named_at parentheses_at parenthesis_at primary_at unary_sign_at signed_at unary_at operand_at operated_at operation_at chain_at product_sign_at product_at sum_sign_at sum_at compare_sign_at comparison_at conjunction_at disjunction_at expr_at argument_at invoke_at let_call_at let_expr_at let_value_at let_at part_change_word_at part_change_at change_sign_at change_at delay_at wait_at start_word_at start_at some_expr_at optional_expr_at return_at opened_block_at block_at else_block_at else_at choice_at if_at while_at simple_at simple_turn_at stmt_at stmt_turn_at stmts_by body_at variants_at enum_at counter_at register_at int_literal_at accumulator_at discrete_at linear_at given_default_at default_at param_at params_at given_result_at result_at require_at requires_at activity_body_at activity_at daemon_at declared_at turn_at cell_at resource_at item_at items_at tokens_of tokens_from token_at digits_at symbol_len chars word_sort symbol_sort
+unfolding raw_name_at one_standing_for standing_for minus_at sign_at int_at amount_at amount_literal_at truth_literal_at variant_literal_at literal_at named_type_at type_at part_at dotted_part_at read_part_at read_at amount_leaf_at truth_leaf_at variant_at part_read_at dotted_member_at member_at named_at parentheses_at parenthesis_at primary_at unary_sign_at signed_at unary_at operand_at operated_at operation_at chain_at product_sign_at product_at sum_sign_at sum_at compare_sign_at comparison_at conjunction_at disjunction_at expr_at argument_at invoke_at let_call_at let_expr_at let_value_at let_at part_change_word_at part_change_at change_sign_at change_at delay_at wait_at start_word_at start_at some_expr_at optional_expr_at return_at opened_block_at block_at else_block_at else_at choice_at if_at while_at simple_at simple_iteration_at stmt_at stmt_iteration_at stmts_by body_at variants_at enum_at counter_at register_at int_literal_at accumulator_at discrete_at linear_at given_default_at default_at param_at params_at given_result_at result_at require_at requires_at activity_body_at activity_at daemon_at declared_at iteration_at cell_at resource_at item_at items_at tokens_of tokens_from token_at digits_at symbol_len chars word_sort symbol_sort
 a_parameter_is_missing = refl
 
 -- an enumeration that has as many variants as may be
@@ -223,7 +214,7 @@ abbrev pub many_names : ℕ → List RawName
 many_names count = replicate count (named 1 (codes "A"))
 
 pub one_variant_too_many : outcome (one_more_at sort.Name most_variants raw_name_at (many_names 256) (marks_in (codes "A"))) ≡ passes Variants (1 ∷ [])
-unfolding raw_name_at one_standing_for standing_for minus_at sign_at int_at amount_at amount_literal_at truth_literal_at variant_literal_at literal_at named_type_at type_at part_at dotted_part_at read_part_at read_at amount_leaf_at truth_leaf_at variant_at part_read_at dotted_member_at member_at named_at parentheses_at parenthesis_at primary_at unary_sign_at signed_at unary_at operand_at operated_at operation_at chain_at product_sign_at product_at sum_sign_at sum_at compare_sign_at comparison_at conjunction_at disjunction_at expr_at argument_at invoke_at let_call_at let_expr_at let_value_at let_at part_change_word_at part_change_at change_sign_at change_at delay_at wait_at start_word_at start_at some_expr_at optional_expr_at return_at opened_block_at block_at else_block_at else_at choice_at if_at while_at simple_at simple_turn_at stmt_at stmt_turn_at stmts_by body_at variants_at enum_at counter_at register_at int_literal_at accumulator_at discrete_at linear_at given_default_at default_at param_at params_at given_result_at result_at require_at requires_at activity_body_at activity_at daemon_at declared_at turn_at cell_at resource_at item_at items_at tokens_of tokens_from token_at digits_at symbol_len chars word_sort symbol_sort
+unfolding raw_name_at one_standing_for standing_for minus_at sign_at int_at amount_at amount_literal_at truth_literal_at variant_literal_at literal_at named_type_at type_at part_at dotted_part_at read_part_at read_at amount_leaf_at truth_leaf_at variant_at part_read_at dotted_member_at member_at named_at parentheses_at parenthesis_at primary_at unary_sign_at signed_at unary_at operand_at operated_at operation_at chain_at product_sign_at product_at sum_sign_at sum_at compare_sign_at comparison_at conjunction_at disjunction_at expr_at argument_at invoke_at let_call_at let_expr_at let_value_at let_at part_change_word_at part_change_at change_sign_at change_at delay_at wait_at start_word_at start_at some_expr_at optional_expr_at return_at opened_block_at block_at else_block_at else_at choice_at if_at while_at simple_at simple_iteration_at stmt_at stmt_iteration_at stmts_by body_at variants_at enum_at counter_at register_at int_literal_at accumulator_at discrete_at linear_at given_default_at default_at param_at params_at given_result_at result_at require_at requires_at activity_body_at activity_at daemon_at declared_at iteration_at cell_at resource_at item_at items_at tokens_of tokens_from token_at digits_at symbol_len chars word_sort symbol_sort
 one_variant_too_many = refl
 
 abbrev pub model_in : List ℕ → Outcome RawModel
@@ -238,14 +229,14 @@ pub a_model : model_in (codes "model m { counter n = 0; activity A(by: int) { n 
           (statement 48 (Add (named 48 (codes "n")) (look 53 (codes "by"))) ∷ [])
           ∷ [];
     }) (61 ∷ [])
-unfolding raw_name_at one_standing_for standing_for minus_at sign_at int_at amount_at amount_literal_at truth_literal_at variant_literal_at literal_at named_type_at type_at part_at dotted_part_at read_part_at read_at amount_leaf_at truth_leaf_at variant_at part_read_at dotted_member_at member_at named_at parentheses_at parenthesis_at primary_at unary_sign_at signed_at unary_at operand_at operated_at operation_at chain_at product_sign_at product_at sum_sign_at sum_at compare_sign_at comparison_at conjunction_at disjunction_at expr_at argument_at invoke_at let_call_at let_expr_at let_value_at let_at part_change_word_at part_change_at change_sign_at change_at delay_at wait_at start_word_at start_at some_expr_at optional_expr_at return_at opened_block_at block_at else_block_at else_at choice_at if_at while_at simple_at simple_turn_at stmt_at stmt_turn_at stmts_by body_at variants_at enum_at counter_at register_at int_literal_at accumulator_at discrete_at linear_at given_default_at default_at param_at params_at given_result_at result_at require_at requires_at activity_body_at activity_at daemon_at declared_at turn_at cell_at resource_at item_at items_at model_at tokens_of tokens_from token_at digits_at symbol_len chars word_sort symbol_sort
+unfolding raw_name_at one_standing_for standing_for minus_at sign_at int_at amount_at amount_literal_at truth_literal_at variant_literal_at literal_at named_type_at type_at part_at dotted_part_at read_part_at read_at amount_leaf_at truth_leaf_at variant_at part_read_at dotted_member_at member_at named_at parentheses_at parenthesis_at primary_at unary_sign_at signed_at unary_at operand_at operated_at operation_at chain_at product_sign_at product_at sum_sign_at sum_at compare_sign_at comparison_at conjunction_at disjunction_at expr_at argument_at invoke_at let_call_at let_expr_at let_value_at let_at part_change_word_at part_change_at change_sign_at change_at delay_at wait_at start_word_at start_at some_expr_at optional_expr_at return_at opened_block_at block_at else_block_at else_at choice_at if_at while_at simple_at simple_iteration_at stmt_at stmt_iteration_at stmts_by body_at variants_at enum_at counter_at register_at int_literal_at accumulator_at discrete_at linear_at given_default_at default_at param_at params_at given_result_at result_at require_at requires_at activity_body_at activity_at daemon_at declared_at iteration_at cell_at resource_at item_at items_at model_at tokens_of tokens_from token_at digits_at symbol_len chars word_sort symbol_sort
 a_model = refl
 
 -- an item's first word is wanted, or the brace that closes the model
 pub no_item : model_in (codes "model m { counters n; }") ≡ stops (11 ∷ 20 ∷ 21 ∷ 23 ∷ [])
-unfolding raw_name_at one_standing_for standing_for minus_at sign_at int_at amount_at amount_literal_at truth_literal_at variant_literal_at literal_at named_type_at type_at part_at dotted_part_at read_part_at read_at amount_leaf_at truth_leaf_at variant_at part_read_at dotted_member_at member_at named_at parentheses_at parenthesis_at primary_at unary_sign_at signed_at unary_at operand_at operated_at operation_at chain_at product_sign_at product_at sum_sign_at sum_at compare_sign_at comparison_at conjunction_at disjunction_at expr_at argument_at invoke_at let_call_at let_expr_at let_value_at let_at part_change_word_at part_change_at change_sign_at change_at delay_at wait_at start_word_at start_at some_expr_at optional_expr_at return_at opened_block_at block_at else_block_at else_at choice_at if_at while_at simple_at simple_turn_at stmt_at stmt_turn_at stmts_by body_at variants_at enum_at counter_at register_at int_literal_at accumulator_at discrete_at linear_at given_default_at default_at param_at params_at given_result_at result_at require_at requires_at activity_body_at activity_at daemon_at declared_at turn_at cell_at resource_at item_at items_at model_at tokens_of tokens_from token_at digits_at symbol_len chars word_sort symbol_sort
+unfolding raw_name_at one_standing_for standing_for minus_at sign_at int_at amount_at amount_literal_at truth_literal_at variant_literal_at literal_at named_type_at type_at part_at dotted_part_at read_part_at read_at amount_leaf_at truth_leaf_at variant_at part_read_at dotted_member_at member_at named_at parentheses_at parenthesis_at primary_at unary_sign_at signed_at unary_at operand_at operated_at operation_at chain_at product_sign_at product_at sum_sign_at sum_at compare_sign_at comparison_at conjunction_at disjunction_at expr_at argument_at invoke_at let_call_at let_expr_at let_value_at let_at part_change_word_at part_change_at change_sign_at change_at delay_at wait_at start_word_at start_at some_expr_at optional_expr_at return_at opened_block_at block_at else_block_at else_at choice_at if_at while_at simple_at simple_iteration_at stmt_at stmt_iteration_at stmts_by body_at variants_at enum_at counter_at register_at int_literal_at accumulator_at discrete_at linear_at given_default_at default_at param_at params_at given_result_at result_at require_at requires_at activity_body_at activity_at daemon_at declared_at iteration_at cell_at resource_at item_at items_at model_at tokens_of tokens_from token_at digits_at symbol_len chars word_sort symbol_sort
 no_item = refl
 
 pub an_open_model : model_in (codes "model m { counter n = 0;") ≡ stops []
-unfolding raw_name_at one_standing_for standing_for minus_at sign_at int_at amount_at amount_literal_at truth_literal_at variant_literal_at literal_at named_type_at type_at part_at dotted_part_at read_part_at read_at amount_leaf_at truth_leaf_at variant_at part_read_at dotted_member_at member_at named_at parentheses_at parenthesis_at primary_at unary_sign_at signed_at unary_at operand_at operated_at operation_at chain_at product_sign_at product_at sum_sign_at sum_at compare_sign_at comparison_at conjunction_at disjunction_at expr_at argument_at invoke_at let_call_at let_expr_at let_value_at let_at part_change_word_at part_change_at change_sign_at change_at delay_at wait_at start_word_at start_at some_expr_at optional_expr_at return_at opened_block_at block_at else_block_at else_at choice_at if_at while_at simple_at simple_turn_at stmt_at stmt_turn_at stmts_by body_at variants_at enum_at counter_at register_at int_literal_at accumulator_at discrete_at linear_at given_default_at default_at param_at params_at given_result_at result_at require_at requires_at activity_body_at activity_at daemon_at declared_at turn_at cell_at resource_at item_at items_at model_at tokens_of tokens_from token_at digits_at symbol_len chars word_sort symbol_sort
+unfolding raw_name_at one_standing_for standing_for minus_at sign_at int_at amount_at amount_literal_at truth_literal_at variant_literal_at literal_at named_type_at type_at part_at dotted_part_at read_part_at read_at amount_leaf_at truth_leaf_at variant_at part_read_at dotted_member_at member_at named_at parentheses_at parenthesis_at primary_at unary_sign_at signed_at unary_at operand_at operated_at operation_at chain_at product_sign_at product_at sum_sign_at sum_at compare_sign_at comparison_at conjunction_at disjunction_at expr_at argument_at invoke_at let_call_at let_expr_at let_value_at let_at part_change_word_at part_change_at change_sign_at change_at delay_at wait_at start_word_at start_at some_expr_at optional_expr_at return_at opened_block_at block_at else_block_at else_at choice_at if_at while_at simple_at simple_iteration_at stmt_at stmt_iteration_at stmts_by body_at variants_at enum_at counter_at register_at int_literal_at accumulator_at discrete_at linear_at given_default_at default_at param_at params_at given_result_at result_at require_at requires_at activity_body_at activity_at daemon_at declared_at iteration_at cell_at resource_at item_at items_at model_at tokens_of tokens_from token_at digits_at symbol_len chars word_sort symbol_sort
 an_open_model = refl

@@ -226,8 +226,8 @@ simple_at marks =
     (chosen (next_is_one_of (sort.Spawn ∷ sort.Call ∷ []) marks) start_at return_at)))) marks
 
 -- the same, behind the statements of the block so far
-unfoldable pub simple_turn_at : Body → List Mark → Parsed Body
-simple_turn_at body marks = do
+unfoldable pub simple_iteration_at : Body → List Mark → Parsed Body
+simple_iteration_at body marks = do
   last ← simple_at marks
   parsed (with_stmt body (body.spare - 1) last.0) last.1
 
@@ -235,11 +235,11 @@ simple_turn_at body marks = do
 unfoldable pub stmt_at : ℕ → Blocks → Body → List Mark → Parsed Body
 stmt_at room blocks body marks =
     chosen (next_is sort.If marks) (if_at room blocks body)
-    (chosen (next_is sort.While marks) (while_at room blocks body) (simple_turn_at body)) marks
+    (chosen (next_is sort.While marks) (while_at room blocks body) (simple_iteration_at body)) marks
 
 -- the same, where the body may have one more
-unfoldable pub stmt_turn_at : ℕ → Blocks → Body → List Mark → Parsed Body
-stmt_turn_at room blocks body marks = limited (body.spare == 0) Statements (stmt_at room blocks body) marks
+unfoldable pub stmt_iteration_at : ℕ → Blocks → Body → List Mark → Parsed Body
+stmt_iteration_at room blocks body marks = limited (body.spare == 0) Statements (stmt_at room blocks body) marks
 
 -- the mark begins a statement
 abbrev pub begins_stmt : Mark → Bool
@@ -249,7 +249,7 @@ begins_stmt =
 
 -- { stmt }, by the reader of the statements of its blocks
 unfoldable pub stmts_by : ℕ → Blocks → Blocks
-stmts_by room blocks spare marks = repeated begins_stmt (stmt_turn_at room blocks) (record { stmts = []; spare = spare }) marks
+stmts_by room blocks spare marks = repeated begins_stmt (stmt_iteration_at room blocks) (record { stmts = []; spare = spare }) marks
 
 -- where no block may be opened nothing is read in one
 abbrev pub no_blocks : Blocks

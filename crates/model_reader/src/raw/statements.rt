@@ -68,7 +68,7 @@ pub enum RawStmtKind {
         yes: List<RawStmt>,
         no: List<RawStmt>,
     },
-    /// `while`, with the test before each turn and the block of each turn.
+    /// `while`, with the test before each iteration and the block of each iteration.
     While {
         test: RawExpr,
         body: List<RawStmt>,

@@ -10,7 +10,7 @@ mod resources;
 ghost use Rattle.std.specs.Prelude.{◌≡◌};
 ghost use Rattle.readers.specs.Implements.{Consumes, MayConsume};
 ghost use Rattle.readers.specs.Parsed.{next_fits, repeated};
-ghost use Rattle.model_reader.specs.reading.Items.{kind_at, turn_at, none_declared, begins_item, item_at, items_at};
+ghost use Rattle.model_reader.specs.reading.Items.{kind_at, iteration_at, none_declared, begins_item, item_at, items_at};
 
 use crate::raw::RawItem;
 use crate::reading::declarations::{Declarations, ItemKind};
@@ -38,14 +38,14 @@ fn item_of(alloc: Global, reader: &mut Reader, kind: ItemKind) -> Result<RawItem
 }
 
 /// The same, if the model may have one more of the kind, and puts it behind those so far.
-#[tactic(auto, unfolding(crate::specs::reading::Items::turn_at, crate::specs::reading::Items::declared_at))]
-fn turn(
+#[tactic(auto, unfolding(crate::specs::reading::Items::iteration_at, crate::specs::reading::Items::declared_at))]
+fn iteration(
     alloc: Global,
     reader: &mut Reader,
     kind: ItemKind,
     so_far: Declarations,
 ) -> Result<Declarations, Refusal>
-    ensures { Consumes (turn_at kind so_far) reader.old reader.new result }
+    ensures { Consumes (iteration_at kind so_far) reader.old reader.new result }
 {
     let most = most_of(kind);
     if declared_count(kind, &so_far) >= most.count {
@@ -77,15 +77,15 @@ fn item(alloc: Global, reader: &mut Reader, so_far: Declarations) -> Result<Decl
     ensures { Consumes (item_at so_far) reader.old reader.new result }
 {
     if reader.next_is(Sort::Enum) {
-        turn(alloc, reader, ItemKind::Enum, so_far)
+        iteration(alloc, reader, ItemKind::Enum, so_far)
     } else if reader.next_is_one_of(&[Sort::Counter, Sort::Register, Sort::Accumulator]) {
-        turn(alloc, reader, ItemKind::Cell, so_far)
+        iteration(alloc, reader, ItemKind::Cell, so_far)
     } else if reader.next_is_one_of(&[Sort::Discrete, Sort::Linear]) {
-        turn(alloc, reader, ItemKind::Resource, so_far)
+        iteration(alloc, reader, ItemKind::Resource, so_far)
     } else if reader.next_is(Sort::Activity) {
-        turn(alloc, reader, ItemKind::Activity, so_far)
+        iteration(alloc, reader, ItemKind::Activity, so_far)
     } else if reader.next_is(Sort::Daemon) {
-        turn(alloc, reader, ItemKind::Daemon, so_far)
+        iteration(alloc, reader, ItemKind::Daemon, so_far)
     } else {
         Err(Refusal::Syntax)
     }

@@ -6,12 +6,12 @@ mod simple;
 ghost use Rattle.std.specs.Prelude.{◌≡◌, ◌<◌};
 ghost use Rattle.readers.specs.Implements.{Consumes, MayConsume};
 ghost use Rattle.readers.specs.Parsed.{next_fits};
-ghost use Rattle.model_reader.specs.reading.Statements.{block_at, else_at, if_at, while_at, stmt_turn_at, begins_stmt, stmts_by, inner_blocks, body_at};
+ghost use Rattle.model_reader.specs.reading.Statements.{block_at, else_at, if_at, while_at, stmt_iteration_at, begins_stmt, stmts_by, inner_blocks, body_at};
 
 use crate::raw::{RawStmt, RawStmtKind};
 use crate::reading::body::Body;
 use crate::reading::expressions::expr;
-use crate::reading::statements::simple::{simple_turn, with_stmt};
+use crate::reading::statements::simple::{simple_iteration, with_stmt};
 use aerie_base::List;
 use aerie_text::Sort;
 use readers::{Limit, Reader, Refusal, ended_by};
@@ -129,9 +129,14 @@ fn while_(alloc: Global, reader: &mut Reader, room: usize, body: Body) -> Result
 
 /// Reads a statement, if the body may have one more.
 #[cycle(statement)]
-#[tactic(auto, unfolding(crate::specs::reading::Statements::stmt_turn_at, crate::specs::reading::Statements::stmt_at))]
-fn stmt_turn(alloc: Global, reader: &mut Reader, room: usize, body: Body) -> Result<Body, Refusal>
-    ensures { Consumes (stmt_turn_at room (inner_blocks room) body) reader.old reader.new result }
+#[tactic(auto, unfolding(crate::specs::reading::Statements::stmt_iteration_at, crate::specs::reading::Statements::stmt_at))]
+fn stmt_iteration(
+    alloc: Global,
+    reader: &mut Reader,
+    room: usize,
+    body: Body,
+) -> Result<Body, Refusal>
+    ensures { Consumes (stmt_iteration_at room (inner_blocks room) body) reader.old reader.new result }
 {
     if body.spare == 0 {
         return Err(Refusal::TooMany(Limit::Statements));
@@ -141,7 +146,7 @@ fn stmt_turn(alloc: Global, reader: &mut Reader, room: usize, body: Body) -> Res
     } else if reader.next_is(Sort::While) {
         while_(alloc, reader, room, body)
     } else {
-        simple_turn(alloc, reader, body)
+        simple_iteration(alloc, reader, body)
     }
 }
 
@@ -154,7 +159,7 @@ fn stmts(alloc: Global, reader: &mut Reader, room: usize, spare: usize) -> Resul
     let stmts = List::new(alloc);
     let mut body = Body { stmts, spare };
     while begins_stmt(reader) {
-        body = stmt_turn(alloc, reader, room, body)?;
+        body = stmt_iteration(alloc, reader, room, body)?;
     }
     Ok(body)
 }

@@ -170,8 +170,8 @@ module _ {Rule Other Sort Token : Type 0} (g : Grammar Rule Sort Token) (start :
   alike_tells tokens (stops (k ∷ rest)) t = record { front = t.front; is = t.is; refused = alike_refused tokens (length t.front) t.refused }
 
 module _ {Rule Other Sort Token : Type 0} (g : Grammar Rule Sort Token) (start : Rule) (h : Grammar Other Sort Token) (other : Other) where
-  pub alike_turned : AreAlike g start h other → AreAlike h other g start
-  alike_turned i = record { readable = i.readable_back; readable_back = i.readable; read = i.read_back; read_back = i.read }
+  pub alike_swapped : AreAlike g start h other → AreAlike h other g start
+  alike_swapped i = record { readable = i.readable_back; readable_back = i.readable; read = i.read_back; read_back = i.read }
 
 module _ {Rule Other Third Sort Token : Type 0} (g : Grammar Rule Sort Token) (start : Rule) (h : Grammar Other Sort Token) (other : Other) (f : Grammar Third Sort Token) (third : Third) where
   pub alike_chained : AreAlike g start h other → AreAlike h other f third → AreAlike g start f third

@@ -1,7 +1,7 @@
 -- Forms with the same alternatives have the same expansions.
 use Rattle.std.proofs.Common.{◌≡◌, ℕ, zero, suc, List, [], ◌∷◌, ◌++◌, map, refl, sym, ap, ◌∙◌, subst, append_assoc, append-nil, inl, inr, ◌⊎◌}
 use Rattle.readers.specs.grammar.Forms.{Form, token, rule, nothing, both, either, many}
-use Rattle.readers.specs.grammar.Expansions.{Symbol, IsExpansion, of_token, of_rule, of_nothing, of_both, of_first, of_second, of_no_turn, of_turn}
+use Rattle.readers.specs.grammar.Expansions.{Symbol, IsExpansion, of_token, of_rule, of_nothing, of_both, of_first, of_second, of_no_iteration, of_iteration}
 use Rattle.readers.specs.grammar.Alternatives.{joined, alternatives, element, picked, SameExpansions, SameAlternatives}
 use Rattle.readers.proofs.Grammars.Choices.{Expand}
 
@@ -77,8 +77,8 @@ module _ {Rule Sort : Type 0} where
   to_alternative _ _ (of_both {a = a} {b = b} {us = us} {vs = vs} h i) = any_joined (alternatives a) (alternatives b) us vs (to_alternative a us h) (to_alternative b vs i)
   to_alternative _ us (of_first {a = a} {b = b} h) = any_left (alternatives a) (alternatives b) us (to_alternative a us h)
   to_alternative _ us (of_second {a = a} {b = b} h) = any_right (alternatives a) (alternatives b) us (to_alternative b us h)
-  to_alternative _ us (of_no_turn {a = a}) = any_single (many a) us of_no_turn
-  to_alternative _ _ (of_turn {a = a} {us = us} {vs = vs} h i) = any_single (many a) (us ++ vs) (of_turn h i)
+  to_alternative _ us (of_no_iteration {a = a}) = any_single (many a) us of_no_iteration
+  to_alternative _ _ (of_iteration {a = a} {us = us} {vs = vs} h i) = any_single (many a) (us ++ vs) (of_iteration h i)
 
   from_alternative : (a : Form Rule Sort) (us : List (Symbol Rule Sort)) → AnyExpands (alternatives a) us → IsExpansion a us
   from_alternative (token t) us h = single_any (token t) us h
@@ -112,8 +112,8 @@ module _ {Rule Sort : Type 0} where
 
   -- ---- forms with the same expansions, in larger forms
 
-  pub same_turned : (a b : Form Rule Sort) → SameExpansions a b → SameExpansions b a
-  same_turned a b h = record { onward = h.back; back = h.onward }
+  pub same_swapped : (a b : Form Rule Sort) → SameExpansions a b → SameExpansions b a
+  same_swapped a b h = record { onward = h.back; back = h.onward }
 
   pub same_chained : (a b c : Form Rule Sort) → SameExpansions a b → SameExpansions b c → SameExpansions a c
   same_chained a b c h i = record { onward = λ us e. i.onward us (h.onward us e); back = λ us e. h.back us (i.back us e) }
@@ -134,20 +134,20 @@ module _ {Rule Sort : Type 0} where
   same_either a b c d h i = record { onward = either_across a b c d h.onward i.onward; back = either_across c d a b h.back i.back }
 
   many_across : (a c : Form Rule Sort) → ((us : List (Symbol Rule Sort)) → IsExpansion a us → IsExpansion c us) → (us : List (Symbol Rule Sort)) → IsExpansion (many a) us → IsExpansion (many c) us
-  many_across a c f _ of_no_turn = of_no_turn
-  many_across a c f _ (of_turn {us = us} {vs = vs} h i) = of_turn (f us h) (many_across a c f vs i)
+  many_across a c f _ of_no_iteration = of_no_iteration
+  many_across a c f _ (of_iteration {us = us} {vs = vs} h i) = of_iteration (f us h) (many_across a c f vs i)
 
   pub same_many : (a c : Form Rule Sort) → SameExpansions a c → SameExpansions (many a) (many c)
   same_many a c h = record { onward = many_across a c h.onward; back = many_across c a h.back }
 
   unrolled : (a : Form Rule Sort) (us : List (Symbol Rule Sort)) → IsExpansion (many a) us → IsExpansion (either nothing (both a (many a))) us
-  unrolled a _ of_no_turn = of_first of_nothing
-  unrolled a _ (of_turn h i) = of_second (of_both h i)
+  unrolled a _ of_no_iteration = of_first of_nothing
+  unrolled a _ (of_iteration h i) = of_second (of_both h i)
 
   rolled : (a : Form Rule Sort) (us : List (Symbol Rule Sort)) → IsExpansion (either nothing (both a (many a))) us → IsExpansion (many a) us
-  rolled a _ (of_first of_nothing) = of_no_turn
-  rolled a _ (of_second (of_both h i)) = of_turn h i
+  rolled a _ (of_first of_nothing) = of_no_iteration
+  rolled a _ (of_second (of_both h i)) = of_iteration h i
 
-  -- a repetition is nothing, or a turn and the repetition
+  -- a repetition is nothing, or a iteration and the repetition
   pub many_unrolled : (a : Form Rule Sort) → SameExpansions (many a) (either nothing (both a (many a)))
   many_unrolled a = record { onward = unrolled a; back = rolled a }

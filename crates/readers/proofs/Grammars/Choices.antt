@@ -1,7 +1,7 @@
 -- Readings that choose a whole expansion at once, and readings that choose when a choice comes up, read the same tokens.
 use Rattle.std.proofs.Common.{◌≡◌, ℕ, suc, List, [], ◌∷◌, ◌++◌, refl, sym, ap, ◌∙◌, subst, append_assoc, append-nil}
 use Rattle.readers.specs.grammar.Forms.{Form, token, rule, nothing, both, either, many, Grammar}
-use Rattle.readers.specs.grammar.Expansions.{Symbol, terminal, nonterminal, IsExpansion, of_token, of_rule, of_nothing, of_both, of_first, of_second, of_no_turn, of_turn}
+use Rattle.readers.specs.grammar.Expansions.{Symbol, terminal, nonterminal, IsExpansion, of_token, of_rule, of_nothing, of_both, of_first, of_second, of_no_iteration, of_iteration}
 use Rattle.readers.specs.grammar.Readings.{Reading, over, takes, replaces, IsReadable, IsRead}
 use Rattle.readers.specs.grammar.LazyReadings.{Goes, stop, read, open_rule, pass, in_turn, first_of_two, second_of_two, no_more, once_more, LazyReading}
 
@@ -23,7 +23,7 @@ module _ {Rule Sort : Type 0} where
   some_expansion nothing = ([], of_nothing)
   some_expansion (both a b) = let h = some_expansion a in let i = some_expansion b in (h.0 ++ i.0, of_both h.1 i.1)
   some_expansion (either a b) = let h = some_expansion a in (h.0, of_first h.1)
-  some_expansion (many a) = ([], of_no_turn)
+  some_expansion (many a) = ([], of_no_iteration)
 
   pub some_expansions : (xs : List (Form Rule Sort)) → (us : List (Symbol Rule Sort)) × Expand xs us
   some_expansions [] = ([], refl)
@@ -50,8 +50,8 @@ module _ {Rule Sort Token : Type 0} (g : Grammar Rule Sort Token) where
   chosen_both : (a b : Form Rule Sort) (xs : List (Form Rule Sort)) (us : List (Symbol Rule Sort)) → Expand (a ∷ b ∷ xs) us → Expand (both a b ∷ xs) us
   chosen_both a b xs us e = let f = e.3 in (e.0 ++ f.0, f.1, of_both e.2 f.2, f.3, e.4 ∙ ap (λ (x : List (Symbol Rule Sort)). e.0 ++ x) f.4 ∙ sym (append_assoc e.0 f.0 f.1))
 
-  chosen_turn : (a : Form Rule Sort) (xs : List (Form Rule Sort)) (us : List (Symbol Rule Sort)) → Expand (a ∷ many a ∷ xs) us → Expand (many a ∷ xs) us
-  chosen_turn a xs us e = let f = e.3 in (e.0 ++ f.0, f.1, of_turn e.2 f.2, f.3, e.4 ∙ ap (λ (x : List (Symbol Rule Sort)). e.0 ++ x) f.4 ∙ sym (append_assoc e.0 f.0 f.1))
+  chosen_iteration : (a : Form Rule Sort) (xs : List (Form Rule Sort)) (us : List (Symbol Rule Sort)) → Expand (a ∷ many a ∷ xs) us → Expand (many a ∷ xs) us
+  chosen_iteration a xs us e = let f = e.3 in (e.0 ++ f.0, f.1, of_iteration e.2 f.2, f.3, e.4 ∙ ap (λ (x : List (Symbol Rule Sort)). e.0 ++ x) f.4 ∙ sym (append_assoc e.0 f.0 f.1))
 
   -- what a lazy reading reads, some reading reads that leaves any expansion of what is left
   pub chosen : (n : ℕ) (xs : List (Form Rule Sort)) (ts : List Token) (zs : List (Form Rule Sort)) → Goes g n xs ts zs → (vs : List (Symbol Rule Sort)) → Expand zs vs
@@ -67,8 +67,8 @@ module _ {Rule Sort Token : Type 0} (g : Grammar Rule Sort Token) where
   chosen _ _ ts zs (in_turn {n = n} {a = a} {b = b} {xs = xs} h) vs e = let i = chosen n (a ∷ b ∷ xs) ts zs h vs e in (i.0, chosen_both a b xs i.0 i.1, i.2)
   chosen _ _ ts zs (first_of_two {n = n} {a = a} {xs = xs} h) vs e = let i = chosen n (a ∷ xs) ts zs h vs e in let j = i.1 in (i.0, (j.0, j.1, of_first j.2, j.3, j.4), i.2)
   chosen _ _ ts zs (second_of_two {n = n} {b = b} {xs = xs} h) vs e = let i = chosen n (b ∷ xs) ts zs h vs e in let j = i.1 in (i.0, (j.0, j.1, of_second j.2, j.3, j.4), i.2)
-  chosen _ _ ts zs (no_more {n = n} {xs = xs} h) vs e = let i = chosen n xs ts zs h vs e in (i.0, ([], i.0, of_no_turn, i.1, refl), i.2)
-  chosen _ _ ts zs (once_more {n = n} {a = a} {xs = xs} h) vs e = let i = chosen n (a ∷ many a ∷ xs) ts zs h vs e in (i.0, chosen_turn a xs i.0 i.1, i.2)
+  chosen _ _ ts zs (no_more {n = n} {xs = xs} h) vs e = let i = chosen n xs ts zs h vs e in (i.0, ([], i.0, of_no_iteration, i.1, refl), i.2)
+  chosen _ _ ts zs (once_more {n = n} {a = a} {xs = xs} h) vs e = let i = chosen n (a ∷ many a ∷ xs) ts zs h vs e in (i.0, chosen_iteration a xs i.0 i.1, i.2)
 
   -- ---- a choice that is made at once can be made when it comes up
 
@@ -101,8 +101,8 @@ module _ {Rule Sort Token : Type 0} (g : Grammar Rule Sort Token) where
       (open_form u us a vs h (b ∷ xs) (vt ++ ws) (vt, ws, i, e, refl) (open_form u us b vt i xs ws e f) (sym (append_assoc vs vt ws) ∙ q))
   open_form u us _ _ (of_first {a = a} {us = vs} h) xs ws e f q = opened_more _ _ u us (λ ts zs j. (suc j.0, first_of_two j.1)) (open_form u us a vs h xs ws e f q)
   open_form u us _ _ (of_second {b = b} {us = vs} h) xs ws e f q = opened_more _ _ u us (λ ts zs j. (suc j.0, second_of_two j.1)) (open_form u us b vs h xs ws e f q)
-  open_form u us _ _ of_no_turn xs ws e f q = opened_more _ _ u us (λ ts zs h. (suc h.0, no_more h.1)) (f q)
-  open_form u us _ _ (of_turn {a = a} {us = vs} {vs = vt} h i) xs ws e f q =
+  open_form u us _ _ of_no_iteration xs ws e f q = opened_more _ _ u us (λ ts zs h. (suc h.0, no_more h.1)) (f q)
+  open_form u us _ _ (of_iteration {a = a} {us = vs} {vs = vt} h i) xs ws e f q =
       opened_more _ _ u us (λ ts zs j. (suc j.0, once_more j.1))
       (open_form u us a vs h (many a ∷ xs) (vt ++ ws) (vt, ws, i, e, refl) (open_form u us (many a) vt i xs ws e f) (sym (append_assoc vs vt ws) ∙ q))
 
@@ -133,8 +133,8 @@ module _ {Rule Sort Token : Type 0} (g : Grammar Rule Sort Token) where
       let i = drained a us e (front_is_empty us vs q) (b ∷ xs) (drained b vs f (back_is_empty us vs q) xs h) in (suc i.0, in_turn i.1)
   drained _ _ (of_first {a = a} {us = us} e) q xs h = let i = drained a us e q xs h in (suc i.0, first_of_two i.1)
   drained _ _ (of_second {b = b} {us = us} e) q xs h = let i = drained b us e q xs h in (suc i.0, second_of_two i.1)
-  drained _ _ of_no_turn q xs h = (suc h.0, no_more h.1)
-  drained _ _ (of_turn {a = a} {us = us} {vs = vs} e f) q xs h =
+  drained _ _ of_no_iteration q xs h = (suc h.0, no_more h.1)
+  drained _ _ (of_iteration {a = a} {us = us} {vs = vs} e f) q xs h =
       let i = drained a us e (front_is_empty us vs q) (many a ∷ xs) (drained (many a) vs f (back_is_empty us vs q) xs h) in (suc i.0, once_more i.1)
 
   all_drained : (xs : List (Form Rule Sort)) (us : List (Symbol Rule Sort)) → Expand xs us → us ≡ [] → LazyReading g xs [] []

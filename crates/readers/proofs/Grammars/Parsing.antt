@@ -5,7 +5,7 @@ use denote.Bor.{Bor}
 use Rattle.readers.specs.grammar.Forms.{Form, token, rule, nothing, both, either, many, option}
 use Rattle.readers.specs.grammar.Lookahead.{Lookahead, Ahead, refused, remains, when, nullable, in_first, next_in_first, into, next, stops, go_on, all_nullable, at_end, answer}
 use Rattle.readers.specs.grammar.Predictive.{IsPredictive, shallow}
-use Rattle.readers.specs.grammar.Parsing.{Reads, Stops, Turns, Parses}
+use Rattle.readers.specs.grammar.Parsing.{Reads, Stops, Iterations, Parses}
 use Rattle.readers.proofs.Grammars.Shallow.{same_inside}
 
 -- of two tests and what each leads to
@@ -140,29 +140,29 @@ module _ {Rule Sort Token : Type 0} (look : Lookahead Rule Sort Token) where
 
   -- ---- a repetition
 
-  pub answer_turn : (a : Form Rule Sort) (xs : Stack) (ts : List Token) → IsTrue (next_in_first look a ts) → answer look (many a ∷ xs) ts ≡ answer look (a ∷ many a ∷ xs) ts
-  answer_turn a xs [] h = cc
-  answer_turn a xs (k ∷ ts) h = by_next (many a ∷ xs) (a ∷ many a ∷ xs) k ts (rw (into_many look.openings a xs k, h) refl)
+  pub answer_iteration : (a : Form Rule Sort) (xs : Stack) (ts : List Token) → IsTrue (next_in_first look a ts) → answer look (many a ∷ xs) ts ≡ answer look (a ∷ many a ∷ xs) ts
+  answer_iteration a xs [] h = cc
+  answer_iteration a xs (k ∷ ts) h = by_next (many a ∷ xs) (a ∷ many a ∷ xs) k ts (rw (into_many look.openings a xs k, h) refl)
 
   pub answer_over : (a : Form Rule Sort) (xs : Stack) (ts : List Token) → next_in_first look a ts ≡ false → answer look (many a ∷ xs) ts ≡ answer look xs ts
   answer_over a xs [] h = refl
   answer_over a xs (k ∷ ts) h = by_next (many a ∷ xs) xs k ts (rw h refl)
 
-  -- before the first turn
-  pub turns_begin : (a : Form Rule Sort) (ts : List Token) → Turns look a ts ts
-  turns_begin a ts = record { onward = λ xs. refl }
+  -- before the first iteration
+  pub iterations_begin : (a : Form Rule Sort) (ts : List Token) → Iterations look a ts ts
+  iterations_begin a ts = record { onward = λ xs. refl }
 
-  -- one more turn, where the form begins with the next token
-  pub turns_more : (a : Form Rule Sort) (all ts rest : List Token) → Turns look a all ts → IsTrue (next_in_first look a ts) → Reads look a ts rest → Turns look a all rest
-  turns_more a all ts rest t h i = record { onward = λ xs. t.onward xs ∙ answer_turn a xs ts h ∙ i.onward (many a ∷ xs) }
+  -- one more iteration, where the form begins with the next token
+  pub iterations_more : (a : Form Rule Sort) (all ts rest : List Token) → Iterations look a all ts → IsTrue (next_in_first look a ts) → Reads look a ts rest → Iterations look a all rest
+  iterations_more a all ts rest t h i = record { onward = λ xs. t.onward xs ∙ answer_iteration a xs ts h ∙ i.onward (many a ∷ xs) }
 
-  -- reading stops in a turn
-  pub turns_stop : (a : Form Rule Sort) (all ts rest : List Token) → Turns look a all ts → IsTrue (next_in_first look a ts) → Stops look a ts rest → Stops look (many a) all rest
-  turns_stop a all ts rest t h i = record { here = λ xs. t.onward xs ∙ answer_turn a xs ts h ∙ i.here (many a ∷ xs) }
+  -- reading stops in a iteration
+  pub iterations_stop : (a : Form Rule Sort) (all ts rest : List Token) → Iterations look a all ts → IsTrue (next_in_first look a ts) → Stops look a ts rest → Stops look (many a) all rest
+  iterations_stop a all ts rest t h i = record { here = λ xs. t.onward xs ∙ answer_iteration a xs ts h ∙ i.here (many a ∷ xs) }
 
   -- the repetition is over where the form does not begin with the next token
-  pub turns_over : (a : Form Rule Sort) (all ts : List Token) → Turns look a all ts → next_in_first look a ts ≡ false → Reads look (many a) all ts
-  turns_over a all ts t h = record { onward = λ xs. t.onward xs ∙ answer_over a xs ts h }
+  pub iterations_over : (a : Form Rule Sort) (all ts : List Token) → Iterations look a all ts → next_in_first look a ts ≡ false → Reads look (many a) all ts
+  iterations_over a all ts t h = record { onward = λ xs. t.onward xs ∙ answer_over a xs ts h }
 
   -- ---- a rule
 

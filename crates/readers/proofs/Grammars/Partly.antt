@@ -6,9 +6,9 @@ use Rattle.readers.specs.grammar.Forms.{Form, rule, both, either, many, Grammar}
 use Rattle.readers.specs.grammar.Readings.{IsReadable, IsRefusedAt}
 use Rattle.readers.specs.grammar.Lookahead.{Lookahead, Ahead, refused, unfinished, remains, nullable, next_in_first, next, Answer, answer, whole, stops, go_on, all_nullable, at_end}
 use Rattle.readers.specs.grammar.Predictive.{IsPredictive}
-use Rattle.readers.specs.grammar.Parsing.{Reads, Turns, Comes}
+use Rattle.readers.specs.grammar.Parsing.{Reads, Iterations, Comes}
 use Rattle.readers.specs.grammar.Tells.{Tells}
-use Rattle.readers.proofs.Grammars.Parsing.{answer_both, answer_first, answer_second, answer_turn, answer_rule}
+use Rattle.readers.proofs.Grammars.Parsing.{answer_both, answer_first, answer_second, answer_iteration, answer_rule}
 use Rattle.readers.proofs.Grammars.Verdicts.{order, shortened, readable_shorter, read_is_readable, tells}
 
 module _ {Rule Sort Token : Type 0} (look : Lookahead Rule Sort Token) where
@@ -35,13 +35,13 @@ module _ {Rule Sort Token : Type 0} (look : Lookahead Rule Sort Token) where
   pub comes_second_chosen : (a b : Form Rule Sort) (ts rest : List Token) (left : List (Form Rule Sort)) → next_in_first look a ts ≡ false → nullable look a ≡ false → Comes look b ts rest left → Comes look (either a b) ts rest left
   comes_second_chosen a b ts rest left h e i = record { onward = λ xs. answer_second look a b xs ts h e ∙ i.onward xs }
 
-  -- between two turns of a repetition, and inside a turn
-  pub comes_turns : (a : Form Rule Sort) (all ts : List Token) → Turns look a all ts → Comes look (many a) all ts (many a ∷ [])
-  comes_turns a all ts t = record { onward = t.onward }
+  -- between two iterations of a repetition, and inside a iteration
+  pub comes_iterations : (a : Form Rule Sort) (all ts : List Token) → Iterations look a all ts → Comes look (many a) all ts (many a ∷ [])
+  comes_iterations a all ts t = record { onward = t.onward }
 
-  pub comes_turn : (a : Form Rule Sort) (all ts rest : List Token) (left : List (Form Rule Sort)) → Turns look a all ts → IsTrue (next_in_first look a ts) → Comes look a ts rest left → Comes look (many a) all rest (left ++ (many a ∷ []))
-  comes_turn a all ts rest left t h i = record {
-    onward = λ xs. t.onward xs ∙ answer_turn look a xs ts h ∙ i.onward (many a ∷ xs) ∙ ap (λ (ys : List (Form Rule Sort)). answer look ys rest) (sym (append_assoc left (many a ∷ []) xs));
+  pub comes_iteration : (a : Form Rule Sort) (all ts rest : List Token) (left : List (Form Rule Sort)) → Iterations look a all ts → IsTrue (next_in_first look a ts) → Comes look a ts rest left → Comes look (many a) all rest (left ++ (many a ∷ []))
+  comes_iteration a all ts rest left t h i = record {
+    onward = λ xs. t.onward xs ∙ answer_iteration look a xs ts h ∙ i.onward (many a ∷ xs) ∙ ap (λ (ys : List (Form Rule Sort)). answer look ys rest) (sym (append_assoc left (many a ∷ []) xs));
   }
 
   -- what is not read yet stands behind what was read

@@ -33,8 +33,8 @@ module _ {Rule Sort Token : Type 0} (look : Lookahead Rule Sort Token) (ok : IsP
   abbrev pub Passes : Form Rule Sort → Type 0
   Passes a = (xs : Stack) (ts : List Token) (zs : Stack) → LazyReading look.grammar xs ts zs → LazyReading look.grammar (a ∷ xs) ts zs
 
-  turned : (a b : Form Rule Sort) (xs : Stack) (ts : List Token) (zs : Stack) → LazyReading look.grammar (a ∷ b ∷ xs) ts zs → LazyReading look.grammar (both a b ∷ xs) ts zs
-  turned a b xs ts zs h = (suc h.0, in_turn h.1)
+  swapped : (a b : Form Rule Sort) (xs : Stack) (ts : List Token) (zs : Stack) → LazyReading look.grammar (a ∷ b ∷ xs) ts zs → LazyReading look.grammar (both a b ∷ xs) ts zs
+  swapped a b xs ts zs h = (suc h.0, in_turn h.1)
 
   inside_passes : (f : Rule → Bool) → ((r : Rule) → IsTrue (f r) → IsTrue (look.nullable r) → Passes (rule r)) → (a : Form Rule Sort) → IsTrue (shallow_inside look f a) → IsTrue (nullable look a) → Passes a
   inside_passes f h (token t) s e xs ts zs g = cc
@@ -45,7 +45,7 @@ module _ {Rule Sort Token : Type 0} (look : Lookahead Rule Sort Token) (ok : IsP
       let r : IsTrue (nullable look b) = and_back (nullable look a) (nullable look b) e in
       let i : IsTrue (shallow_inside look f a) = grind arith in
       let t : IsTrue (shallow_inside look f b) = grind arith in
-      turned a b xs ts zs (inside_passes f h a i q (b ∷ xs) ts zs (inside_passes f h b t r xs ts zs g))
+      swapped a b xs ts zs (inside_passes f h a i q (b ∷ xs) ts zs (inside_passes f h b t r xs ts zs g))
   inside_passes f h (either a b) s e xs ts zs g = by_first (nullable look a) refl
       (λ q. let i = inside_passes f h a (and_front (shallow_inside look f a) _ s) q xs ts zs g in (suc i.0, first_of_two i.1))
       (λ q. let i = inside_passes f h b (and_back (shallow_inside look f a) (shallow_inside look f b) s) q xs ts zs g in (suc i.0, second_of_two i.1))

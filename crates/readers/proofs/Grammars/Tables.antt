@@ -112,8 +112,8 @@ module _ {Rule Sort : Type 0} (number : Sort → ℕ) (tables : Tables Rule Sort
   same_next b follow behind s n =
       rw (begins_same b n, s n) (sym (among_append number (Firsts b) (where_true (nullable look b) behind) n ∙ ap (λ (v : Bool). is_among number (Firsts b) n || v) (among_where number (nullable look b) behind n)))
 
-  same_turn : (a : Form Rule Sort) (follow : ℕ → Bool) (behind : List Sort) → Same follow behind → Same (λ n. in_first look a n || follow n) (Firsts a ++ behind)
-  same_turn a follow behind s n = rw (begins_same a n, s n) (sym (among_append number (Firsts a) behind n))
+  same_iteration : (a : Form Rule Sort) (follow : ℕ → Bool) (behind : List Sort) → Same follow behind → Same (λ n. in_first look a n || follow n) (Firsts a ++ behind)
+  same_iteration a follow behind s n = rw (begins_same a n, s n) (sym (among_append number (Firsts a) behind n))
 
   chosen : (a b : Form Rule Sort) (follow : ℕ → Bool) (behind : List Sort) → Same follow behind → IsTrue (chooses number tables a b behind) → (n : ℕ) → IsTrue (apart look a b follow n)
   chosen a b follow behind s c n =
@@ -141,7 +141,7 @@ module _ {Rule Sort : Type 0} (number : Sort → ℕ) (tables : Tables Rule Sort
       )
   decided_by (many a) follow behind s d =
       let i = and_right (decides number tables a (Firsts a ++ behind)) _ d in (
-        decided_by a _ (Firsts a ++ behind) (same_turn a follow behind s) (and_left (decides number tables a (Firsts a ++ behind)) _ d),
+        decided_by a _ (Firsts a ++ behind) (same_iteration a follow behind s) (and_left (decides number tables a (Firsts a ++ behind)) _ d),
         and_left (not (nullable look a)) _ i,
         λ n. both_not (in_first look a n) (follow n) (λ x y. in_both number (Firsts a) behind n (and_right (not (nullable look a)) _ i) (begun a n x) (sym (s n) ∙ y)),
       )

@@ -2,7 +2,7 @@
 use Rattle.std.specs.Prelude.{Bool}
 
 -- What a rule stands for. `Rule` names the rules, `Sort` the sorts of tokens: a token of a sort; a rule; nothing; one form
--- and then another; one of two forms; any number of turns of a form.
+-- and then another; one of two forms; any number of iterations of a form.
 pub data Form (Rule Sort : Type 0) : Type 0 where
   token : Sort → Form Rule Sort
   rule : Rule → Form Rule Sort
@@ -15,7 +15,7 @@ pub data Form (Rule Sort : Type 0) : Type 0 where
 abbrev pub option : {Rule Sort : Type 0} → Form Rule Sort → Form Rule Sort
 option a = either a nothing
 
--- a form at least once, with a separator before each further turn
+-- a form at least once, with a separator before each further iteration
 abbrev pub separated : {Rule Sort : Type 0} → Form Rule Sort → Form Rule Sort → Form Rule Sort
 separated separator a = both a (many (both separator a))
 

@@ -13,8 +13,8 @@ module _ {Rule Sort Token : Type 0} (look : Lookahead Rule Sort Token) where
   pub record Stops (a : Form Rule Sort) (tokens rest : List Token) : Type 0 where
     pub here : (xs : List (Form Rule Sort)) → answer look (a ∷ xs) tokens ≡ stops rest
 
-  -- some turns of the form are read, and reading goes on with the rest of the tokens and the further turns
-  pub record Turns (a : Form Rule Sort) (tokens rest : List Token) : Type 0 where
+  -- some iterations of the form are read, and reading goes on with the rest of the tokens and the further iterations
+  pub record Iterations (a : Form Rule Sort) (tokens rest : List Token) : Type 0 where
     pub onward : (xs : List (Form Rule Sort)) → answer look (many a ∷ xs) tokens ≡ answer look (many a ∷ xs) rest
 
   -- what a reader of one form answers over a slice: what is left after the form, or where reading stops

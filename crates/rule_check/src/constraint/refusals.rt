@@ -2,12 +2,13 @@
 
 ghost use Rattle.std.specs.Prelude.{◌≡◌, ◌≤◌, length};
 ghost use Rattle.rule_check.specs.ConstraintRefusals.{refusals_of_rule, is_name_of_one, refusals_of_constraint, refusals_from};
-ghost use Rattle.rule_check.specs.Refusals.{found_with};
+ghost use Rattle.rule_check.specs.Refusals.{noted};
 
-use crate::refusals::{RuleRefusal, WrongRule, refuse, refuse_unless};
+use crate::causes::WrongRule;
 use crate::window::refusals::{judge_type, judge_window};
 use aerie_base::{Model, Name, Shared};
 use dataset_in::Series;
+use diagnostics::{Diagnostic, note, note_unless};
 use readers::Limit;
 use rule_grammar::{RawConstraint, RawRule};
 
@@ -22,14 +23,14 @@ fn is_name_of_one(constraints: &[RawConstraint], name: &Name) -> bool
 }
 
 /// Judges what a constraint asks for.
-#[tactic(auto, using(crate::specs::RefusalLaws::found_with_both))]
+#[tactic(auto, using(diagnostics::specs::NotedInTurn::noted_appended))]
 fn judge_rule(
     model: &Model,
     datasets: &[(Name, Shared<Series>)],
     rule: &RawRule,
-    found: &mut Option<RuleRefusal>,
+    found: &mut Option<Diagnostic<WrongRule>>,
 )
-    ensures { found.new ≡ found_with found.old (refusals_of_rule model.now datasets.now rule.now) }
+    ensures { found.new ≡ noted found.old (refusals_of_rule model.now datasets.now rule.now) }
 {
     match rule {
         RawRule::Plain(window) => judge_window(model, datasets, None, window, found),
@@ -49,19 +50,19 @@ fn judge_rule(
 }
 
 /// Judges a constraint behind others.
-#[tactic(auto, using(crate::specs::RefusalLaws::found_with_both))]
+#[tactic(auto, using(diagnostics::specs::NotedInTurn::noted_appended))]
 fn judge_constraint(
     model: &Model,
     datasets: &[(Name, Shared<Series>)],
     others: &[RawConstraint],
     constraint: &RawConstraint,
-    found: &mut Option<RuleRefusal>,
+    found: &mut Option<Diagnostic<WrongRule>>,
 )
-    ensures { found.new ≡ found_with found.old (refusals_of_constraint model.now datasets.now others.now constraint.now) }
+    ensures { found.new ≡ noted found.old (refusals_of_constraint model.now datasets.now others.now constraint.now) }
 {
     let name = &constraint.name;
     let is_new = !is_name_of_one(others, &name.name);
-    refuse_unless(is_new, found, WrongRule::Duplicate, name.at);
+    note_unless(is_new, found, name.at, WrongRule::Duplicate);
     judge_rule(model, datasets, &constraint.rule, found);
 }
 
@@ -71,11 +72,11 @@ pub fn judge_from(
     datasets: &[(Name, Shared<Series>)],
     constraints: &[RawConstraint],
     at: usize,
-    found: &mut Option<RuleRefusal>,
+    found: &mut Option<Diagnostic<WrongRule>>,
 )
     requires few { at ≤ 256 }
     requires there { at ≤ length constraints.now }
-    ensures { found.new ≡ found_with found.old (refusals_from model.now datasets.now at constraints.now) }
+    ensures { found.new ≡ noted found.old (refusals_from model.now datasets.now at constraints.now) }
 {
     let (others, rest) = constraints.split_at(at);
     match rest.split_first() {
@@ -83,7 +84,7 @@ pub fn judge_from(
         Some((constraint, _)) => {
             if at == MOST_CONSTRAINTS {
                 let limit = Limit::Constraints;
-                refuse(found, WrongRule::TooMany(limit), constraint.name.at);
+                note(found, constraint.name.at, WrongRule::TooMany(limit));
             } else {
                 judge_constraint(model, datasets, others, constraint, found);
                 judge_from(model, datasets, constraints, at + 1, found);

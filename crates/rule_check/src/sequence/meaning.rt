@@ -3,7 +3,7 @@
 ghost use Rattle.std.specs.Prelude.{◌≡◌, ◌++◌, IfOk, OnOk, map, option_map};
 ghost use Rattle.rule_check.specs.SequenceMeaning.{number_of_parameter, meant_word, meant_words, meant_test, meant_step, meant_rules, meant_spacings, sequencing_of};
 
-use crate::literals::{activity_named, literal_value, parameters_if_known, place_of_parameter};
+use crate::literals::{activity_named, literal_value, parameters_if_known, position_of_parameter};
 use crate::window::meaning::{number_of_type, number_or_first, signed_time, time_within};
 use aerie_base::{List, Model, Name, OutOfMemory, Parameter, Time};
 use model_reader::RawName;
@@ -15,7 +15,7 @@ use std::alloc::Global;
 fn number_of_parameter(parameters: &[Parameter], name: &RawName) -> u16
     ensures { result ≡ number_of_parameter parameters.now name.now }
 {
-    number_or_first(place_of_parameter(parameters, &name.name))
+    number_or_first(position_of_parameter(parameters, &name.name))
 }
 
 fn meant_word(model: &Model, parameters: &[Parameter], word: &RawWordKind) -> SendWord

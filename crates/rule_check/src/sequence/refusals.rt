@@ -4,16 +4,17 @@
 ghost use Rattle.std.specs.Prelude.{◌≡◌, ◌≤◌, length, option_copied};
 ghost use Rattle.std.specs.List.{list_any};
 ghost use Rattle.aerie_base.specs.expressions.Typing.{may_compare};
-ghost use Rattle.rule_check.specs.Refusals.{found_with};
+ghost use Rattle.rule_check.specs.Refusals.{noted};
 ghost use Rattle.rule_check.specs.SequenceRefusals.{refusals_of_parameter, refusals_of_word, refusals_of_words, may_be_compared, kind_of_parameter, refusals_of_test, refusals_of_step, refusals_of_steps, refusals_of_type_steps, is_for, is_spacing_of, refusals_of_sequence_rule, refusals_of_rules_from};
 
+use crate::causes::WrongRule;
 use crate::literals::{
-    activity_named, judge_literal, known_parameter, literal_kind, place_of_parameter,
+    activity_named, judge_literal, known_parameter, literal_kind, position_of_parameter,
 };
 use crate::names::is_of_kind;
-use crate::refusals::{RuleRefusal, WrongRule, refuse, refuse_unless};
 use crate::window::refusals::judge_type;
 use aerie_base::{Activity, Comparison, Kind, Model, Name, Parameter};
+use diagnostics::{Diagnostic, note, note_unless};
 use model_reader::RawName;
 use readers::Limit;
 use rule_grammar::{RawSendTest, RawSequenceItem, RawSequenceRule, RawStep, RawWord, RawWordKind};
@@ -30,16 +31,25 @@ const MOST_WORDS: usize = 16;
 // ---- words
 
 /// Refuses a name of no parameter.
-fn judge_parameter(parameters: &[Parameter], name: &RawName, found: &mut Option<RuleRefusal>)
-    ensures { found.new ≡ found_with found.old (refusals_of_parameter parameters.now name.now) }
+fn judge_parameter(
+    parameters: &[Parameter],
+    name: &RawName,
+    found: &mut Option<Diagnostic<WrongRule>>,
+)
+    ensures { found.new ≡ noted found.old (refusals_of_parameter parameters.now name.now) }
 {
-    let is_known = place_of_parameter(parameters, &name.name).is_some();
-    refuse_unless(is_known, found, WrongRule::Unknown, name.at);
+    let is_known = position_of_parameter(parameters, &name.name).is_some();
+    note_unless(is_known, found, name.at, WrongRule::Unknown);
 }
 
 /// Judges a word of a step for an activity type.
-fn judge_word(model: &Model, activity: &Activity, word: &RawWord, found: &mut Option<RuleRefusal>)
-    ensures { found.new ≡ found_with found.old (refusals_of_word model.now activity.now word.now) }
+fn judge_word(
+    model: &Model,
+    activity: &Activity,
+    word: &RawWord,
+    found: &mut Option<Diagnostic<WrongRule>>,
+)
+    ensures { found.new ≡ noted found.old (refusals_of_word model.now activity.now word.now) }
 {
     match &word.what {
         RawWordKind::Literal(literal) => judge_literal(model, literal, found),
@@ -48,27 +58,27 @@ fn judge_word(model: &Model, activity: &Activity, word: &RawWord, found: &mut Op
         }
         RawWordKind::SpanResult => {
             let has_result = activity.result.is_some();
-            refuse_unless(has_result, found, WrongRule::WrongType, word.at);
+            note_unless(has_result, found, word.at, WrongRule::WrongType);
         }
     }
 }
 
 /// Judges words of a step, of which there may be so many more.
-#[tactic(auto, using(crate::specs::RefusalLaws::found_with_both))]
+#[tactic(auto, using(diagnostics::specs::NotedInTurn::noted_appended))]
 fn judge_words(
     model: &Model,
     activity: &Activity,
     words: &[RawWord],
     room: usize,
-    found: &mut Option<RuleRefusal>,
+    found: &mut Option<Diagnostic<WrongRule>>,
 )
-    ensures { found.new ≡ found_with found.old (refusals_of_words model.now activity.now room words.now) }
+    ensures { found.new ≡ noted found.old (refusals_of_words model.now activity.now room words.now) }
 {
     match words.split_first() {
         None => {}
         Some((word, rest)) => {
             if room == 0 {
-                refuse(found, WrongRule::TooMany(Limit::Words), word.at);
+                note(found, word.at, WrongRule::TooMany(Limit::Words));
             } else {
                 judge_word(model, activity, word, found);
                 judge_words(model, activity, rest, room - 1, found);
@@ -112,14 +122,14 @@ fn kind_of_parameter(parameters: &[Parameter], name: &Name) -> Option<Kind>
 }
 
 /// Judges the test of a step, where it has one.
-#[tactic(auto, using(crate::specs::RefusalLaws::found_with_both))]
+#[tactic(auto, using(diagnostics::specs::NotedInTurn::noted_appended))]
 fn judge_test(
     model: &Model,
     activity: &Activity,
     test: &Option<RawSendTest>,
-    found: &mut Option<RuleRefusal>,
+    found: &mut Option<Diagnostic<WrongRule>>,
 )
-    ensures { found.new ≡ found_with found.old (refusals_of_test model.now activity.now test.now) }
+    ensures { found.new ≡ noted found.old (refusals_of_test model.now activity.now test.now) }
 {
     match test {
         None => {}
@@ -129,7 +139,7 @@ fn judge_test(
             let may = may_be_compared(test.how, kind, literal_kind(model, &test.with.what));
             judge_parameter(parameters, &test.parameter, found);
             judge_literal(model, &test.with.what, found);
-            refuse_unless(may, found, WrongRule::WrongType, test.with.at);
+            note_unless(may, found, test.with.at, WrongRule::WrongType);
         }
     }
 }
@@ -137,30 +147,35 @@ fn judge_test(
 // ---- steps
 
 /// Judges a step.
-#[tactic(auto, using(crate::specs::RefusalLaws::found_with_both))]
-fn judge_step(model: &Model, activity: &Activity, step: &RawStep, found: &mut Option<RuleRefusal>)
-    ensures { found.new ≡ found_with found.old (refusals_of_step model.now activity.now step.now) }
+#[tactic(auto, using(diagnostics::specs::NotedInTurn::noted_appended))]
+fn judge_step(
+    model: &Model,
+    activity: &Activity,
+    step: &RawStep,
+    found: &mut Option<Diagnostic<WrongRule>>,
+)
+    ensures { found.new ≡ noted found.old (refusals_of_step model.now activity.now step.now) }
 {
     judge_words(model, activity, step.words.as_slice(), MOST_WORDS, found);
     judge_test(model, activity, &step.test, found);
 }
 
 /// Judges steps, of which there may be so many more.
-#[tactic(auto, using(crate::specs::RefusalLaws::found_with_both))]
+#[tactic(auto, using(diagnostics::specs::NotedInTurn::noted_appended))]
 fn judge_steps(
     model: &Model,
     activity: &Activity,
     steps: &[RawStep],
     room: usize,
-    found: &mut Option<RuleRefusal>,
+    found: &mut Option<Diagnostic<WrongRule>>,
 )
-    ensures { found.new ≡ found_with found.old (refusals_of_steps model.now activity.now room steps.now) }
+    ensures { found.new ≡ noted found.old (refusals_of_steps model.now activity.now room steps.now) }
 {
     match steps.split_first() {
         None => {}
         Some((step, rest)) => {
             if room == 0 {
-                refuse(found, WrongRule::TooMany(Limit::Steps), step.at);
+                note(found, step.at, WrongRule::TooMany(Limit::Steps));
             } else {
                 judge_step(model, activity, step, found);
                 judge_steps(model, activity, rest, room - 1, found);
@@ -174,9 +189,9 @@ fn judge_type_steps(
     model: &Model,
     activity: Option<&Activity>,
     steps: &[RawStep],
-    found: &mut Option<RuleRefusal>,
+    found: &mut Option<Diagnostic<WrongRule>>,
 )
-    ensures { found.new ≡ found_with found.old (refusals_of_type_steps model.now (option_copied activity.entry) steps.now) }
+    ensures { found.new ≡ noted found.old (refusals_of_type_steps model.now (option_copied activity.entry) steps.now) }
 {
     match activity {
         None => {}
@@ -221,20 +236,20 @@ fn has_spacing_of(rules: &[RawSequenceItem], name: &Name) -> bool
 }
 
 /// Judges a rule behind others.
-#[tactic(auto, using(crate::specs::RefusalLaws::found_with_both))]
+#[tactic(auto, using(diagnostics::specs::NotedInTurn::noted_appended))]
 fn judge_rule(
     model: &Model,
     others: &[RawSequenceItem],
     rule: &RawSequenceRule,
-    found: &mut Option<RuleRefusal>,
+    found: &mut Option<Diagnostic<WrongRule>>,
 )
-    ensures { found.new ≡ found_with found.old (refusals_of_sequence_rule model.now others.now rule.now) }
+    ensures { found.new ≡ noted found.old (refusals_of_sequence_rule model.now others.now rule.now) }
 {
     match rule {
         RawSequenceRule::Span { kind, steps } => {
             judge_type(model, kind, found);
             let is_new = !has_rule_for(others, &kind.name);
-            refuse_unless(is_new, found, WrongRule::Duplicate, kind.at);
+            note_unless(is_new, found, kind.at, WrongRule::Duplicate);
             judge_type_steps(
                 model,
                 activity_named(model, &kind.name),
@@ -244,7 +259,7 @@ fn judge_rule(
         }
         RawSequenceRule::Spacing { name, .. } => {
             let is_new = !has_spacing_of(others, &name.name);
-            refuse_unless(is_new, found, WrongRule::Duplicate, name.at);
+            note_unless(is_new, found, name.at, WrongRule::Duplicate);
         }
     }
 }
@@ -254,18 +269,18 @@ pub(crate) fn judge_from(
     model: &Model,
     rules: &[RawSequenceItem],
     at: usize,
-    found: &mut Option<RuleRefusal>,
+    found: &mut Option<Diagnostic<WrongRule>>,
 )
     requires few { at ≤ 256 }
     requires there { at ≤ length rules.now }
-    ensures { found.new ≡ found_with found.old (refusals_of_rules_from model.now at rules.now) }
+    ensures { found.new ≡ noted found.old (refusals_of_rules_from model.now at rules.now) }
 {
     let (others, rest) = rules.split_at(at);
     match rest.split_first() {
         None => {}
         Some((rule, _)) => {
             if at == MOST_RULES {
-                refuse(found, WrongRule::TooMany(Limit::Rules), rule.at);
+                note(found, rule.at, WrongRule::TooMany(Limit::Rules));
             } else {
                 judge_rule(model, others, &rule.rule, found);
                 judge_from(model, rules, at + 1, found);

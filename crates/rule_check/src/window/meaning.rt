@@ -5,12 +5,13 @@ ghost use Rattle.constraints.specs.declared.types.Window.TheVariants.{Truth};
 ghost use Rattle.rule_check.specs.RuleNames.{reading_named};
 ghost use Rattle.rule_check.specs.WindowMeaning.{number_or_first, number_of_type, variant_in, tested_value, signed_time, time_within, compared_sums, during_of, same_as, window_of};
 
-use crate::names::{place_of_enum, place_of_type, reading_named, short_number, variant_place};
+use crate::names::{position_of_enum, position_of_type, reading_named, variant_position};
 use crate::window::refusals::is_bound;
 use crate::window::sums::meant_sum;
 use aerie_base::{Boxed, Comparison, List, Model, Name, Number, OutOfMemory, Shared, Time, Value};
 use constraints::Window;
 use dataset_in::Series;
+use diagnostics::short;
 use model_reader::RawName;
 use rule_grammar::{RawTerm, RawTested, RawWindow};
 use std::alloc::Global;
@@ -20,7 +21,7 @@ pub fn number_or_first(place: Option<usize>) -> u16
     ensures { result ≡ number_or_first place }
 {
     match place {
-        Some(number) => short_number(number),
+        Some(number) => short(number),
         None => 0,
     }
 }
@@ -29,20 +30,20 @@ pub fn number_or_first(place: Option<usize>) -> u16
 pub fn number_of_type(model: &Model, name: &RawName) -> u16
     ensures { result ≡ number_of_type model.now name.now }
 {
-    number_or_first(place_of_type(model, &name.name))
+    number_or_first(position_of_type(model, &name.name))
 }
 
 // ---- values and times
 
-/// The variant of the enumeration of this place.
+/// The variant of the enumeration of this position.
 pub fn variant_in(model: &Model, kind: Option<usize>, variant: &RawName) -> Value
     ensures { result ≡ variant_in model.now kind variant.now }
 {
     match kind {
         None => Value::Truth(false),
         Some(kind) => Value::Variant {
-            kind: short_number(kind),
-            number: number_or_first(variant_place(model, kind, &variant.name)),
+            kind: short(kind),
+            number: number_or_first(variant_position(model, kind, &variant.name)),
         },
     }
 }
@@ -53,7 +54,7 @@ fn tested_value(model: &Model, value: &RawTested) -> Value
     match value {
         RawTested::Truth(truth) => Value::Truth(*truth),
         RawTested::Variant { kind, variant } => {
-            variant_in(model, place_of_enum(model, &kind.name), variant)
+            variant_in(model, position_of_enum(model, &kind.name), variant)
         }
     }
 }
@@ -139,7 +140,7 @@ fn truth_of(
     Ok(Window::Truth(resource))
 }
 
-/// The window that is meant by one in which this name is bound, in a place of its own.
+/// The window that is meant by one in which this name is bound, in a position of its own.
 #[cycle(meaning)]
 fn part_of(
     alloc: Global,

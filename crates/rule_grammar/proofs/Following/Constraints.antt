@@ -5,9 +5,9 @@ use Rattle.readers.specs.Marks.{Mark}
 use Rattle.readers.specs.grammar.Forms.{rule, both, option}
 use Rattle.readers.proofs.Conforming.{begins_both, and_then, then_value, value, either_conforms, option_conforms, rule_conforms}
 use Rattle.readers.proofs.Listing.{row_conforms}
-use Rattle.rule_grammar.specs.RuleAnswers.{JudgesAll}
+use Rattle.readers.specs.Verdicts.{JudgesAll}
 use Rattle.rule_grammar.specs.grammar.Rules.{constraints_rule, window_rule}
-use Rattle.rule_grammar.specs.grammar.Written.{forbid_form, each_form, constraint_form}
+use Rattle.rule_grammar.specs.grammar.Written.{forbid_form, each_form, constraint_form, written}
 use Rattle.rule_grammar.specs.reading.Constraints.{forbid_at, each_at, optional_each_at, window_rule_at, rule_at, constraint_at, constraints_at}
 use Rattle.rule_grammar.specs.reading.ToTheEnd.{to_the_end}
 use Rattle.rule_grammar.proofs.Following.Names.{Along, begins_with, taken, raw_name_conforms}
@@ -46,5 +46,5 @@ constraints_conform : (marks : List Mark) → Along (rule constraints_rule) mark
 unfolding constraints_at
 constraints_conform marks = rule_conforms predictive (row_conforms predictive (sort.Name ∷ []) (begins_both (begins_with sort.Name) refl) refl constraint_conforms None marks)
 
-pub constraints_judged : (marks : List Mark) → JudgesAll constraints_rule marks (to_the_end (constraints_at marks))
+pub constraints_judged : (marks : List Mark) → JudgesAll written constraints_rule marks (to_the_end (constraints_at marks))
 constraints_judged marks = judged_to_the_end constraints_rule constraints_alike marks _ (constraints_conform marks)

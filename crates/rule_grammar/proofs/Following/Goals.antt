@@ -8,12 +8,12 @@ use Rattle.readers.specs.grammar.Forms.{token, rule, both, either, option}
 use Rattle.readers.proofs.Conforming.{begins_both, and_then, then_value, value, either_conforms, option_conforms, rule_conforms, one_of_conforms}
 use Rattle.readers.proofs.Listing.{row_conforms, listed_conforms}
 use Rattle.model_reader.specs.declared.raw.names.RawName.{RawName}
-use Rattle.rule_grammar.specs.RuleAnswers.{JudgesAll}
+use Rattle.readers.specs.Verdicts.{JudgesAll}
 use Rattle.rule_grammar.specs.declared.raw.goals.RawAnchor.{RawAnchor}
 use Rattle.rule_grammar.specs.declared.raw.goals.RawGoalKind.{RawGoalKind}
 use Rattle.rule_grammar.specs.declared.raw.goals.RawTemplate.{RawTemplate}
 use Rattle.rule_grammar.specs.grammar.Rules.{goals_rule, kind_rule, anchor_rule, range_rule, sdur_rule, window_rule}
-use Rattle.rule_grammar.specs.grammar.Written.{keeping_form, goal_form, recurrence_form, coexistence_form, cardinality_form}
+use Rattle.rule_grammar.specs.grammar.Written.{keeping_form, goal_form, recurrence_form, coexistence_form, cardinality_form, written}
 use Rattle.rule_grammar.specs.reading.Edges.{placed_edge_at, edge_at}
 use Rattle.rule_grammar.specs.reading.Goals.{range_at, edges_at, window_anchor_at, anchor_at, counted_at, recurrence_at, cardinality_at, distance_at, beside_at, coexisting_at, coexistence_at, kind_at, kept_at, keeping_at, terms_at, ended_goal_at, goal_at, goals_at}
 use Rattle.rule_grammar.specs.reading.ToTheEnd.{to_the_end}
@@ -120,5 +120,5 @@ goals_conform : (marks : List Mark) → Along (rule goals_rule) marks (goals_at 
 unfolding goals_at
 goals_conform marks = rule_conforms predictive (row_conforms predictive (sort.Name ∷ []) (begins_both (begins_with sort.Name) refl) refl goal_conforms None marks)
 
-pub goals_judged : (marks : List Mark) → JudgesAll goals_rule marks (to_the_end (goals_at marks))
+pub goals_judged : (marks : List Mark) → JudgesAll written goals_rule marks (to_the_end (goals_at marks))
 goals_judged marks = judged_to_the_end goals_rule goals_alike marks _ (goals_conform marks)

@@ -2,18 +2,18 @@
 use Rattle.std.proofs.Common.{Bool, true, false, List, [], ◌∷◌, ◌++◌, None, refl}
 use Rattle.aerie_text.specs.declared.sorts.Sort.{Sort}
 use Rattle.aerie_text.specs.declared.sorts.Sort.TheVariants as sort
-use Rattle.readers.specs.Lists.{pushed_at}
+use Rattle.readers.specs.Lists.{pushed_at, separated_parts_at}
 use Rattle.readers.specs.Marks.{Mark}
 use Rattle.readers.specs.Parsed.{Parsed, parsed}
 use Rattle.readers.specs.grammar.Forms.{Form, token, rule, both, either, option, separated}
 use Rattle.readers.proofs.Conforming.{begins_both, begins_either, begins_rule, in_table, and_then, then_value, value, either_conforms, option_conforms, rule_conforms, separated_conforms}
 use Rattle.readers.proofs.Listing.{row_conforms}
 use Rattle.model_reader.specs.declared.raw.names.RawName.{RawName}
-use Rattle.rule_grammar.specs.RuleAnswers.{JudgesAll}
+use Rattle.readers.specs.Verdicts.{JudgesAll}
 use Rattle.rule_grammar.specs.grammar.Factored.{signed_amount_form, variant_part_form, named_word_form, literal_first}
 use Rattle.rule_grammar.specs.grammar.Rules.{Rule, sequence_rule, step_rule, word_rule}
-use Rattle.rule_grammar.specs.grammar.Written.{span_rule_form, spacing_form, time_of_step_form, condition_form}
-use Rattle.rule_grammar.specs.reading.Sequences.{separated_parts_at, amount_word_at, truth_word_at, variant_word_at, named_word_at, result_word_at, sent_word_at, words_at, signed_shift_at, optional_shift_at, time_of_step_at, send_test_at, optional_test_at, sent_at, step_at, span_rule_at, spacing_least_at, spacing_at, sequence_item_at, sequence_at}
+use Rattle.rule_grammar.specs.grammar.Written.{span_rule_form, spacing_form, time_of_step_form, condition_form, written}
+use Rattle.rule_grammar.specs.reading.Sequences.{amount_word_at, truth_word_at, variant_word_at, named_word_at, result_word_at, sent_word_at, words_at, signed_shift_at, optional_shift_at, time_of_step_at, send_test_at, optional_test_at, sent_at, step_at, span_rule_at, spacing_least_at, spacing_at, sequence_item_at, sequence_at}
 use Rattle.rule_grammar.specs.reading.ToTheEnd.{to_the_end}
 use Rattle.rule_grammar.proofs.Following.Goals.{placed_edge_conforms}
 use Rattle.rule_grammar.proofs.Following.Names.{Along, begins_with, begins_with_one_of, taken, raw_name_conforms}
@@ -125,5 +125,5 @@ unfolding sequence_at
 sequence_conforms marks =
     rule_conforms predictive (row_conforms predictive (sort.For ∷ sort.Longer ∷ []) (begins_either (begins_both (begins_with sort.For) refl) (begins_both (begins_with sort.Longer) refl)) refl sequence_item_conforms None marks)
 
-pub sequences_judged : (marks : List Mark) → JudgesAll sequence_rule marks (to_the_end (sequence_at marks))
+pub sequences_judged : (marks : List Mark) → JudgesAll written sequence_rule marks (to_the_end (sequence_at marks))
 sequences_judged marks = judged_to_the_end sequence_rule sequences_alike marks _ (sequence_conforms marks)

@@ -8,7 +8,7 @@ use Rattle.readers.specs.Parsed.{is_of}
 use Rattle.readers.specs.grammar.Alike.{AreAlike, rewritten, StandsFor, named, inlined}
 use Rattle.readers.specs.grammar.Alternatives.{SameExpansions}
 use Rattle.readers.specs.grammar.Forms.{Form, rule, Grammar}
-use Rattle.readers.proofs.Grammars.Alike.{alike_forms, alike_named, alike_turned, alike_chained}
+use Rattle.readers.proofs.Grammars.Alike.{alike_forms, alike_named, alike_swapped, alike_chained}
 use Rattle.readers.proofs.Grammars.Alternatives.{same_form, same_alternatives}
 use Rattle.rule_grammar.specs.grammar.Factored.{factored}
 use Rattle.rule_grammar.specs.grammar.Rules.{Rule, constraints_rule, goals_rule, sequence_rule, atom_rule, wsum_rule, wterm_rule, word_rule, literal_rule}
@@ -76,7 +76,7 @@ alike_from r e =
     alike_chained written r half r factored r (alike_forms written half (λ t k. refl) first_step r)
     (alike_chained half r (put_in half) r factored r (alike_named half (put_in half) put_in_rule (record { same_fits = λ t k. refl; stands = half_stands }) r r e)
     (alike_chained (put_in half) r (put_in factored) r factored r (alike_forms (put_in half) (put_in factored) (λ t k. refl) second_step r)
-    (alike_turned factored r (put_in factored) r (alike_named factored (put_in factored) put_in_rule (record { same_fits = λ t k. refl; stands = factored_stands }) r r e))))
+    (alike_swapped factored r (put_in factored) r (alike_named factored (put_in factored) put_in_rule (record { same_fits = λ t k. refl; stands = factored_stands }) r r e))))
 
 pub constraints_alike : AreAlike written constraints_rule factored constraints_rule
 constraints_alike = alike_from constraints_rule refl

@@ -11,7 +11,7 @@ use Rattle.readers.proofs.Grammars.Alternatives.{same_alternatives}
 use Rattle.rule_grammar.specs.grammar.Factored.{variant_part_form, order_sign_form}
 use Rattle.rule_grammar.specs.grammar.Rules.{Rule}
 use Rattle.rule_grammar.specs.grammar.Written.{not_form, parenthesis_form, during_form, shift_form, longer_form, variant_form, same_sign_form, compare_sign_form, scaled_form, wterm_form}
-use Rattle.rule_grammar.proofs.Grammar.Same.{same_itself, same_turned, same_chained, same_both, same_either, same_second, same_behind, in_sequence, in_choice, choice_before, choice_behind, nothing_in_front, turns}
+use Rattle.rule_grammar.proofs.Grammar.Same.{same_itself, same_swapped, same_chained, same_both, same_either, same_second, same_behind, in_sequence, in_choice, choice_before, choice_behind, nothing_in_front, iterations}
 
 -- ---- the forms, with no rules of sums and terms in them
 
@@ -77,13 +77,13 @@ an_operand =
 -- the right side begins with "==" or "!=", or with the sign of an order
 a_right_side : SameExpansions right_side (same_sign_form then sum or order)
 a_right_side =
-    same_chained (same_both (same_turned (in_choice (token sort.DoubleEqual) (token sort.NotEqual) order_sign_form)) (same_itself sum))
+    same_chained (same_both (same_swapped (in_choice (token sort.DoubleEqual) (token sort.NotEqual) order_sign_form)) (same_itself sum))
     (choice_before same_sign_form order_sign_form sum)
 
 -- further terms and the right side: there is one more at least, or none
 after_name : SameExpansions (more_terms then right_side) (longer_left or same_sign_form then sum or order)
 after_name =
-    same_chained (same_both (turns signed_term) (same_itself right_side))
+    same_chained (same_both (iterations signed_term) (same_itself right_side))
     (same_chained (choice_before (signed_term then more_terms) nothing right_side)
     (same_either (in_sequence signed_term more_terms right_side) (same_chained (nothing_in_front right_side) a_right_side)))
 
@@ -106,7 +106,7 @@ module _ (x n l s o : Form Rule Sort) where
   rearranged = record { onward = rearranged_onward; back = rearranged_back }
 
 a_same : SameExpansions (same_sign_form then value or same_sign_form then sum) same
-a_same = same_chained (same_turned (choice_behind same_sign_form value sum)) (same_behind same_sign_form an_operand)
+a_same = same_chained (same_swapped (choice_behind same_sign_form value sum)) (same_behind same_sign_form an_operand)
 
 -- what follows a NAME
 a_named_tail : SameExpansions (option (same_sign_form then value) or more_terms then right_side) (option (same or order or longer_left))
@@ -125,9 +125,9 @@ a_comparison =
 some_tests : SameExpansions written_tests factored_tests
 some_tests =
     same_chained (same_second (token sort.Name then option (same_sign_form then value)) a_comparison)
-    (same_chained (same_turned (in_choice (token sort.Name then option (same_sign_form then value)) (token sort.Name then (more_terms then right_side)) (unnamed_sum then right_side)))
+    (same_chained (same_swapped (in_choice (token sort.Name then option (same_sign_form then value)) (token sort.Name then (more_terms then right_side)) (unnamed_sum then right_side)))
     (same_either
-    (same_chained (same_turned (choice_behind (token sort.Name) (option (same_sign_form then value)) (more_terms then right_side))) (same_behind (token sort.Name) a_named_tail))
+    (same_chained (same_swapped (choice_behind (token sort.Name) (option (same_sign_form then value)) (more_terms then right_side))) (same_behind (token sort.Name) a_named_tail))
     (same_itself (unnamed_sum then right_side))))
 
 -- the other atoms, and these

@@ -1,15 +1,15 @@
 -- Forms with the same expansions: what follows for forms that they are parts of, and forms that are regrouped.
 use Rattle.std.proofs.Common.{List, ◌++◌, append_assoc, subst, sym}
 use Rattle.readers.specs.grammar.Alternatives.{SameExpansions}
-use Rattle.readers.specs.grammar.Expansions.{Symbol, IsExpansion, of_nothing, of_both, of_first, of_second, of_no_turn, of_turn}
+use Rattle.readers.specs.grammar.Expansions.{Symbol, IsExpansion, of_nothing, of_both, of_first, of_second, of_no_iteration, of_iteration}
 use Rattle.readers.specs.grammar.Forms.{Form, nothing, both, either, many, option}
 
 module _ {Rule Sort : Type 0} where
   pub same_itself : (a : Form Rule Sort) → SameExpansions a a
   same_itself a = record { onward = λ us h. h; back = λ us h. h }
 
-  pub same_turned : {a b : Form Rule Sort} → SameExpansions a b → SameExpansions b a
-  same_turned h = record { onward = h.back; back = h.onward }
+  pub same_swapped : {a b : Form Rule Sort} → SameExpansions a b → SameExpansions b a
+  same_swapped h = record { onward = h.back; back = h.onward }
 
   pub same_chained : {a b c : Form Rule Sort} → SameExpansions a b → SameExpansions b c → SameExpansions a c
   same_chained h i = record { onward = λ us e. i.onward us (h.onward us e); back = λ us e. h.back us (i.back us e) }
@@ -18,14 +18,14 @@ module _ {Rule Sort : Type 0} where
   both_onward a b c d h i _ (of_both {us = us} {vs = vs} e f) = of_both (h.onward us e) (i.onward vs f)
 
   pub same_both : {a b c d : Form Rule Sort} → SameExpansions a c → SameExpansions b d → SameExpansions (both a b) (both c d)
-  same_both {a = a} {b = b} {c = c} {d = d} h i = record { onward = both_onward a b c d h i; back = both_onward c d a b (same_turned h) (same_turned i) }
+  same_both {a = a} {b = b} {c = c} {d = d} h i = record { onward = both_onward a b c d h i; back = both_onward c d a b (same_swapped h) (same_swapped i) }
 
   either_onward : (a b c d : Form Rule Sort) → SameExpansions a c → SameExpansions b d → (us : List (Symbol Rule Sort)) → IsExpansion (either a b) us → IsExpansion (either c d) us
   either_onward a b c d h i us (of_first e) = of_first (h.onward us e)
   either_onward a b c d h i us (of_second e) = of_second (i.onward us e)
 
   pub same_either : {a b c d : Form Rule Sort} → SameExpansions a c → SameExpansions b d → SameExpansions (either a b) (either c d)
-  same_either {a = a} {b = b} {c = c} {d = d} h i = record { onward = either_onward a b c d h i; back = either_onward c d a b (same_turned h) (same_turned i) }
+  same_either {a = a} {b = b} {c = c} {d = d} h i = record { onward = either_onward a b c d h i; back = either_onward c d a b (same_swapped h) (same_swapped i) }
 
   -- the first parts of a choice as they are
   pub same_second : (a : Form Rule Sort) {b c : Form Rule Sort} → SameExpansions b c → SameExpansions (either a b) (either a c)
@@ -99,7 +99,7 @@ module _ {Rule Sort : Type 0} where
     pub choice_behind : SameExpansions (both a (either b c)) (either (both a b) (both a c))
     choice_behind = record { onward = spread_behind; back = gathered_behind }
 
-  -- ---- options and turns
+  -- ---- options and iterations
 
   nothing_before : (b : Form Rule Sort) (us ws : List (Symbol Rule Sort)) → IsExpansion nothing us → IsExpansion b ws → IsExpansion b (us ++ ws)
   nothing_before b _ ws of_nothing f = f
@@ -110,20 +110,20 @@ module _ {Rule Sort : Type 0} where
   pub nothing_in_front : (b : Form Rule Sort) → SameExpansions (both nothing b) b
   nothing_in_front b = record { onward = without_nothing b; back = λ us e. of_both of_nothing e }
 
-  turns_to_option : (a : Form Rule Sort) (us : List (Symbol Rule Sort)) → IsExpansion (many a) us → IsExpansion (option (both a (many a))) us
-  turns_to_option a _ of_no_turn = of_second of_nothing
-  turns_to_option a _ (of_turn e f) = of_first (of_both e f)
+  iterations_to_option : (a : Form Rule Sort) (us : List (Symbol Rule Sort)) → IsExpansion (many a) us → IsExpansion (option (both a (many a))) us
+  iterations_to_option a _ of_no_iteration = of_second of_nothing
+  iterations_to_option a _ (of_iteration e f) = of_first (of_both e f)
 
-  turn_and_more : (a : Form Rule Sort) (us : List (Symbol Rule Sort)) → IsExpansion (both a (many a)) us → IsExpansion (many a) us
-  turn_and_more a _ (of_both e f) = of_turn e f
+  iteration_and_more : (a : Form Rule Sort) (us : List (Symbol Rule Sort)) → IsExpansion (both a (many a)) us → IsExpansion (many a) us
+  iteration_and_more a _ (of_both e f) = of_iteration e f
 
   no_more : (a : Form Rule Sort) (us : List (Symbol Rule Sort)) → IsExpansion nothing us → IsExpansion (many a) us
-  no_more a _ of_nothing = of_no_turn
+  no_more a _ of_nothing = of_no_iteration
 
-  option_to_turns : (a : Form Rule Sort) (us : List (Symbol Rule Sort)) → IsExpansion (option (both a (many a))) us → IsExpansion (many a) us
-  option_to_turns a us (of_first e) = turn_and_more a us e
-  option_to_turns a us (of_second e) = no_more a us e
+  option_to_iterations : (a : Form Rule Sort) (us : List (Symbol Rule Sort)) → IsExpansion (option (both a (many a))) us → IsExpansion (many a) us
+  option_to_iterations a us (of_first e) = iteration_and_more a us e
+  option_to_iterations a us (of_second e) = no_more a us e
 
-  -- no turn, or a first one and more
-  pub turns : (a : Form Rule Sort) → SameExpansions (many a) (option (both a (many a)))
-  turns a = record { onward = turns_to_option a; back = option_to_turns a }
+  -- no iteration, or a first one and more
+  pub iterations : (a : Form Rule Sort) → SameExpansions (many a) (option (both a (many a)))
+  iterations a = record { onward = iterations_to_option a; back = option_to_iterations a }

@@ -11,7 +11,7 @@ use Rattle.readers.specs.grammar.MarkTables.{look_of}
 use Rattle.readers.specs.grammar.Tables.{Tables}
 use Rattle.readers.specs.grammar.Notation.{◌then◌, ◌or◌}
 use Rattle.rule_grammar.specs.grammar.Rules.{Rule, constraints_rule, window_rule, conj_rule, atom_rule, wsum_rule, wterm_rule, sdur_rule, goals_rule, kind_rule, anchor_rule, range_rule, given_rule, sequence_rule, step_rule, word_rule, literal_rule}
-use Rattle.rule_grammar.specs.grammar.Written.{form_of as written_form, not_form, parenthesis_form, during_form, shift_form, longer_form, variant_form, same_sign_form, compare_sign_form, signed_term_form, scaled_form}
+use Rattle.rule_grammar.specs.grammar.Written.{form_of as written_form, atom_form_with, variant_form, same_sign_form, compare_sign_form, signed_term_form, scaled_form}
 
 -- ---- sums
 
@@ -75,16 +75,7 @@ named_atom_form = token sort.Name then option named_tail_form
 
 -- atom is one of these
 abbrev pub atom_form : Form Rule Sort
-atom_form =
-    not_form
-    or parenthesis_form
-    or token sort.True
-    or token sort.False
-    or during_form
-    or shift_form
-    or longer_form
-    or named_atom_form
-    or unnamed_atom_form
+atom_form = atom_form_with (named_atom_form or unnamed_atom_form)
 
 -- ---- literals
 

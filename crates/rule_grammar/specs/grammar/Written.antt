@@ -79,18 +79,13 @@ compare_sign_form = token sort.DoubleEqual or token sort.NotEqual or token sort.
 abbrev pub comparison_form : Form Rule Sort
 comparison_form = rule wsum_rule then compare_sign_form then rule wsum_rule
 
+-- an atom that begins with a word or a sign of its own, or that is one of the others
+abbrev pub atom_form_with : Form Rule Sort → Form Rule Sort
+atom_form_with others = not_form or parenthesis_form or token sort.True or token sort.False or during_form or shift_form or longer_form or others
+
 -- atom is one of these
 abbrev pub atom_form : Form Rule Sort
-atom_form =
-    not_form
-    or parenthesis_form
-    or token sort.True
-    or token sort.False
-    or during_form
-    or shift_form
-    or longer_form
-    or tested_form
-    or comparison_form
+atom_form = atom_form_with (tested_form or comparison_form)
 
 -- ( "+" | "-" ) wterm
 abbrev pub signed_term_form : Form Rule Sort

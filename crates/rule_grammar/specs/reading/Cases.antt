@@ -7,14 +7,13 @@ use Rattle.aerie_text.specs.Sorts.{word_sort, symbol_sort}
 use Rattle.aerie_text.specs.Symbols.{symbol_len}
 use Rattle.aerie_text.specs.TokenAt.{token_at}
 use Rattle.aerie_text.specs.Tokens.{tokens_of, tokens_from}
-use Rattle.readers.specs.Marks.{Mark}
+use Rattle.readers.specs.Marks.{Mark, marks_in}
 use Rattle.readers.specs.Parsed.{Parsed, parsed, failed, over_limit}
 use Rattle.model_reader.specs.declared.raw.names.RawName.{RawName}
 use Rattle.model_reader.specs.reading.Names.{raw_name_at, one_standing_for}
 use Rattle.rule_grammar.specs.declared.raw.sums.RawTerm.{RawTerm}
 use Rattle.rule_grammar.specs.declared.reading.leveled.LeveledSum.{LeveledSum}
 use Rattle.rule_grammar.specs.declared.reading.leveled.LeveledWindow.{LeveledWindow}
-use Rattle.rule_grammar.specs.grammar.Cases.{marks_in}
 use Rattle.rule_grammar.specs.reading.Levels.{parenthesis_opening}
 use Rattle.rule_grammar.specs.reading.Sums.{factor_at, optional_factor_at, scaled_at, duration_term_at, resource_term_at, term_at, sum_sign_at, signed_term_at, next_term_at, more_terms_at, sum_at, negative_term_at, unnamed_term_at, unnamed_sum_at}
 use Rattle.rule_grammar.specs.reading.Tested.{compare_sign_at, right_side_at, comparison_at, unnamed_atom_at, named_atom_at}

@@ -4,9 +4,9 @@ use Rattle.aerie_base.specs.declared.places.Place.{Place}
 use Rattle.aerie_base.specs.declared.plans.Edge.{Edge}
 use Rattle.aerie_text.specs.declared.sorts.Sort.{Sort}
 use Rattle.aerie_text.specs.declared.sorts.Sort.TheVariants as sort
-use Rattle.readers.specs.Lists.{pushed_at, row_at}
+use Rattle.readers.specs.Lists.{row_at, separated_parts_at}
 use Rattle.readers.specs.Marks.{Mark}
-use Rattle.readers.specs.Parsed.{Parsed, parsed, ◌>>=◌, is_one_of, next_is, next_fits, chosen, take_at, number_at, separated_at}
+use Rattle.readers.specs.Parsed.{Parsed, parsed, ◌>>=◌, is_one_of, next_is, next_fits, chosen, take_at, number_at}
 use Rattle.model_reader.specs.declared.raw.literals.RawLiteral.{RawLiteral}
 use Rattle.model_reader.specs.declared.raw.literals.RawLiteralKind.TheVariants as literal
 use Rattle.model_reader.specs.declared.raw.names.RawName.{RawName}
@@ -21,10 +21,6 @@ use Rattle.rule_grammar.specs.declared.raw.sequences.RawWordKind.TheVariants as 
 use Rattle.rule_grammar.specs.reading.Edges.{placed_edge_at}
 use Rattle.rule_grammar.specs.reading.Sums.{behind_sign, is_sum_sign, sum_sign_at}
 use Rattle.rule_grammar.specs.reading.Tested.{compare_sign_at}
-
--- parts with commas between them, one at least
-abbrev pub separated_parts_at : {A : Type 0} → (List Mark → Parsed A) → List Mark → Parsed (List A)
-separated_parts_at part_at marks = separated_at sort.Comma (pushed_at part_at) [] marks
 
 -- ---- words
 

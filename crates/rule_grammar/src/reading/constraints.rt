@@ -5,11 +5,10 @@ ghost use Rattle.readers.specs.Implements.{Consumes, MayConsume};
 ghost use Rattle.rule_grammar.specs.reading.Constraints.{forbid_at, each_at, optional_each_at, window_rule_of, window_rule_at, rule_at, constraint_at, constraints_at};
 
 use crate::raw::{RawConstraint, RawRule, RawWindow};
-use crate::reading::names::raw_name;
 use crate::reading::windows::window;
 use aerie_base::List;
 use aerie_text::Sort;
-use model_reader::RawName;
+use model_reader::{RawName, raw_name};
 use readers::{Element, Reader, Refusal, ended_by, row};
 use std::alloc::Global;
 

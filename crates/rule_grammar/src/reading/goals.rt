@@ -3,18 +3,16 @@
 ghost use Rattle.std.specs.Prelude.{◌≡◌};
 ghost use Rattle.readers.specs.Implements.{Consumes, MayConsume};
 ghost use Rattle.readers.specs.Parsed.{next_fits};
-ghost use Rattle.model_reader.specs.reading.Names.{raw_name_at};
 ghost use Rattle.rule_grammar.specs.reading.Edges.{is_edge, placed_edge_at, edge_at};
 ghost use Rattle.rule_grammar.specs.reading.Goals.{range_at, anchor_at_edges, edges_at, window_anchor_at, counted_at, recurrence_at, cardinality_at, distance_at, beside_at, anchor_at, coexisting_at, coexistence_at, kind_at, kept_at, keeping_at, terms_at, ended_goal_at, goal_at, goals_at};
 
 use crate::raw::{RawAnchor, RawGoal, RawGoalKind, RawNumber, RawRange, RawTemplate};
 use crate::reading::literals::{placed_duration, raw_number};
-use crate::reading::names::raw_name;
 use crate::reading::templates::template;
 use crate::reading::windows::{signed_duration, window};
 use aerie_base::{Edge, List, Number, Place};
 use aerie_text::Sort;
-use model_reader::RawName;
+use model_reader::{OneName, RawName, raw_name};
 use readers::{Element, Reader, Refusal, ended_by, listed, one_of, row};
 use std::alloc::Global;
 
@@ -191,25 +189,12 @@ fn kind(alloc: Global, reader: &mut Reader) -> Result<(RawTemplate, RawGoalKind)
 
 // ---- goals
 
-/// The name of a constraint.
-struct KeptName;
-
-impl Element for KeptName {
-    type Part = RawName;
-
-    ghost part_at = { raw_name_at };
-
-    fn part(alloc: Global, reader: &mut Reader) -> Result<RawName, Refusal> {
-        raw_name(alloc, reader)
-    }
-}
-
 #[tactic(auto, unfolding(crate::specs::reading::Goals::kept_at))]
 fn kept(alloc: Global, reader: &mut Reader) -> Result<List<RawName>, Refusal>
     ensures { Consumes kept_at reader.old reader.new result }
 {
     reader.take(Sort::Keeping)?;
-    listed::<KeptName>(alloc, reader, Sort::Name, None)
+    listed::<OneName>(alloc, reader, Sort::Name, None)
 }
 
 #[tactic(auto, unfolding(crate::specs::reading::Goals::keeping_at))]

@@ -1,62 +1,21 @@
 //! Sequences. The time is linear in their tokens.
 
 ghost use Rattle.std.specs.Prelude.{◌≡◌};
-ghost use Rattle.aerie_text.specs.declared.sorts.Sort.TheVariants.{Comma};
 ghost use Rattle.readers.specs.Implements.{Consumes, MayConsume};
-ghost use Rattle.readers.specs.Lists.{pushed_at};
-ghost use Rattle.readers.specs.Parsed.{behind_at, next_fits};
-ghost use Rattle.rule_grammar.specs.reading.Sequences.{separated_parts_at, literal_word, amount_word_at, truth_word_at, variant_word_at, parameter_word, named_word_at, result_word_at, sent_word_at, begins_word, words_at, signed_shift_at, optional_shift_at, time_of_step_at, send_test_at, optional_test_at, sent_at, step_of_parts, step_at, span_rule_at, spacing_least_at, spacing_at, sequence_item_at, sequence_at};
+ghost use Rattle.readers.specs.Parsed.{next_fits};
+ghost use Rattle.rule_grammar.specs.reading.Sequences.{literal_word, amount_word_at, truth_word_at, variant_word_at, parameter_word, named_word_at, result_word_at, sent_word_at, begins_word, words_at, signed_shift_at, optional_shift_at, time_of_step_at, send_test_at, optional_test_at, sent_at, step_of_parts, step_at, span_rule_at, spacing_least_at, spacing_at, sequence_item_at, sequence_at};
 
 use crate::raw::{RawSendTest, RawSequenceItem, RawSequenceRule, RawStep, RawWord, RawWordKind};
 use crate::reading::goals::placed_edge;
-use crate::reading::literals::{amount_literal, literal, truth_literal};
-use crate::reading::names::raw_name;
 use crate::reading::sums::{behind_sign, sum_sign};
 use crate::reading::tested::compare_sign;
 use aerie_base::{Edge, List, Number, Place};
 use aerie_text::Sort;
-use model_reader::{RawLiteral, RawLiteralKind, RawName};
-use readers::{Element, Reader, Refusal, ended_by, row};
+use model_reader::{
+    RawLiteral, RawLiteralKind, RawName, amount_literal, literal, raw_name, truth_literal,
+};
+use readers::{Element, Reader, Refusal, ended_by, row, separated};
 use std::alloc::Global;
-
-// ---- parts with commas between them
-
-/// Reads a part, and puts it behind those so far.
-fn one_part<E: Element>(
-    alloc: Global,
-    reader: &mut Reader,
-    so_far: List<E::Part>,
-) -> Result<List<E::Part>, Refusal>
-    ensures { Consumes (pushed_at E.part_at so_far) reader.old reader.new result }
-{
-    let mut parts = so_far;
-    let last = E::part(alloc, reader)?;
-    parts.push(last)?;
-    Ok(parts)
-}
-
-/// The same behind a comma.
-fn next_part<E: Element>(
-    alloc: Global,
-    reader: &mut Reader,
-    so_far: List<E::Part>,
-) -> Result<List<E::Part>, Refusal>
-    ensures { Consumes (behind_at Comma (pushed_at E.part_at) so_far) reader.old reader.new result }
-{
-    reader.take(Sort::Comma)?;
-    one_part::<E>(alloc, reader, so_far)
-}
-
-/// Reads one part or more, with commas between them.
-fn separated_parts<E: Element>(alloc: Global, reader: &mut Reader) -> Result<List<E::Part>, Refusal>
-    ensures { Consumes (separated_parts_at E.part_at) reader.old reader.new result }
-{
-    let mut parts = one_part::<E>(alloc, reader, List::new(alloc))?;
-    while reader.next_is(Sort::Comma) {
-        parts = next_part::<E>(alloc, reader, parts)?;
-    }
-    Ok(parts)
-}
 
 // ---- words
 
@@ -174,7 +133,7 @@ fn words(alloc: Global, reader: &mut Reader) -> Result<List<RawWord>, Refusal>
     ensures { MayConsume words_at reader.old reader.new result }
 {
     if is_at_word(reader) {
-        separated_parts::<OneWord>(alloc, reader)
+        separated::<OneWord>(alloc, reader)
     } else {
         Ok(List::new(alloc))
     }
@@ -296,7 +255,7 @@ fn span_rule(alloc: Global, reader: &mut Reader) -> Result<RawSequenceItem, Refu
     let at = reader.take(Sort::For)?;
     let kind = raw_name(alloc, reader)?;
     reader.take(Sort::Colon)?;
-    let steps = separated_parts::<OneStep>(alloc, reader)?;
+    let steps = separated::<OneStep>(alloc, reader)?;
     let rule = RawSequenceRule::Span { kind, steps };
     ended_by(reader, Sort::Semicolon, RawSequenceItem { at, rule })
 }

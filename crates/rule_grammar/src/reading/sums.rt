@@ -7,10 +7,9 @@ ghost use Rattle.rule_grammar.specs.reading.Sums.{behind_sign, factor_at, option
 
 use crate::raw::RawTerm;
 use crate::reading::leveled::LeveledSum;
-use crate::reading::names::{one_standing_for, raw_name};
 use aerie_base::{List, Number, OutOfMemory};
 use aerie_text::Sort;
-use model_reader::RawName;
+use model_reader::{RawName, negated, one_standing_for, raw_name};
 use readers::{Limit, Reader, Refusal};
 use std::alloc::Global;
 
@@ -25,11 +24,7 @@ pub fn higher(a: usize, b: usize) -> usize
 pub fn behind_sign(negative: bool, number: Number) -> Number
     ensures { result ≡ behind_sign negative number }
 {
-    if negative {
-        Number::new(-number.get()).unwrap()
-    } else {
-        number
-    }
+    if negative { negated(number) } else { number }
 }
 
 // ---- terms

@@ -4,10 +4,8 @@ ghost use Rattle.readers.specs.Implements.{Consumes};
 ghost use Rattle.rule_grammar.specs.reading.Templates.{argument_at, template_at};
 
 use crate::raw::RawTemplate;
-use crate::reading::literals::literal;
-use crate::reading::names::raw_name;
 use aerie_text::Sort;
-use model_reader::{RawLiteral, RawName};
+use model_reader::{RawLiteral, RawName, literal, raw_name};
 use readers::{Element, Reader, Refusal, parenthesized};
 use std::alloc::Global;
 

@@ -7,11 +7,10 @@ ghost use Rattle.rule_grammar.specs.reading.Tested.{comparison_of, is_compare_si
 
 use crate::raw::{RawTested, RawWindow};
 use crate::reading::leveled::{LeveledSum, LeveledWindow};
-use crate::reading::names::{one_standing_for, raw_name};
 use crate::reading::sums::{higher, more_terms, next_term, sum, sum_of_resource, unnamed_sum};
 use aerie_base::{Comparison, OutOfMemory};
 use aerie_text::Sort;
-use model_reader::RawName;
+use model_reader::{RawName, one_standing_for, raw_name};
 use readers::{Limit, Reader, Refusal};
 use std::alloc::Global;
 

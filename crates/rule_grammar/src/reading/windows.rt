@@ -6,11 +6,11 @@ ghost use Rattle.rule_grammar.specs.reading.Windows.{truth_at, during_span_at, d
 
 use crate::raw::RawWindow;
 use crate::reading::leveled::{Joining, LeveledWindow, WindowPart};
-use crate::reading::names::raw_name;
 use crate::reading::sums::{behind_sign, higher};
 use crate::reading::tested::{named_atom, unnamed_atom};
 use aerie_base::{Boxed, Number, OutOfMemory};
 use aerie_text::Sort;
+use model_reader::raw_name;
 use readers::{Limit, Reader, Refusal, ended_by};
 use std::alloc::Global;
 

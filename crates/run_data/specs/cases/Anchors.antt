@@ -15,10 +15,10 @@ use Rattle.effect_cells.specs.declared.trees.Part.TheBlock.{hidden-the_row-Part-
 use denote.Hole.Carrier.{hidden, shown, out}
 use Rattle.run_data.specs.declared.runs.Run.{Run}
 use Rattle.run_data.specs.Spans.{spans_of}
-use Rattle.run_data.specs.cases.Missions.{bump, mission, directive, plan_of, ran, values_of, ints, span, unfinished}
+use Rattle.run_data.specs.cases.SmallModels.{bump, small_model, directive, plan_of, ran, values_of, ints, span, unfinished}
 
 abbrev bumps : Parts
-bumps = mission [] (bump ∷ []) []
+bumps = small_model [] (bump ∷ []) []
 
 -- a bump so long after an edge of another directive
 abbrev anchored_bump : ℕ → Edge → ℕ → ℕ → ℕ → Directive

@@ -37,13 +37,13 @@ use Rattle.run_data.specs.TaskStates.{activity_begun, body_of}
 use Rattle.run_data.specs.Typed.{is_typed_stmt, AreLeft}
 use Rattle.run_data.specs.Values.{resource_value, rate_at}
 use Rattle.run_data.specs.Waves.{wave_of}
-use Rattle.run_data.specs.cases.Missions.{number, local, add, bump, mission, plan_of, ran, ints}
+use Rattle.run_data.specs.cases.SmallModels.{number, local, add, bump, small_model, plan_of, ran, ints}
 use denote.Hole.Carrier.{hidden, shown, out}
 
 -- ---- scopes: `if true { let x = 1; }`, of the places of the test, of the `let`, behind the block and at the end
 
 abbrev bumps : Parts
-bumps = mission [] (bump ∷ []) []
+bumps = small_model [] (bump ∷ []) []
 
 abbrev with_block : List Stmt
 with_block = If (Literal (value.Truth true)) (Let 0 (number 1) ∷ []) [] ∷ []
@@ -132,7 +132,7 @@ nothing_is_new = refl
 -- ---- values and rates: `accumulator v = 5 rate 2`, and 3 * v + 1
 
 abbrev rising : Parts
-rising = mission ((codes "v", cell.Accumulator (pos 5) (pos 2)) ∷ []) [] []
+rising = small_model ((codes "v", cell.Accumulator (pos 5) (pos 2)) ∷ []) [] []
 
 abbrev idle : Run
 idle = ran rising (plan_of 100 [])

@@ -19,11 +19,11 @@ use Rattle.run_data.specs.declared.runs.Outcome.TheVariants.{Failed}
 use Rattle.run_data.specs.declared.runs.Who.TheVariants as who
 use Rattle.run_data.specs.TaskStates.{activity_begun}
 use Rattle.run_data.specs.Waves.{wave_of}
-use Rattle.run_data.specs.cases.Missions.{number, add, plain, bump, mission, directive, plan_of, ran, ints}
+use Rattle.run_data.specs.cases.SmallModels.{number, add, plain, bump, small_model, directive, plan_of, ran, ints}
 
 -- two tasks add 6 * 10^17 each to a counter, which may come to 10^18
 abbrev bumps : Parts
-bumps = mission [] (bump ∷ []) []
+bumps = small_model [] (bump ∷ []) []
 
 pub a_counter_leaves_its_range :
     (ran bumps (plan_of 100 (directive 1 5 0 (ints (600_000_000_000_000_000 ∷ [])) ∷ directive 2 5 0 (ints (600_000_000_000_000_000 ∷ [])) ∷ []))).outcome
@@ -33,7 +33,7 @@ a_counter_leaves_its_range = refl
 
 -- `n += 10^40`, which is no model: the number of a literal has its range by its type, and a valid model by its definition
 abbrev vast : Parts
-vast = mission [] (plain (add (number 10_000_000_000_000_000_000_000_000_000_000_000_000_000) ∷ []) ∷ []) []
+vast = small_model [] (plain (add (number 10_000_000_000_000_000_000_000_000_000_000_000_000_000) ∷ []) ∷ []) []
 
 -- a step itself asks nothing of a literal
 pub a_vast_effect : wave_of vast 9 (record { path = root 1; state = activity_begun vast 0 []; view = state.Counter (pos 0) ∷ [] } ∷ [])

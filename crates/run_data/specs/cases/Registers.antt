@@ -21,9 +21,9 @@ use Rattle.effect_cells.specs.declared.trees.Part.TheBlock.{hidden-the_row-Part-
 use denote.Hole.Carrier.{hidden, shown, out}
 use Rattle.run_data.specs.declared.runs.Run.{Run}
 use Rattle.run_data.specs.Spans.{spans_of}
-use Rattle.run_data.specs.cases.Missions.{number, local, reading, activity, by_int, plain, mission, directive, plan_of, ran, values_of, ints, span}
+use Rattle.run_data.specs.cases.SmallModels.{number, local, reading, activity, by_int, plain, small_model, directive, plan_of, ran, values_of, ints, span}
 
--- `register r: int = 0; counter seen = 0;`, the cells 1 and 2
+-- `register r: int = 0; counter value_read = 0;`, the cells 1 and 2
 abbrev cells : List (Name × CellStart)
 cells = (codes "r", cell.Register kind.Int (value.Int (pos 0))) ∷ (codes "seen", cell.Counter (pos 0)) ∷ []
 
@@ -34,7 +34,7 @@ set to = Emit 1 (emission.Set to)
 -- ---- `Put(v: int) { r := v; }`, two with the same value
 
 abbrev putting : Parts
-putting = mission cells (activity (by_int ∷ []) 1 (set (local 0) ∷ []) ∷ []) []
+putting = small_model cells (activity (by_int ∷ []) 1 (set (local 0) ∷ []) ∷ []) []
 
 abbrev puts : Run
 puts = ran putting (plan_of 100 (directive 1 5 0 (ints (7 ∷ [])) ∷ directive 2 5 0 (ints (7 ∷ [])) ∷ []))
@@ -54,7 +54,7 @@ pub both_spans_stand : spans_of putting puts ≡ span (root 1) 0 (ints (7 ∷ []
 unfolding left lefts size evaluated out-Stmt out shown hidden shown-the_row-Stmt-0 hidden-the_row-Stmt-0 shape-the_row-Stmt-0 hidden-the_row-Expr-0 shape-the_row-Expr-0 hidden-the_row-Part-0 shape-the_row-Part-0
 both_spans_stand = refl
 
--- ---- `C() { let x = r; seen += x; r := 2; }`
+-- ---- `C() { let x = r; value_read += x; r := 2; }`
 
 abbrev child : Activity
 child = activity [] 1 (Let 0 (reading (read.Register 1)) ∷ Emit 2 (emission.Add (local 0)) ∷ set (number 2) ∷ [])
@@ -62,7 +62,7 @@ child = activity [] 1 (Let 0 (reading (read.Register 1)) ∷ Emit 2 (emission.Ad
 -- ---- `P() { r := 1; spawn C(); r := 3; }`
 
 abbrev with_later_effect : Parts
-with_later_effect = mission cells (child ∷ plain (set (number 1) ∷ Spawn 0 [] ∷ set (number 3) ∷ []) ∷ []) []
+with_later_effect = small_model cells (child ∷ plain (set (number 1) ∷ Spawn 0 [] ∷ set (number 3) ∷ []) ∷ []) []
 
 abbrev conflicted : Run
 conflicted = ran with_later_effect (plan_of 100 (directive 1 5 1 [] ∷ []))
@@ -86,7 +86,7 @@ the_child_has_a_span = refl
 -- ---- `P() { r := 1; spawn C(); }`
 
 abbrev without_it : Parts
-without_it = mission cells (child ∷ plain (set (number 1) ∷ Spawn 0 [] ∷ []) ∷ []) []
+without_it = small_model cells (child ∷ plain (set (number 1) ∷ Spawn 0 [] ∷ []) ∷ []) []
 
 abbrev agreed : Run
 agreed = ran without_it (plan_of 100 (directive 1 5 1 [] ∷ []))

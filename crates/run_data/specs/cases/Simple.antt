@@ -21,14 +21,14 @@ use Rattle.run_data.specs.declared.runs.Outcome.TheVariants.{Completed, Failed, 
 use Rattle.run_data.specs.declared.runs.Who.TheVariants as who
 use Rattle.run_data.specs.declared.runs.Run.{Run}
 use Rattle.run_data.specs.Transitions.{Next, more, finished}
-use Rattle.run_data.specs.Fresh.{SimulationState, after_turns}
+use Rattle.run_data.specs.Fresh.{SimulationState, after_transitions}
 use Rattle.run_data.specs.Spans.{spans_of}
-use Rattle.run_data.specs.cases.Missions.{number, local, add, delay, activity, by_int, plain, bump, mission, directive, plan_of, ran, run_within, values_of, ints, span}
+use Rattle.run_data.specs.cases.SmallModels.{number, local, add, delay, activity, by_int, plain, bump, small_model, directive, plan_of, ran, run_within, values_of, ints, span}
 
 -- ---- two bumps at one instant
 
 abbrev bumps : Parts
-bumps = mission [] (bump ∷ []) []
+bumps = small_model [] (bump ∷ []) []
 
 abbrev two : Run
 two = ran bumps (plan_of 100 (directive 1 5 0 (ints (3 ∷ [])) ∷ directive 2 5 0 (ints (3 ∷ [])) ∷ []))
@@ -61,7 +61,7 @@ it_reaches_its_end = refl
 -- ---- `Leaf() { delay 7us; } Mid() { spawn Leaf(); } Outer() { call Mid(); n += 1; }`
 
 abbrev nested : Parts
-nested = mission [] (plain (delay 7 ∷ []) ∷ plain (Spawn 0 [] ∷ []) ∷ plain (Call 1 [] None ∷ add (number 1) ∷ []) ∷ []) []
+nested = small_model [] (plain (delay 7 ∷ []) ∷ plain (Spawn 0 [] ∷ []) ∷ plain (Call 1 [] None ∷ add (number 1) ∷ []) ∷ []) []
 
 abbrev outer : Run
 outer = ran nested (plan_of 100 (directive 1 3 2 [] ∷ []))
@@ -78,7 +78,7 @@ the_caller_goes_on_then = refl
 -- ---- `daemon { while true { delay 40us; n += 1; } }`
 
 abbrev ticking : Parts
-ticking = mission [] [] (record { slots = 0; body = While (Literal (value.Truth true)) (delay 40 ∷ add (number 1) ∷ []) ∷ [] } ∷ [])
+ticking = small_model [] [] (record { slots = 0; body = While (Literal (value.Truth true)) (delay 40 ∷ add (number 1) ∷ []) ∷ [] } ∷ [])
 
 abbrev ticks : Run
 ticks = ran ticking (plan_of 100 [])
@@ -94,7 +94,7 @@ a_daemon_has_no_span = refl
 -- ---- `Spin() { while true { delay 0us; } }` with a bound of 1,000: each batch costs 2
 
 abbrev spinning : Parts
-spinning = mission [] (plain (While (Literal (value.Truth true)) (delay 0 ∷ []) ∷ []) ∷ []) []
+spinning = small_model [] (plain (While (Literal (value.Truth true)) (delay 0 ∷ []) ∷ []) ∷ []) []
 
 abbrev spin_plan : Plan
 spin_plan = plan_of 100 (directive 1 5 0 [] ∷ [])
@@ -118,8 +118,8 @@ pub it_reaches_that_instant : spin.reach ≡ 5
 unfolding left lefts size evaluated out-Stmt out shown hidden shown-the_row-Stmt-0 hidden-the_row-Stmt-0 shape-the_row-Stmt-0 hidden-the_row-Expr-0 shape-the_row-Expr-0 hidden-the_row-Part-0 shape-the_row-Part-0
 it_reaches_that_instant = refl
 
--- one turn judges the waiting tasks at time 0 and moves to 5; after 500 more the costs are 1,000
-pub after_five_hundred_batches : batches_in (after_turns spinning spin_plan 1_000 501) ≡ 500
+-- one transition judges the waiting tasks at time 0 and moves to 5; after 500 more the costs are 1,000
+pub after_five_hundred_batches : batches_in (after_transitions spinning spin_plan 1_000 501) ≡ 500
 unfolding left lefts size evaluated out-Stmt out shown hidden shown-the_row-Stmt-0 hidden-the_row-Stmt-0 shape-the_row-Stmt-0 hidden-the_row-Expr-0 shape-the_row-Expr-0 hidden-the_row-Part-0 shape-the_row-Part-0
 after_five_hundred_batches = refl
 
@@ -129,7 +129,7 @@ abbrev dividing : Activity
 dividing = activity (by_int ∷ []) 1 (add (Binary operator.Divide (number 10) (local 0)) ∷ [])
 
 abbrev divisions : Parts
-divisions = mission [] (dividing ∷ plain (While (Literal (value.Truth true)) (add (number 1) ∷ []) ∷ []) ∷ []) []
+divisions = small_model [] (dividing ∷ plain (While (Literal (value.Truth true)) (add (number 1) ∷ []) ∷ []) ∷ []) []
 
 abbrev divided : Run
 divided = ran divisions (plan_of 100 (directive 1 5 0 (ints (2 ∷ [])) ∷ directive 2 5 0 (ints (0 ∷ [])) ∷ directive 3 5 0 (ints (0 ∷ [])) ∷ []))
@@ -154,7 +154,7 @@ the_limit_before_the_fault = refl
 -- ---- `accumulator v = 0 rate 1000000000000` over 3 seconds: it leaves its range after one second
 
 abbrev flowing : Parts
-flowing = mission ((codes "v", cell.Accumulator (pos 0) (pos 1_000_000_000_000)) ∷ []) (bump ∷ []) []
+flowing = small_model ((codes "v", cell.Accumulator (pos 0) (pos 1_000_000_000_000)) ∷ []) (bump ∷ []) []
 
 abbrev overflow : Run
 overflow = ran flowing (plan_of 3_000_000 (directive 1 500_000 0 (ints (1 ∷ [])) ∷ directive 2 2_000_000 0 (ints (1 ∷ [])) ∷ []))

@@ -21,7 +21,7 @@ use Rattle.aerie_base.specs.conditions.Holding.{holds}
 use Rattle.run_data.specs.declared.runs.Outcome.TheVariants.{Completed}
 use Rattle.run_data.specs.declared.runs.Run.{Run}
 use Rattle.run_data.specs.Spans.{spans_of}
-use Rattle.run_data.specs.cases.Missions.{number, add, plain, mission, directive, plan_of, ran, values_of, ints, span, unfinished}
+use Rattle.run_data.specs.cases.SmallModels.{number, add, plain, small_model, directive, plan_of, ran, values_of, ints, span, unfinished}
 
 -- `read >= least`
 abbrev at_least : CellRead → ℕ → Cond
@@ -32,7 +32,7 @@ at_least of least = Compare
 -- ---- `accumulator v = 0 rate 3;` and `W() { wait until v.volume >= 10; n += 1; }`
 
 abbrev filling : Parts
-filling = mission ((codes "v", cell.Accumulator (pos 0) (pos 3)) ∷ [])
+filling = small_model ((codes "v", cell.Accumulator (pos 0) (pos 3)) ∷ [])
     (plain (WaitUntil (at_least (read.Volume 1) 10) ∷ add (number 1) ∷ []) ∷ []) []
 
 abbrev waited : Run
@@ -70,7 +70,7 @@ it_reaches_four = refl
 -- ---- `Q() { wait until n >= 0; n += 1; }`
 
 abbrev ready_at_once : Parts
-ready_at_once = mission [] (plain (WaitUntil (at_least (read.Counter 0) 0) ∷ add (number 1) ∷ []) ∷ []) []
+ready_at_once = small_model [] (plain (WaitUntil (at_least (read.Counter 0) 0) ∷ add (number 1) ∷ []) ∷ []) []
 
 abbrev at_once : Run
 at_once = ran ready_at_once (plan_of 100 (directive 1 0 0 [] ∷ []))

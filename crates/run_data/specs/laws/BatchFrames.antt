@@ -1,5 +1,5 @@
 -- The frames of a committed batch of a reached state: each is of a ready task or of a new child of another of them.
-use Rattle.std.specs.Prelude.{◌≡◌, ◌⊎◌, ℕ, ◌+◌, ◌<◌, ◌≤◌, IsTrue, List, [], ◌∷◌, Some, None}
+use Rattle.std.specs.Prelude.{◌≡◌, ◌⊎◌, ℕ, ◌+◌, ◌-◌, ◌<◌, ◌≤◌, IsTrue, List, [], ◌∷◌, Option, Some, None}
 use Rattle.aerie_base.specs.declared.models.model.Parts.{Parts}
 use Rattle.aerie_base.specs.declared.plans.Plan.{Plan}
 use Rattle.aerie_base.specs.models.ValidModel.{valid_model}
@@ -7,6 +7,8 @@ use Rattle.aerie_base.specs.Paths.{child_path}
 use Rattle.aerie_base.specs.plans.OfModel.{IsPlanOf}
 use Rattle.effect_cells.specs.declared.effects.CellState.{CellState}
 use Rattle.run_data.specs.declared.frames.Frame.{Frame}
+use Rattle.run_data.specs.declared.frames.Status.TheVariants.{Calling}
+use Rattle.run_data.specs.declared.tasks.TaskState.{TaskState}
 use Rattle.run_data.specs.Batches.{committed, batch}
 use Rattle.run_data.specs.Fresh.{SimulationState, IsReached}
 use Rattle.run_data.specs.Tasks.{ready, Task, Table, task_at, children_made, children_in, ready_jobs}
@@ -50,6 +52,9 @@ pub record AreFramesOf (table : Table) (frames : List Frame) : Type 0 where
   pub differ : Differ frames
   pub origin : EachOf (λ frame. OfReady table frame ⊎ OfChild table frames frame) frames
   pub few : EachOf (λ frame. children_in frame.items ≤ frame.cost) frames
+  -- the child that one of them calls has a frame too
+  pub calls : (frame : Frame) → Among frame frames → (into : Option ℕ) (next : TaskState) → frame.status ≡ Calling into next →
+      HasPath (child_path frame.path (children_made (task_at table frame.path) + children_in frame.items - 1)) frames
 
 abbrev pub BatchFrames : Type 0
 BatchFrames =

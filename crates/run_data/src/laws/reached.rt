@@ -24,7 +24,7 @@ pub fn reached_states_are_quiet()
     ensures { ReachedIsQuiet }
 {}
 
-/// A weight falls with each turn of a simulation: open tasks, the bound that is left, and the time that is left.
+/// A weight falls with each transition of a simulation: open tasks, the bound that is left, and the time that is left.
 pub fn weight_falls()
     ensures falls { WeightFalls }
     ensures begins { WeightBegins }

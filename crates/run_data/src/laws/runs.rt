@@ -1,14 +1,14 @@
 //! Laws about runs.
 
-ghost use Rattle.run_data.specs.laws.Ending.{FreshRunByTurns, HasFreshRun, TurnsFinish};
+ghost use Rattle.run_data.specs.laws.Ending.{FreshRunByTransitions, HasFreshRun, TransitionsFinish};
 ghost use Rattle.run_data.specs.laws.FreshRuns.{BatchesAreReached, CellsAreInRange, CellsOfValidAreInRange, FramesOfRunsAreValid, FreshRunIsOfPlan};
-ghost use Rattle.run_data.specs.laws.Turns.{OneFreshRun, TurnsStand};
+ghost use Rattle.run_data.specs.laws.Transitions.{OneFreshRun, TransitionsStand};
 ghost use Rattle.run_data.specs.laws.Replay.{CellsAreReplayed};
 ghost use Rattle.run_data.specs.laws.Rising.{InstantsAreBeforeEnd, InstantsRise};
 
-/// What so many turns of the simulation give is where it stands at some time.
-pub fn turns_stand()
-    ensures { TurnsStand }
+/// What so many transitions of the simulation give is where it stands at some time.
+pub fn transitions_stand()
+    ensures { TransitionsStand }
 {}
 
 /// A plan has one fresh run.
@@ -32,11 +32,11 @@ pub fn instants_rise()
     ensures before { InstantsAreBeforeEnd }
 {}
 
-/// Every plan has a fresh run: after so many turns the simulation has ended.
+/// Every plan has a fresh run: after so many transitions the simulation has ended.
 pub fn simulation_ends()
-    ensures turns { TurnsFinish }
+    ensures transitions { TransitionsFinish }
     ensures run { HasFreshRun }
-    ensures same { FreshRunByTurns }
+    ensures same { FreshRunByTransitions }
 {}
 
 /// The cells that are read off the instants of a run are those that its simulation had.

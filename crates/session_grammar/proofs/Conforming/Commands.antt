@@ -4,18 +4,19 @@ use Rattle.std.proofs.Common.{ℕ, List, refl}
 use Rattle.aerie_text.specs.declared.sorts.Sort.{Sort}
 use Rattle.aerie_text.specs.declared.sorts.Sort.TheVariants as sort
 use Rattle.readers.specs.Marks.{Mark}
-use Rattle.readers.specs.Parsed.{is_of, is_one_of}
+use Rattle.readers.specs.Parsed.{is_of, is_one_of, parsed}
 use Rattle.readers.specs.grammar.Forms.{both, either, many, rule, token}
 use Rattle.readers.proofs.Conforming.{and_then, then_value, value, either_conforms, rule_conforms, Begins, begins_both, begins_either, begins_rule}
 use Rattle.readers.proofs.Listing.{row_conforms}
 use Rattle.readers.specs.Verdicts.{Judges}
-use Rattle.readers.proofs.Grammars.Alike.{alike_turned}
+use Rattle.readers.proofs.Grammars.Alike.{alike_swapped}
 use Rattle.readers.proofs.Judged.{alike_judged, conforms_judged}
+use Rattle.session_grammar.specs.declared.raw.clients.RawCommand.{RawCommand}
 use Rattle.session_grammar.specs.grammar.Factored.{look, factored, named_form, fork_form, merge_form, add_form, remove_form, directive_move_form, move_form, set_form, load_form, branches_form, edit_form, view_form}
 use Rattle.session_grammar.specs.grammar.Rules.{command_rule, client_rule}
 use Rattle.session_grammar.specs.grammar.Terminals.{plain}
 use Rattle.session_grammar.specs.grammar.Written.{written, ended_command_form}
-use Rattle.session_grammar.specs.reading.Commands.{most_commands, named_at, new_at, drop_at, show_at, simulate_at, schedule_at, expand_at, fork_at, merge_at, add_at, remove_at, migrate_at, directive_move_at, moved_at, move_at, set_at, load_at, branch_words, branches_at, edit_words, edit_at, view_at, command_at, ended_command_at, command_words, commands_at, client_at}
+use Rattle.session_grammar.specs.reading.Commands.{most_commands, named_at, of_branch_at, fork_at, merge_at, add_at, remove_at, migrate_at, directive_move_at, moved_at, move_at, set_at, load_at, branch_words, branches_at, edit_words, edit_at, view_at, command_at, ended_command_at, command_words, commands_at, client_at}
 use Rattle.session_grammar.proofs.Conforming.Directives.{Along, IsPlain, taken, begins_with, id_law, when_law, given_law, argument_law}
 use Rattle.session_grammar.proofs.Conforming.Terminals.{in_terminals}
 use Rattle.session_grammar.proofs.Grammar.Alike.{alike_from}
@@ -28,29 +29,9 @@ named_law s is marks = and_then _ (taken s _ is) (λ word rest. then_value _ (ta
 named_begins : (s : Sort) → IsPlain s → Begins look (is_of s) (both (token (plain s)) (token (plain sort.Name)))
 named_begins s is = begins_both (begins_with s is) refl
 
-new_law : (marks : List Mark) → Along (named_form sort.New) marks (new_at marks)
-unfolding new_at
-new_law marks = then_value _ (named_law sort.New (refl, refl) marks) (λ branch rest. value)
-
-drop_law : (marks : List Mark) → Along (named_form sort.Drop) marks (drop_at marks)
-unfolding drop_at
-drop_law marks = then_value _ (named_law sort.Drop (refl, refl) marks) (λ branch rest. value)
-
-show_law : (marks : List Mark) → Along (named_form sort.Show) marks (show_at marks)
-unfolding show_at
-show_law marks = then_value _ (named_law sort.Show (refl, refl) marks) (λ branch rest. value)
-
-simulate_law : (marks : List Mark) → Along (named_form sort.Simulate) marks (simulate_at marks)
-unfolding simulate_at
-simulate_law marks = then_value _ (named_law sort.Simulate (refl, refl) marks) (λ branch rest. value)
-
-schedule_law : (marks : List Mark) → Along (named_form sort.Schedule) marks (schedule_at marks)
-unfolding schedule_at
-schedule_law marks = then_value _ (named_law sort.Schedule (refl, refl) marks) (λ branch rest. value)
-
-expand_law : (marks : List Mark) → Along (named_form sort.Expand) marks (expand_at marks)
-unfolding expand_at
-expand_law marks = then_value _ (named_law sort.Expand (refl, refl) marks) (λ branch rest. value)
+of_branch_law : (s : Sort) → IsPlain s → (command_of : List ℕ → RawCommand) (marks : List Mark) → Along (both (token (plain s)) (token (plain sort.Name))) marks (of_branch_at s command_of marks)
+unfolding of_branch_at
+of_branch_law s is command_of marks = then_value (λ branch. parsed (command_of branch.0) branch.1) (named_law s is marks) (λ branch rest. value)
 
 fork_law : (marks : List Mark) → Along fork_form marks (fork_at marks)
 unfolding fork_at
@@ -95,9 +76,9 @@ load_law marks = and_then _ (named_law sort.Load (refl, refl) marks) (λ branch 
 branches_law : (marks : List Mark) → Along branches_form marks (branches_at marks)
 unfolding branches_at
 branches_law marks =
-    either_conforms _ _ (named_begins sort.New (refl, refl)) refl (λ next. new_law marks)
+    either_conforms _ _ (named_begins sort.New (refl, refl)) refl (λ next. of_branch_law sort.New (refl, refl) _ marks)
     (λ next. either_conforms _ _ (begins_both (named_begins sort.Fork (refl, refl)) refl) refl (λ next. fork_law marks)
-    (λ next. either_conforms _ _ (named_begins sort.Drop (refl, refl)) refl (λ next. drop_law marks)
+    (λ next. either_conforms _ _ (named_begins sort.Drop (refl, refl)) refl (λ next. of_branch_law sort.Drop (refl, refl) _ marks)
     (λ next. merge_law marks)))
 
 edit_law : (marks : List Mark) → Along edit_form marks (edit_at marks)
@@ -112,10 +93,10 @@ edit_law marks =
 view_law : (marks : List Mark) → Along view_form marks (view_at marks)
 unfolding view_at
 view_law marks =
-    either_conforms _ _ (named_begins sort.Show (refl, refl)) refl (λ next. show_law marks)
-    (λ next. either_conforms _ _ (named_begins sort.Simulate (refl, refl)) refl (λ next. simulate_law marks)
-    (λ next. either_conforms _ _ (named_begins sort.Schedule (refl, refl)) refl (λ next. schedule_law marks)
-    (λ next. expand_law marks)))
+    either_conforms _ _ (named_begins sort.Show (refl, refl)) refl (λ next. of_branch_law sort.Show (refl, refl) _ marks)
+    (λ next. either_conforms _ _ (named_begins sort.Simulate (refl, refl)) refl (λ next. of_branch_law sort.Simulate (refl, refl) _ marks)
+    (λ next. either_conforms _ _ (named_begins sort.Schedule (refl, refl)) refl (λ next. of_branch_law sort.Schedule (refl, refl) _ marks)
+    (λ next. of_branch_law sort.Expand (refl, refl) _ marks)))
 
 words_begin : Begins look (is_one_of branch_words) branches_form
 words_begin =
@@ -153,5 +134,5 @@ client_law marks =
 -- what is read of a client tells of the readings of the grammar as it is written
 pub client_judged : (marks : List Mark) → Judges written client_rule marks (client_at marks)
 client_judged marks =
-    alike_judged factored client_rule written client_rule (alike_turned written client_rule factored client_rule (alike_from client_rule refl)) marks _
+    alike_judged factored client_rule written client_rule (alike_swapped written client_rule factored client_rule (alike_from client_rule refl)) marks _
     (conforms_judged look predictive client_rule marks _ (client_law marks))

@@ -5,6 +5,7 @@ use Rattle.aerie_text.specs.Sorts.{number_of}
 use Rattle.aerie_text.specs.declared.sorts.Sort.{Sort}
 use Rattle.aerie_text.specs.declared.sorts.Sort.TheVariants as sort
 use Rattle.model_reader.specs.grammar.Rules.{literal_rule}
+use Rattle.model_reader.specs.reading.Literals.{amount_at, begins_amount}
 use Rattle.readers.specs.Conforms.{Conforms}
 use Rattle.readers.specs.Marks.{Mark}
 use Rattle.readers.specs.Parsed.{Parsed, is_of, is_one_of, mark_at}
@@ -19,7 +20,7 @@ use Rattle.session_grammar.specs.grammar.Factored.{look, edge_form, anchored_for
 use Rattle.session_grammar.specs.grammar.Rules.{Rule, when_rule, given_rule, of_model}
 use Rattle.session_grammar.specs.grammar.Terminals.{Terminal, fits, id_limit, plain, id_number, great_number, no_time, some_time}
 use Rattle.session_grammar.specs.grammar.Written.{id_form, duration_form, argument_form}
-use Rattle.session_grammar.specs.reading.Directives.{id_at, duration_at, edge_word_at, edge_at, anchored_at, unanchored_at, when_at, amount_at, signed_amount_at, truth_at, variant_at, begins_amount, value_at, argument_at, given_at}
+use Rattle.session_grammar.specs.reading.Directives.{id_at, duration_at, edge_word_at, edge_at, anchored_at, unanchored_at, when_at, signed_amount_at, truth_at, variant_at, value_at, argument_at, given_at}
 
 abbrev pub Along : {A : Type 0} → Form Rule Terminal → List Mark → Parsed A → Type 0
 Along form marks reading = Conforms look form marks reading

@@ -12,7 +12,7 @@ use Rattle.readers.specs.grammar.Alike.{AreAlike}
 use Rattle.readers.specs.grammar.Forms.{many, rule}
 use Rattle.readers.specs.grammar.Lookahead.{stops}
 use Rattle.readers.proofs.Conforming.{and_then, then_value, value, Begins, begins_here, begins_rule, repeated_conforms, rule_conforms}
-use Rattle.readers.proofs.Grammars.Alike.{alike_tells, alike_turned}
+use Rattle.readers.proofs.Grammars.Alike.{alike_tells, alike_swapped}
 use Rattle.readers.proofs.Grammars.Verdicts.{all_read, more_left}
 use Rattle.readers.proofs.Judged.{alike_judged, conforms_judged}
 use Rattle.readers.proofs.Listing.{one_more_conforms, row_conforms}
@@ -60,7 +60,7 @@ module _ (model_law : (marks : List Mark) → Along (rule (of_model model_rule))
   -- ---- the whole text
 
   same : AreAlike factored session_rule written session_rule
-  same = alike_turned written session_rule factored session_rule alike
+  same = alike_swapped written session_rule factored session_rule alike
 
   of_read : (marks : List Mark) (reading : Parsed RawSession) → GoesAlong look (rule session_rule) marks reading → Judges written session_rule marks reading
   of_read marks reading goes = alike_judged factored session_rule written session_rule same marks reading (conforms_judged look predictive session_rule marks reading (record { goes = goes }))

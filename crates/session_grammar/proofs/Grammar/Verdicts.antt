@@ -3,7 +3,7 @@ use Rattle.std.specs.Prelude.{[], ◌∷◌}
 use Rattle.readers.specs.grammar.Forms.{rule}
 use Rattle.readers.specs.grammar.Lookahead.{answer}
 use Rattle.readers.specs.grammar.Tells.{AnswersAreRight}
-use Rattle.readers.proofs.Grammars.Alike.{alike_turned, alike_tells}
+use Rattle.readers.proofs.Grammars.Alike.{alike_swapped, alike_tells}
 use Rattle.readers.proofs.Grammars.Verdicts.{tells}
 use Rattle.session_grammar.proofs.Grammar.Alike.{alike}
 use Rattle.session_grammar.proofs.Grammar.Predictive.{predictive}
@@ -13,5 +13,5 @@ use Rattle.session_grammar.specs.grammar.Written.{written}
 
 pub answers_are_right : AnswersAreRight look session_rule written session_rule
 answers_are_right marks =
-    alike_tells factored session_rule written session_rule (alike_turned written session_rule factored session_rule alike) marks
+    alike_tells factored session_rule written session_rule (alike_swapped written session_rule factored session_rule alike) marks
     (answer look (rule session_rule ∷ []) marks) (tells look predictive session_rule marks)

@@ -11,7 +11,7 @@ use Rattle.model_reader.proofs.Limited.Lists.{all_behind, AreListed, optional_li
 use Rattle.model_reader.proofs.Limited.Literals.{same_size}
 use Rattle.model_reader.specs.Limits.{CountNumbers}
 use Rattle.model_reader.specs.declared.raw.names.RawName.{RawName}
-use Rattle.model_reader.specs.reading.Literals.{with_minus}
+use Rattle.model_reader.specs.reading.Literals.{amount_at, begins_amount, with_minus}
 use Rattle.readers.specs.Conforms.{GoesAlong}
 use Rattle.readers.specs.Lists.{pushed_at}
 use Rattle.readers.specs.Marks.{Mark}
@@ -29,7 +29,7 @@ use Rattle.session_grammar.specs.grammar.Factored.{look}
 use Rattle.session_grammar.specs.grammar.Rules.{Rule}
 use Rattle.session_grammar.specs.grammar.Terminals.{Terminal}
 use Rattle.session_grammar.specs.reading.Commands.{command_words, most_commands, commands_at, client_at}
-use Rattle.session_grammar.specs.reading.Directives.{amount_at, begins_amount, duration_at, length_of_time}
+use Rattle.session_grammar.specs.reading.Directives.{duration_at, length_of_time}
 use Rattle.session_grammar.specs.reading.Mappings.{fed_amount_at, fed_truth_at, fed_variant_at, fed_behind_name_at, fed_name_at, fed_value_at, feed_at, feeds_at, type_rule_at, mapping_at, most_mappings, mappings_at}
 use Rattle.session_grammar.specs.reading.Plans.{some_time_at, plan_duration_at, plan_at, most_datasets, datasets_at}
 use Rattle.session_grammar.specs.reading.Sections.{section_at, sections_with}

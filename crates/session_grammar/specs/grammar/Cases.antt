@@ -1,25 +1,16 @@
 -- Small sessions, read by the factored grammar, by computation.
-use Rattle.std.specs.Prelude.{◌≡◌, ℕ, List, [], ◌∷◌, ◌++◌, Result, Ok, Err, codes, drop, refl}
+use Rattle.std.specs.Prelude.{◌≡◌, ℕ, List, [], ◌∷◌, ◌++◌, codes, drop, refl}
 use Rattle.std.specs.Str.{chars}
-use Rattle.aerie_text.specs.declared.token.Token.{Token}
 use Rattle.aerie_text.specs.Numerals.{digits_at}
 use Rattle.aerie_text.specs.Sorts.{word_sort, symbol_sort}
 use Rattle.aerie_text.specs.Symbols.{symbol_len}
 use Rattle.aerie_text.specs.TokenAt.{token_at}
 use Rattle.aerie_text.specs.Tokens.{tokens_of, tokens_from}
-use Rattle.readers.specs.Marks.{Mark, marks_of}
+use Rattle.readers.specs.Marks.{Mark, marks_in}
 use Rattle.readers.specs.grammar.Forms.{rule}
 use Rattle.readers.specs.grammar.Lookahead.{Answer, answer, whole, stops}
 use Rattle.session_grammar.specs.grammar.Factored.{look}
 use Rattle.session_grammar.specs.grammar.Rules.{session_rule}
-
--- the marks of a text, where it is cut into tokens
-abbrev pub marks_where : List ℕ → Result (List Token) ℕ → List Mark
-marks_where text (Ok tokens) = marks_of text tokens
-marks_where text (Err at) = []
-
-abbrev pub marks_in : List ℕ → List Mark
-marks_in text = marks_where text (tokens_of text)
 
 -- what a reader answers over the text of a session
 abbrev pub verdict : List ℕ → Answer Mark

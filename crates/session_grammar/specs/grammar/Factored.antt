@@ -14,7 +14,7 @@ use Rattle.readers.specs.grammar.Tables.{Tables, look_by_number}
 use Rattle.session_grammar.specs.grammar.Embedding.{in_session, of_sort, terminals_of_all}
 use Rattle.session_grammar.specs.grammar.Rules.{Rule, session_rule, rules_rule, mapping_rule, feed_rule, plan_rule, when_rule, given_rule, client_rule, command_rule, of_model}
 use Rattle.session_grammar.specs.grammar.Terminals.{Terminal, class_of, number_of_terminal, plain, some_time}
-use Rattle.session_grammar.specs.grammar.Written.{rules_form, rule_terminals, mapped_type_form, dataset_form, section_form, directive_form, argument_form, given_form, client_form, id_form, duration_form}
+use Rattle.session_grammar.specs.grammar.Written.{rule_terminals, mapped_type_form, dataset_form, section_form, directive_form, argument_form, id_form, duration_form, form_of as written_form}
 
 -- WORD NAME, for a word or a symbol
 abbrev pub named_form : Sort → Form Rule Terminal
@@ -144,17 +144,16 @@ command_form = branches_form or edit_form or view_form
 
 -- ---- the grammar
 
+-- the form of a rule: that of the grammar as it is written where the next token decides there too
 abbrev pub form_of : Rule → Form Rule Terminal
 form_of session_rule = session_form
-form_of rules_rule = rules_form
 form_of mapping_rule = mapping_form
 form_of feed_rule = feed_form
 form_of plan_rule = plan_form
 form_of when_rule = when_form
-form_of given_rule = given_form
-form_of client_rule = client_form
 form_of command_rule = command_form
 form_of (of_model r) = in_session (model_form_of r)
+form_of r = written_form r
 
 -- ---- with which terminals a rule begins
 

@@ -23,41 +23,11 @@ named_at sort marks = do
   name ← name_at word.1
   parsed name.0.1 name.1
 
--- "new" NAME
-unfoldable pub new_at : List Mark → Parsed RawCommand
-new_at marks = do
-  branch ← named_at sort.New marks
-  parsed (command.New branch.0) branch.1
-
--- "drop" NAME
-unfoldable pub drop_at : List Mark → Parsed RawCommand
-drop_at marks = do
-  branch ← named_at sort.Drop marks
-  parsed (command.Drop branch.0) branch.1
-
--- "show" NAME
-unfoldable pub show_at : List Mark → Parsed RawCommand
-show_at marks = do
-  branch ← named_at sort.Show marks
-  parsed (command.Show branch.0) branch.1
-
--- "simulate" NAME
-unfoldable pub simulate_at : List Mark → Parsed RawCommand
-simulate_at marks = do
-  branch ← named_at sort.Simulate marks
-  parsed (command.Simulate branch.0) branch.1
-
--- "schedule" NAME
-unfoldable pub schedule_at : List Mark → Parsed RawCommand
-schedule_at marks = do
-  branch ← named_at sort.Schedule marks
-  parsed (command.Schedule branch.0) branch.1
-
--- "expand" NAME
-unfoldable pub expand_at : List Mark → Parsed RawCommand
-expand_at marks = do
-  branch ← named_at sort.Expand marks
-  parsed (command.Expand branch.0) branch.1
+-- WORD NAME: a command that names a branch alone
+unfoldable pub of_branch_at : Sort → (List ℕ → RawCommand) → List Mark → Parsed RawCommand
+of_branch_at sort command_of marks = do
+  branch ← named_at sort marks
+  parsed (command_of branch.0) branch.1
 
 -- "fork" NAME "from" NAME
 unfoldable pub fork_at : List Mark → Parsed RawCommand
@@ -136,9 +106,9 @@ branch_words = sort.New ∷ sort.Fork ∷ sort.Drop ∷ sort.Merge ∷ []
 -- such a command
 unfoldable pub branches_at : List Mark → Parsed RawCommand
 branches_at marks =
-    chosen (next_is sort.New marks) new_at
+    chosen (next_is sort.New marks) (of_branch_at sort.New command.New)
     (chosen (next_is sort.Fork marks) fork_at
-    (chosen (next_is sort.Drop marks) drop_at merge_at)) marks
+    (chosen (next_is sort.Drop marks) (of_branch_at sort.Drop command.Drop) merge_at)) marks
 
 -- the words of commands that edit a branch
 abbrev pub edit_words : List Sort
@@ -159,9 +129,9 @@ view_words = sort.Show ∷ sort.Simulate ∷ sort.Schedule ∷ sort.Expand ∷ [
 -- such a command
 unfoldable pub view_at : List Mark → Parsed RawCommand
 view_at marks =
-    chosen (next_is sort.Show marks) show_at
-    (chosen (next_is sort.Simulate marks) simulate_at
-    (chosen (next_is sort.Schedule marks) schedule_at expand_at)) marks
+    chosen (next_is sort.Show marks) (of_branch_at sort.Show command.Show)
+    (chosen (next_is sort.Simulate marks) (of_branch_at sort.Simulate command.Simulate)
+    (chosen (next_is sort.Schedule marks) (of_branch_at sort.Schedule command.Schedule) (of_branch_at sort.Expand command.Expand))) marks
 
 -- command is one of these
 unfoldable pub command_at : List Mark → Parsed RawCommand

@@ -10,6 +10,7 @@ use Rattle.aerie_base.specs.declared.plans.Edge.TheVariants as edge
 use Rattle.aerie_base.specs.declared.plans.When.{When}
 use Rattle.aerie_text.specs.declared.sorts.Sort.{Sort}
 use Rattle.aerie_text.specs.declared.sorts.Sort.TheVariants as sort
+use Rattle.model_reader.specs.reading.Literals.{amount_at, begins_amount}
 use Rattle.readers.specs.Lists.{parenthesized_at}
 use Rattle.readers.specs.Marks.{Mark}
 use Rattle.readers.specs.Parsed.{Parsed, parsed, ◌>>=◌, is_one_of, next_fits, next_is, next_is_one_of, chosen, take_at, has_at, number_at, name_at}
@@ -67,10 +68,6 @@ when_at marks = chosen (next_is_one_of (sort.Start ∷ sort.End ∷ []) marks) a
 
 -- ---- what a directive gives
 
--- NUMBER | DURATION, which is the number of its microseconds
-unfoldable pub amount_at : List Mark → Parsed (Place × ℤ)
-amount_at marks = chosen (next_is sort.Number marks) (number_at sort.Number) (number_at sort.Time) marks
-
 -- a number with its sign
 abbrev pub with_sign : Bool → ℤ → ℤ
 with_sign true number = neg_ℤ number
@@ -100,10 +97,6 @@ variant_at marks = do
   dot ← take_at sort.Dot kind.1
   variant ← name_at dot.1
   parsed (value.Word (variant_word kind.0.1 variant.0.1)) variant.1
-
--- the mark begins a number or a length of time, or is the sign of one
-abbrev pub begins_amount : Mark → Bool
-begins_amount = is_one_of (sort.Minus ∷ sort.Number ∷ sort.Time ∷ [])
 
 -- literal = [ "-" ] ( NUMBER | DURATION ) | "true" | "false" | NAME "." NAME
 unfoldable pub value_at : List Mark → Parsed RawValue

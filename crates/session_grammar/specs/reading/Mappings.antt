@@ -4,7 +4,7 @@ use Rattle.aerie_text.specs.declared.sorts.Sort.{Sort}
 use Rattle.aerie_text.specs.declared.sorts.Sort.TheVariants as sort
 use Rattle.model_reader.specs.declared.raw.literals.RawLiteralKind.TheVariants as kind
 use Rattle.model_reader.specs.declared.raw.names.RawName.{RawName}
-use Rattle.model_reader.specs.reading.Literals.{sign_at, with_minus}
+use Rattle.model_reader.specs.reading.Literals.{amount_at, begins_amount, sign_at, with_minus}
 use Rattle.model_reader.specs.reading.Names.{raw_name_at}
 use Rattle.readers.specs.Lists.{optional_list_at, row_at}
 use Rattle.readers.specs.Marks.{Mark}
@@ -16,7 +16,6 @@ use Rattle.session_grammar.specs.declared.raw.mappings.RawFeedValue.{RawFeedValu
 use Rattle.session_grammar.specs.declared.raw.mappings.RawFeedValue.TheVariants as fed
 use Rattle.session_grammar.specs.declared.raw.mappings.RawMapping.{RawMapping}
 use Rattle.session_grammar.specs.declared.raw.mappings.RawTypeRule.{RawTypeRule}
-use Rattle.session_grammar.specs.reading.Directives.{amount_at, begins_amount}
 
 -- the most mappings of a session
 abbrev pub mapping_limit : ℕ

@@ -10,13 +10,12 @@ use Rattle.aerie_text.specs.Tokens.{tokens_of, tokens_from}
 use Rattle.aerie_text.specs.declared.sorts.Sort.TheVariants as sort
 use Rattle.model_reader.specs.declared.raw.literals.RawLiteralKind.TheVariants as kind
 use Rattle.model_reader.specs.declared.raw.names.RawName.{RawName}
-use Rattle.model_reader.specs.reading.Literals.{minus_at, sign_at}
+use Rattle.model_reader.specs.reading.Literals.{amount_at, minus_at, sign_at}
 use Rattle.model_reader.specs.reading.Names.{raw_name_at}
-use Rattle.readers.specs.Marks.{Mark}
+use Rattle.readers.specs.Marks.{Mark, marks_in}
 use Rattle.readers.specs.Parsed.{Parsed, parsed, failed, over_limit}
 use Rattle.session_grammar.specs.declared.raw.mappings.RawFeedValue.TheVariants as fed
-use Rattle.session_grammar.specs.grammar.Cases.{marks_in}
-use Rattle.session_grammar.specs.reading.Directives.{amount_at, duration_at}
+use Rattle.session_grammar.specs.reading.Directives.{duration_at}
 use Rattle.session_grammar.specs.reading.Mappings.{raw_named_at, fed_amount_at, fed_truth_at, fed_variant_at, fed_behind_name_at, fed_name_at, fed_value_at, feed_at, feeds_at}
 use Rattle.session_grammar.specs.reading.Plans.{some_time_at}
 use Rattle.session_grammar.specs.reading.Sections.{rules_at, some_model_at, of_model_at, section_at, sections_with}

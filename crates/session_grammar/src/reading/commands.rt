@@ -4,7 +4,7 @@ ghost use Rattle.readers.specs.Implements.{Consumes, MayConsume};
 ghost use Rattle.readers.specs.Verdicts.{IsVerdict};
 ghost use Rattle.session_grammar.specs.grammar.Rules.{client_rule};
 ghost use Rattle.session_grammar.specs.grammar.Written.{written};
-ghost use Rattle.session_grammar.specs.reading.Commands.{named_at, fork_at, merge_at, add_at, remove_at, migrate_at, directive_move_at, moved_at, move_at, set_at, load_at, new_at, drop_at, branches_at, edit_at, show_at, simulate_at, schedule_at, expand_at, view_at, command_at, ended_command_at, commands_at, client_at};
+ghost use Rattle.session_grammar.specs.reading.Commands.{named_at, fork_at, merge_at, add_at, remove_at, migrate_at, directive_move_at, moved_at, move_at, set_at, load_at, branches_at, edit_at, view_at, command_at, ended_command_at, commands_at, client_at};
 
 use crate::raw::{RawClient, RawCommand};
 use crate::reading::directives::{argument, given, id, when};
@@ -27,54 +27,6 @@ fn named(alloc: Global, reader: &mut Reader, sort: Sort) -> Result<Name, Refusal
     reader.take(sort)?;
     let (_at, name) = reader.name(alloc)?;
     Ok(name)
-}
-
-#[tactic(auto, unfolding(crate::specs::reading::Commands::new_at))]
-fn new_branch(alloc: Global, reader: &mut Reader) -> Result<RawCommand, Refusal>
-    ensures { Consumes new_at reader.old reader.new result }
-{
-    let branch = named(alloc, reader, Sort::New)?;
-    Ok(RawCommand::New { branch })
-}
-
-#[tactic(auto, unfolding(crate::specs::reading::Commands::drop_at))]
-fn drop_branch(alloc: Global, reader: &mut Reader) -> Result<RawCommand, Refusal>
-    ensures { Consumes drop_at reader.old reader.new result }
-{
-    let branch = named(alloc, reader, Sort::Drop)?;
-    Ok(RawCommand::Drop { branch })
-}
-
-#[tactic(auto, unfolding(crate::specs::reading::Commands::show_at))]
-fn show_branch(alloc: Global, reader: &mut Reader) -> Result<RawCommand, Refusal>
-    ensures { Consumes show_at reader.old reader.new result }
-{
-    let branch = named(alloc, reader, Sort::Show)?;
-    Ok(RawCommand::Show { branch })
-}
-
-#[tactic(auto, unfolding(crate::specs::reading::Commands::simulate_at))]
-fn simulate_branch(alloc: Global, reader: &mut Reader) -> Result<RawCommand, Refusal>
-    ensures { Consumes simulate_at reader.old reader.new result }
-{
-    let branch = named(alloc, reader, Sort::Simulate)?;
-    Ok(RawCommand::Simulate { branch })
-}
-
-#[tactic(auto, unfolding(crate::specs::reading::Commands::schedule_at))]
-fn schedule_branch(alloc: Global, reader: &mut Reader) -> Result<RawCommand, Refusal>
-    ensures { Consumes schedule_at reader.old reader.new result }
-{
-    let branch = named(alloc, reader, Sort::Schedule)?;
-    Ok(RawCommand::Schedule { branch })
-}
-
-#[tactic(auto, unfolding(crate::specs::reading::Commands::expand_at))]
-fn expand_branch(alloc: Global, reader: &mut Reader) -> Result<RawCommand, Refusal>
-    ensures { Consumes expand_at reader.old reader.new result }
-{
-    let branch = named(alloc, reader, Sort::Expand)?;
-    Ok(RawCommand::Expand { branch })
 }
 
 #[tactic(auto, unfolding(crate::specs::reading::Commands::fork_at))]
@@ -183,16 +135,18 @@ fn load(alloc: Global, reader: &mut Reader) -> Result<RawCommand, Refusal>
 }
 
 /// A command that opens branches, ends them or brings them together.
-#[tactic(auto, unfolding(crate::specs::reading::Commands::branches_at))]
+#[tactic(auto, unfolding(crate::specs::reading::Commands::branches_at, crate::specs::reading::Commands::of_branch_at))]
 fn branches(alloc: Global, reader: &mut Reader) -> Result<RawCommand, Refusal>
     ensures { Consumes branches_at reader.old reader.new result }
 {
     if reader.next_is(Sort::New) {
-        new_branch(alloc, reader)
+        let branch = named(alloc, reader, Sort::New)?;
+        Ok(RawCommand::New { branch })
     } else if reader.next_is(Sort::Fork) {
         fork(alloc, reader)
     } else if reader.next_is(Sort::Drop) {
-        drop_branch(alloc, reader)
+        let branch = named(alloc, reader, Sort::Drop)?;
+        Ok(RawCommand::Drop { branch })
     } else {
         merge(alloc, reader)
     }
@@ -217,18 +171,22 @@ fn edit(alloc: Global, reader: &mut Reader) -> Result<RawCommand, Refusal>
 }
 
 /// A command that shows a branch, or what comes of it.
-#[tactic(auto, unfolding(crate::specs::reading::Commands::view_at))]
+#[tactic(auto, unfolding(crate::specs::reading::Commands::view_at, crate::specs::reading::Commands::of_branch_at))]
 fn view(alloc: Global, reader: &mut Reader) -> Result<RawCommand, Refusal>
     ensures { Consumes view_at reader.old reader.new result }
 {
     if reader.next_is(Sort::Show) {
-        show_branch(alloc, reader)
+        let branch = named(alloc, reader, Sort::Show)?;
+        Ok(RawCommand::Show { branch })
     } else if reader.next_is(Sort::Simulate) {
-        simulate_branch(alloc, reader)
+        let branch = named(alloc, reader, Sort::Simulate)?;
+        Ok(RawCommand::Simulate { branch })
     } else if reader.next_is(Sort::Schedule) {
-        schedule_branch(alloc, reader)
+        let branch = named(alloc, reader, Sort::Schedule)?;
+        Ok(RawCommand::Schedule { branch })
     } else {
-        expand_branch(alloc, reader)
+        let branch = named(alloc, reader, Sort::Expand)?;
+        Ok(RawCommand::Expand { branch })
     }
 }
 

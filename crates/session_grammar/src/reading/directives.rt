@@ -1,15 +1,17 @@
 //! When directives start, and what they give.
 
 ghost use Rattle.std.specs.Prelude.{◌≡◌, IfOk};
+ghost use Rattle.model_reader.specs.reading.Literals.{begins_amount};
 ghost use Rattle.readers.specs.Implements.{Consumes};
 ghost use Rattle.readers.specs.Parsed.{next_fits};
-ghost use Rattle.session_grammar.specs.reading.Directives.{id_at, duration_at, edge_word_at, edge_at, anchored_at, unanchored_at, when_at, amount_at, with_sign, signed_amount_at, truth_at, variant_word, variant_at, begins_amount, length_of_time, value_at, argument_at, given_at};
+ghost use Rattle.session_grammar.specs.reading.Directives.{id_at, duration_at, edge_word_at, edge_at, anchored_at, unanchored_at, when_at, with_sign, signed_amount_at, truth_at, variant_word, variant_at, length_of_time, value_at, argument_at, given_at};
 
 use crate::raw::RawGiven;
 use aerie_base::{
-    Anchor, Edge, Name, Number, OutOfMemory, Place, RawArgument, RawValue, Text, Time, When,
+    Anchor, Edge, Name, Number, OutOfMemory, RawArgument, RawValue, Text, Time, When,
 };
 use aerie_text::Sort;
+use model_reader::{amount, negated};
 use readers::{Element, Reader, Refusal, parenthesized};
 use std::alloc::Global;
 
@@ -104,26 +106,11 @@ pub fn when(reader: &mut Reader) -> Result<When, Refusal>
     }
 }
 
-#[tactic(auto, unfolding(crate::specs::reading::Directives::amount_at))]
-pub fn amount(reader: &mut Reader) -> Result<(Place, Number), Refusal>
-    ensures { Consumes amount_at reader.old reader.new result }
-{
-    if reader.next_is(Sort::Number) {
-        reader.number(Sort::Number)
-    } else {
-        reader.number(Sort::Time)
-    }
-}
-
 /// A number with its sign.
-pub fn with_sign(minus: bool, number: Number) -> Number
+fn with_sign(minus: bool, number: Number) -> Number
     ensures { result ≡ with_sign minus number }
 {
-    if minus {
-        Number::new(-number.get()).unwrap()
-    } else {
-        number
-    }
+    if minus { negated(number) } else { number }
 }
 
 #[tactic(auto, unfolding(crate::specs::reading::Directives::signed_amount_at))]

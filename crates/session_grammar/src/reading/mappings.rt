@@ -1,16 +1,15 @@
 //! Mappings: how plans of one model become plans of another.
 
-ghost use Rattle.std.specs.Prelude.{◌≡◌};
-ghost use Rattle.model_reader.specs.reading.Literals.{sign_at, with_minus};
-ghost use Rattle.model_reader.specs.reading.Names.{raw_name_at};
 ghost use Rattle.readers.specs.Implements.{Consumes, MayConsume};
 ghost use Rattle.session_grammar.specs.reading.Mappings.{raw_named_at, fed_amount_at, fed_truth_at, fed_variant_at, fed_behind_name_at, fed_name_at, fed_value_at, feed_at, feeds_at, type_rule_at, mapping_at, mappings_at};
 
 use crate::raw::{RawFeed, RawFeedValue, RawMapping, RawTypeRule};
-use crate::reading::directives::{amount, begins_amount, with_sign};
-use aerie_base::{List, Number, Place};
+use crate::reading::directives::begins_amount;
+use aerie_base::List;
 use aerie_text::Sort;
-use model_reader::{RawLiteral, RawLiteralKind, RawName};
+use model_reader::{
+    RawLiteral, RawLiteralKind, RawName, amount, optional_minus, raw_name, with_minus,
+};
 use readers::{Element, Limit, Most, Reader, Refusal, ended_by, optional_list, row};
 use std::alloc::Global;
 
@@ -19,15 +18,6 @@ const MOST_MAPPINGS: Most = Most {
     count: 16,
     limit: Limit::Mappings,
 };
-
-/// Reads a name, and gives its place too.
-#[tactic(auto, unfolding(model_reader::specs::reading::Names::raw_name_at))]
-pub fn raw_name(alloc: Global, reader: &mut Reader) -> Result<RawName, Refusal>
-    ensures { Consumes raw_name_at reader.old reader.new result }
-{
-    let (at, name) = reader.name(alloc)?;
-    Ok(RawName { at, name })
-}
 
 /// Reads this word and a name.
 #[tactic(auto, unfolding(crate::specs::reading::Mappings::raw_named_at))]
@@ -38,34 +28,11 @@ pub fn raw_named(alloc: Global, reader: &mut Reader, sort: Sort) -> Result<RawNa
     raw_name(alloc, reader)
 }
 
-/// Reads a minus, where there is one, and gives its place.
-#[tactic(auto, unfolding(model_reader::specs::reading::Literals::sign_at, model_reader::specs::reading::Literals::minus_at))]
-fn sign(reader: &mut Reader) -> Result<Option<Place>, Refusal>
-    ensures { MayConsume sign_at reader.old reader.new result }
-{
-    if reader.next_is(Sort::Minus) {
-        let minus = reader.take(Sort::Minus)?;
-        Ok(Some(minus))
-    } else {
-        Ok(None)
-    }
-}
-
-/// The number behind the minus that has this place, and the place where it begins.
-fn with_minus(minus: Option<Place>, number: (Place, Number)) -> (Place, Number)
-    ensures { result ≡ with_minus minus number }
-{
-    match minus {
-        Some(at) => (at, with_sign(true, number.1)),
-        None => number,
-    }
-}
-
 #[tactic(auto, unfolding(crate::specs::reading::Mappings::fed_amount_at))]
 fn fed_amount(reader: &mut Reader) -> Result<RawFeedValue, Refusal>
     ensures { Consumes fed_amount_at reader.old reader.new result }
 {
-    let minus = sign(reader)?;
+    let minus = optional_minus(reader)?;
     let amount = amount(reader)?;
     let (at, number) = with_minus(minus, amount);
     let what = RawLiteralKind::Number(number);

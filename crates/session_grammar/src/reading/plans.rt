@@ -5,10 +5,10 @@ ghost use Rattle.session_grammar.specs.reading.Plans.{start_at, some_time_at, pl
 
 use crate::raw::{RawDataset, RawDirective, RawPlan, RawStart};
 use crate::reading::directives::{duration, given, when};
-use crate::reading::mappings::{raw_name, raw_named};
+use crate::reading::mappings::raw_named;
 use aerie_base::{List, Text, Time};
 use aerie_text::Sort;
-use model_reader::RawName;
+use model_reader::{RawName, raw_name};
 use readers::{Element, Limit, Most, Reader, Refusal, ended_by, row};
 use std::alloc::Global;
 

@@ -9,7 +9,7 @@ use Rattle.hangar_lock.specs.contracts.lock.Pass as PassRow
 use Rattle.hangar_lock.specs.contracts.lock.Pass.TheInside as PassInside
 use Rattle.hangar_lock.specs.contracts.turnstile.Turnstile as TurnstileRow
 use Rattle.hangar_core.specs.contracts.hangar.Hangar as HangarRow
-use Rattle.hangar_lock.specs.contracts.rule.OneJournal as OneJournalRow
+use Rattle.hangar_lock.specs.contracts.one_journal.OneJournal as OneJournalRow
 use Rattle.hangar_lock.specs.contracts.views.View as ViewRow
 use Rattle.std.specs.contracts.option.Option as OptionRow
 use Rattle.std.specs.contracts.snapshot.Snapshot as SnapshotRow

@@ -12,7 +12,7 @@ use Rattle.bench.specs.contracts.compiled_model.CompiledModel as CompiledRow
 use Rattle.bench.specs.contracts.compiled_model.CompiledModel.TheInside as CompiledInside
 use Rattle.client_work.specs.contracts.missions.Mission as MissionRow
 use Rattle.client_work.specs.contracts.missions.RuledModel as RuledRow
-use Rattle.client_work.specs.contracts.turns.Workplace as WorkplaceRow
+use Rattle.client_work.specs.contracts.workplace.Workplace as WorkplaceRow
 use Rattle.epoch_text.proofs.start.Start.TheSendSync as StartSent
 use Rattle.hangar_lock.specs.contracts.lock.HangarLock as LockRow
 use Rattle.seq_expand.proofs.rules.Sequencing.TheSendSync as SequencingSent

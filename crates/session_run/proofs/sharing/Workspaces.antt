@@ -2,15 +2,12 @@
 use denote.Param.Send.{IsSend, view_send}
 use denote.Param.SendFields.{as_row_send, declared_send, variants_send}
 use denote.Struct.Field
-use Rattle.aerie_base.proofs.arguments.RawArgument.TheSendSync as RawArgumentSent
-use Rattle.aerie_base.proofs.arguments.RawValue.TheSendSync as RawValueSent
 use Rattle.aerie_base.proofs.containers.list.List.TheSendSync as ListSent
 use Rattle.aerie_base.proofs.containers.shared.Shared.TheSendSync as SharedSent
 use Rattle.aerie_base.proofs.names.Name.TheSendSync as NameSent
 use Rattle.aerie_base.proofs.numbers.time.Time.TheSendSync as TimeSent
 use Rattle.aerie_base.proofs.plans.Plan.TheSendSync as PlanSent
-use Rattle.aerie_base.proofs.plans.When.TheSendSync as WhenSent
-use Rattle.aerie_base.proofs.texts.Text.TheSendSync as TextSent
+use Rattle.commands.proofs.edits.Edit.TheSendSync as EditSent
 use Rattle.hangar_core.specs.contracts.actions.Action as ActionRow
 use Rattle.hangar_core.specs.contracts.branches.Branch as BranchRow
 use Rattle.hangar_core.specs.contracts.entries.Entry as EntryRow
@@ -49,28 +46,16 @@ action_send = variants_send ActionRow.enum (
     (
       (NameSent.the_send, tt),
       (
-        (NameSent.the_send, (WhenSent.the_send, (NameSent.the_send, (ListSent.the_send _ RawArgumentSent.the_send, tt)))),
+        (NameSent.the_send, (EditSent.the_send, tt)),
         (
-          (NameSent.the_send, (as_row_send denote.Struct.Field.u32-field u32_send, tt)),
+          (NameSent.the_send, (NameSent.the_send, tt)),
           (
-            (NameSent.the_send, (as_row_send denote.Struct.Field.u32-field u32_send, (WhenSent.the_send, tt))),
+            (NameSent.the_send, tt),
             (
-              (NameSent.the_send, (as_row_send denote.Struct.Field.u32-field u32_send, (NameSent.the_send, (RawValueSent.the_send, tt)))),
+              (NameSent.the_send, (SharedSent.the_send _ kept_send kept_sync, tt)),
               (
-                (NameSent.the_send, (TextSent.the_send, tt)),
-                (
-                  (NameSent.the_send, (NameSent.the_send, tt)),
-                  (
-                    (NameSent.the_send, tt),
-                    (
-                      (NameSent.the_send, (SharedSent.the_send _ kept_send kept_sync, tt)),
-                      (
-                        (NameSent.the_send, (as_row_send denote.Struct.Field.u64-field u64_send, (PlanSent.the_send, tt))),
-                        tt,
-                      ),
-                    ),
-                  ),
-                ),
+                (NameSent.the_send, (as_row_send denote.Struct.Field.u64-field u64_send, (PlanSent.the_send, tt))),
+                tt,
               ),
             ),
           ),

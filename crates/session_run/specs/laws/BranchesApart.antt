@@ -4,7 +4,7 @@ use Rattle.std.specs.List.{AllByRecursion, filter}
 use Rattle.aerie_base.specs.declared.plans.Plan.{Plan}
 use Rattle.aerie_base.specs.models.Names.{same_name}
 use Rattle.run_data.specs.KeptRuns.{KeptRun}
-use Rattle.hangar_core.specs.declared.commands.Command.TheVariants.{Simulate}
+use Rattle.commands.specs.declared.commands.Command.TheVariants.{Simulate}
 use Rattle.hangar_core.specs.declared.entries.Entry.{Entry}
 use Rattle.hangar_core.specs.declared.replies.Reply.{Reply}
 use Rattle.hangar_core.specs.declared.replies.Reply.TheVariants.{Fetched}

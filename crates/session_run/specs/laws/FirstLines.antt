@@ -12,8 +12,8 @@ first_line (byte ∷ text) = byte ∷ (if byte == 10 then [] else first_line tex
 -- two texts of a session, along journals that fit it, that have the same first line are along the same journal: entry by
 -- entry and reply by reply
 abbrev pub FirstLinesTellJournals : Type 0
-FirstLinesTellJournals = (judged : JudgedSession) (bound : ℕ) (counted recounted : Bool) (text other : List ℕ)
-    (one : IsPerformed judged bound counted text) (two : IsPerformed judged bound recounted other) →
+FirstLinesTellJournals = (judged : JudgedSession) (bound : ℕ) (stats other_stats : Bool) (text other : List ℕ)
+    (one : IsPerformed judged bound stats text) (two : IsPerformed judged bound other_stats other) →
     HasFewClients judged.session → first_line text ≡ first_line other → one.journal ≡ two.journal
 
 -- and where no statements are counted, they are the same text

@@ -1,8 +1,8 @@
--- The journal of clients who take turns fits.
+-- The journal of clients in rounds fits.
 use Rattle.std.specs.Prelude.{ℕ, Bool, List}
 use Rattle.session_judge.specs.declared.judged.JudgedSession.{JudgedSession}
 use Rattle.session_run.specs.Performed.{IsPerformed, IsPerformedInTurn}
 
-abbrev pub TurnsFit : Type 0
-TurnsFit = (judged : JudgedSession) (bound : ℕ) (counted : Bool) (text : List ℕ) →
-    IsPerformedInTurn judged bound counted text → IsPerformed judged bound counted text
+abbrev pub InTurnFits : Type 0
+InTurnFits = (judged : JudgedSession) (bound : ℕ) (stats : Bool) (text : List ℕ) →
+    IsPerformedInTurn judged bound stats text → IsPerformed judged bound stats text

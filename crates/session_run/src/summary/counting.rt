@@ -67,7 +67,8 @@ fn violation_count(
     requires fresh { IsFresh model.now run.now.plan run.now.bound run.now }
     requires spans { AreSpansOf model.now run.now spans.now }
     requires constraints { IsTrue (list_all (is_constraint model.now) constraints.now) }
-    ensures { IfOk result (λ count. count ≡ min (violations_by model.now run.now constraints.now) last_count) }
+    ensures { IfOk result (λ count.
+        count ≡ min (violations_by model.now run.now constraints.now) last_count) }
 {
     let mut count: u64 = 0;
     for constraint in constraints {

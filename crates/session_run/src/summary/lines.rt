@@ -1,7 +1,7 @@
 //! The line of a summary.
 
 ghost use Rattle.std.specs.Prelude.{◌≡◌, IfOk, string_bytes};
-ghost use Rattle.aerie_text.specs.Json.{line_of as line_of_by};
+ghost use Rattle.json_line.specs.Json.{line_of as line_of_by};
 ghost use Rattle.session_run.specs.summary.SummaryLines.{summary_data};
 
 use crate::summary::Summary;

@@ -287,7 +287,7 @@ module _ (model : Parts) (plan : Plan) (bound : ℕ) (path : List ℕ) (at_time 
         time_stage at time (passed at.cells (time - at.time)) (first_out (passed at.cells (time - at.time))) stage none_ready
     moved_stage at None stage none_ready e = end_stage at (first_out (passed at.cells (plan.duration - at.time))) stage none_ready e
 
-    -- ---- a turn
+    -- ---- a transition
 
     woken_stage : (at : SimulationState) → Stage at → Stage (record at { table = on_each (woken at.cells) at.table })
     woken_stage at (waits none has) =
@@ -309,9 +309,9 @@ module _ (model : Parts) (plan : Plan) (bound : ℕ) (path : List ℕ) (at_time 
         outcome_stage at (batch model bound at.spent at.cells (job ∷ rest)) reached (ap (batch model bound at.spent at.cells) e) stage
 
     module _ (first : Stage (start model plan)) where
-      stands : (place : Next SimulationState Run) → IsReached model plan bound place → GoesWell place
+      stands : (point : Next SimulationState Run) → IsReached model plan bound point → GoesWell point
       stands (more at) begins = first
-      stands place (onward {place = at} before) = next_stage at (ready_jobs at.cells at.table) before refl (stands (more at) before)
+      stands point (onward {point = at} before) = next_stage at (ready_jobs at.cells at.table) before refl (stands (more at) before)
 
 -- ---- a directive of a plan
 

@@ -13,6 +13,7 @@ use Rattle.run_data.specs.Frames.{Made, Making, with_child, with_frame, frame_of
 use Rattle.run_data.specs.Steps.{Stepped}
 use Rattle.run_data.specs.laws.BatchFrames.{AnyFrame, HasPath}
 use Rattle.span_table.specs.PlannedSpans.{IsOneOf}
+use Rattle.run_data.specs.FrameLaws.{any_sorted}
 
 -- ---- some frame of several
 
@@ -25,23 +26,6 @@ module _ (P : Frame → Type 0) where
   behind : (frames others : List Frame) → AnyFrame P others → AnyFrame P (frames ++ others)
   behind [] others has = has
   behind (frame ∷ rest) others has = inr (behind rest others has)
-
-  put : (one : Frame) (frames : List Frame) → AnyFrame P (one ∷ frames) → AnyFrame P (put_by_path one frames)
-  put one [] has = has
-  put one (first ∷ rest) has = by (path_cmp one.path first.path) has (put one rest)
-    where
-      by : (order : Ordering) → AnyFrame P (one ∷ first ∷ rest) → (AnyFrame P (one ∷ rest) → AnyFrame P (put_by_path one rest)) →
-          AnyFrame P (in_front_unless_greater order one first rest (put_by_path one rest))
-      by Less has further = has
-      by Equal has further = has
-      by Greater (inl h) further = inr (further (inl h))
-      by Greater (inr (inl h)) further = inl h
-      by Greater (inr (inr h)) further = inr (further (inr h))
-
-  sorted : (frames : List Frame) → AnyFrame P frames → AnyFrame P (by_path frames)
-  sorted [] has = has
-  sorted (frame ∷ rest) (inl h) = put frame (by_path rest) (inl h)
-  sorted (frame ∷ rest) (inr h) = put frame (by_path rest) (inr (sorted rest h))
 
 -- ---- a job's own frame
 
@@ -122,4 +106,4 @@ module _ (bound spent : ℕ) (before cells : List CellState) (touched : List ℕ
   has_frame model jobs job e among =
       let found = by_making (made_by_all model bound jobs) e in
       subst (λ frames. HasPath job.1.path frames) found.2
-      (sorted (λ frame. frame.path ≡ job.1.path) found.0.frames (own_of_all model bound jobs found.0 job found.1 among))
+      (any_sorted (λ frame. frame.path ≡ job.1.path) found.0.frames (own_of_all model bound jobs found.0 job found.1 among))

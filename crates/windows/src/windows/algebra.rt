@@ -5,7 +5,6 @@ ghost use Rattle.windows.specs.Joining.{stands_first};
 ghost use Rattle.windows.specs.Times.{contains, AreIntervals};
 
 use super::Windows;
-use crate::ends::{earlier, first_time, is_by, later};
 use crate::joining::join;
 use aerie_base::{List, OutOfMemory, Time};
 use std::alloc::Global;
@@ -28,7 +27,7 @@ fn stands_first(
     if at_right >= right.len() {
         return true;
     }
-    is_by(left[at_left].0, right[at_right].0)
+    left[at_left].0.is_by(right[at_right].0)
 }
 
 impl Windows {
@@ -43,8 +42,8 @@ impl Windows {
         let (mut at_left, mut at_right) = (0, 0);
         while at_left < left.len() && at_right < right.len() {
             let (one, two) = (left[at_left], right[at_right]);
-            join(&mut intervals, later(one.0, two.0), earlier(one.1, two.1))?;
-            if is_by(one.1, two.1) {
+            join(&mut intervals, one.0.later(two.0), one.1.earlier(two.1))?;
+            if one.1.is_by(two.1) {
                 at_left += 1;
             } else {
                 at_right += 1;
@@ -90,7 +89,7 @@ impl Windows {
         ensures times { IfOk result (λ made. AreIntervals made.reach (λ t. not (contains self.now.intervals t)) made.intervals) }
     {
         let mut intervals = List::new(alloc);
-        let mut from = first_time();
+        let mut from = Time::zero();
         for interval in self.intervals() {
             join(&mut intervals, from, interval.0)?;
             from = interval.1;

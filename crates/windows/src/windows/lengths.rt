@@ -6,7 +6,7 @@ ghost use Rattle.windows.specs.Ends.{clipped};
 ghost use Rattle.windows.specs.Times.{shifted_contains, long_contains, AreIntervals};
 
 use super::Windows;
-use crate::ends::{first_time, within};
+use crate::ends::within;
 use crate::joining::join;
 use aerie_base::{List, OutOfMemory, Time};
 use std::alloc::Global;
@@ -15,7 +15,7 @@ use std::alloc::Global;
 fn moved(time: Time, by: i64, reach: Time) -> Time
     ensures { result ≡ clipped 0 reach (pos time +ℤ by) }
 {
-    within(first_time(), reach, i128::from(time.get()) + i128::from(by))
+    within(Time::zero(), reach, i128::from(time.get()) + i128::from(by))
 }
 
 /// Whether the interval is at least so long.

@@ -1,17 +1,17 @@
 //! Sets of times at which a profile of straight pieces compares with a number.
 
-ghost use Rattle.std.specs.Prelude.{◌≡◌, ℕ, ◌+◌, ◌<◌, ◌≤◌, length, drop, OnOk, IfOk};
+ghost use Rattle.std.specs.Prelude.{◌≡◌, ℕ, ◌<◌, ◌≤◌, OnOk, IfOk};
 ghost use Rattle.windows.specs.Crossing.{JoinsWhere};
 ghost use Rattle.windows.specs.Joining.{last_start};
 ghost use Rattle.aerie_base.specs.expressions.Arithmetic.{compared};
-ghost use Rattle.windows.specs.Linear.{AreSegments, IsSum, first_start, segment_value, segments_value};
+ghost use Rattle.windows.specs.Linear.{AreSegments, IsSum, segment_value, segments_value};
 ghost use Rattle.windows.specs.Times.{AreIntervals};
 
 use super::Windows;
 use crate::crossing::{cross, meets};
 use crate::ends::within;
 use crate::joining::join;
-use crate::segments::Segment;
+use crate::segments::{Segment, end_of};
 use aerie_base::{Comparison, List, OutOfMemory, Time};
 use std::alloc::Global;
 
@@ -55,17 +55,6 @@ fn join_compared(
     join_where(intervals, meets(how, crossing.there), there, after)?;
     join_where(intervals, meets(how, crossing.after), after, end)?;
     Ok(())
-}
-
-/// Where the segment at this place ends: where the next one begins, or at the reach.
-fn end_of(reach: Time, segments: &[Segment], at: usize) -> Time
-    requires { at < length segments.now }
-    ensures { result ≡ first_start reach (drop (at + 1) segments.now) }
-{
-    match segments.get(at + 1) {
-        Some(next) => next.from,
-        None => reach,
-    }
 }
 
 impl Windows {

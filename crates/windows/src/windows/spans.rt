@@ -5,7 +5,6 @@ ghost use Rattle.std.specs.List.Sorted.{IsNonDecreasingBy};
 ghost use Rattle.windows.specs.Times.{contains, AreIntervals};
 
 use super::Windows;
-use crate::ends::earlier;
 use crate::joining::join;
 use aerie_base::{List, OutOfMemory, Time};
 use std::alloc::Global;
@@ -34,7 +33,7 @@ impl Windows {
         let sorted = by_start(alloc, spans)?;
         let mut intervals = List::new(alloc);
         for span in sorted.as_slice() {
-            join(&mut intervals, span.0, earlier(span.1, reach))?;
+            join(&mut intervals, span.0, span.1.earlier(reach))?;
         }
         Ok(Windows { reach, intervals })
     }

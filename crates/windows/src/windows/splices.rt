@@ -6,7 +6,6 @@ ghost use Rattle.windows.specs.Joining.{last_start};
 ghost use Rattle.windows.specs.Times.{contains, replaced_contains, AreIntervals};
 
 use super::Windows;
-use crate::ends::{earlier, first_time, is_by, later};
 use crate::joining::join;
 use aerie_base::{List, OutOfMemory, Time};
 use std::alloc::Global;
@@ -24,10 +23,10 @@ fn join_between(
     ensures { OnOk result (JoinsWhere intervals.old from to (λ t. contains set.now.intervals t) intervals.new) }
 {
     let source = set.intervals();
-    let mut at = source.partition_point(|interval| is_by(interval.1, from));
-    while at < source.len() && !is_by(to, source[at].0) {
+    let mut at = source.partition_point(|interval| interval.1.is_by(from));
+    while at < source.len() && !to.is_by(source[at].0) {
         let next = source[at];
-        join(intervals, later(from, next.0), earlier(next.1, to))?;
+        join(intervals, from.later(next.0), next.1.earlier(to))?;
         at += 1;
     }
     Ok(())
@@ -50,7 +49,7 @@ impl Windows {
         ensures times { IfOk result (λ made. AreIntervals made.reach (λ t. replaced_contains self.now.intervals other.now.intervals (from, to) t) made.intervals) }
     {
         let mut intervals = List::new(alloc);
-        join_between(&mut intervals, self, first_time(), from)?;
+        join_between(&mut intervals, self, Time::zero(), from)?;
         join_between(&mut intervals, other, from, to)?;
         join_between(&mut intervals, self, to, self.reach)?;
         Ok(Windows {

@@ -1,6 +1,7 @@
 -- The number of the digits read so far is above the longest duration, and so is that of all digits.
 use Rattle.std.proofs.Common.{◌+◌, sym}
-use Rattle.aerie_base.proofs.Digits.{above_stays, value_more}
+use Rattle.aerie_base.proofs.Digits.{above_stays}
+use Rattle.aerie_base.specs.DigitValues.{value_more}
 use Rattle.aerie_base.proofs.durations.number_within_range.Goals as goal
 
 pub returns-then-number-gt-LONGEST : goal.returns-then-number-gt-LONGEST

@@ -3,7 +3,7 @@ use Rattle.std.proofs.Common.{◌≡◌, ℕ, ◌+◌, ◌∙◌, [], ◌∷◌,
 use Rattle.std.proofs.lemmas.Iterator.{YieldsList-from_chars}
 use Rattle.std.proofs.lemmas.Iterator.Consumers.{YieldsList-turn, YieldsList-end}
 use Rattle.std.proofs.lemmas.List.{length_push}
-use Rattle.aerie_text.specs.Places.{chars_before, column_of, line_of}
+use Rattle.aerie_text.specs.Places.{chars_before, column_of, line_number}
 use Rattle.aerie_text.proofs.Between.{all_between, before_within, line_on, line_same, line_within, none_between, stands_before}
 use Rattle.aerie_text.proofs.Columns.{column_again, column_on, column_within}
 use Rattle.aerie_text.proofs.places.place_on.Goals as goal
@@ -12,7 +12,7 @@ pub loop-c-init : goal.loop-c-init
 loop-c-init c =
     let before = none_between c.args.text.now c.args.from c.args.to c.utf8.text c.requires.rises c.requires.begins in
     record {
-      line = ap (λ place. place.line) c.requires.place ∙ sym (ap line_of before);
+      line = ap (λ place. place.line) c.requires.place ∙ sym (ap line_number before);
       column = ap (λ place. place.column) c.requires.place ∙ sym (ap column_of before);
     }
 
@@ -64,6 +64,6 @@ pub returns : goal.returns
 returns c =
     let end = YieldsList-end (YieldsList-from_chars c.range.result.now c.range.utf8 cc) c.loop-c.yielded _ c.loop-c.yielded_by _ _ c.in-None.is c.next.ensures.steps in
     let whole = all_between c.args.text.now c.range.result.now c.args.from c.args.to (length c.loop-c.yielded) c.utf8.text c.requires.rises c.requires.begins c.range.ensures.value end.1 in
-    let line = c.loop-c.invariant.line ∙ ap line_of whole in
+    let line = c.loop-c.invariant.line ∙ ap line_number whole in
     let column = c.loop-c.invariant.column ∙ ap column_of whole in
     rw (line, column) refl

@@ -1,7 +1,7 @@
 use Rattle.std.proofs.Common.{arith, ◌∙◌}
 use Rattle.std.proofs.lemmas.Result.{on_ok_weaker}
-use Rattle.body_code.proofs.Rooms.{room_first, room_second, room_last, room_body, room_body_end, first_less, second_less, body_less, turn_room}
-use Rattle.body_code.proofs.Patches.{if_done, while_done, simple_else, one_more, turn_code}
+use Rattle.body_code.proofs.Rooms.{room_first, room_second, room_last, room_body, room_body_end, first_less, second_less, body_less, iteration_room}
+use Rattle.body_code.proofs.Patches.{if_done, while_done, simple_else, one_more, iteration_code}
 use Rattle.body_code.proofs.emitting.+emit.Goals as goal
 
 pub emit-emit_block-requires : goal.emit-emit_block-requires
@@ -32,8 +32,8 @@ emit-patch_while-requires-clause-room t c =
 
 pub emit_block-loop-stmt-preserved : goal.emit_block-loop-stmt-preserved
 emit_block-loop-stmt-preserved t c = record {
-  code = turn_code _ _ c.stmt-item.result _ _ _ c.loop-stmt-test.true c.stmt-item.is c.in_ok-emit.ensures c.loop-stmt.invariant.code;
-  room = turn_room _ _ c.stmt-item.result _ _ _ c.loop-stmt-test.true c.stmt-item.is c.in_ok-emit.ensures c.loop-stmt.invariant.room;
+  code = iteration_code _ _ c.stmt-item.result _ _ _ c.loop-stmt-test.true c.stmt-item.is c.in_ok-emit.ensures c.loop-stmt.invariant.code;
+  room = iteration_room _ _ c.stmt-item.result _ _ _ c.loop-stmt-test.true c.stmt-item.is c.in_ok-emit.ensures c.loop-stmt.invariant.room;
 }
 
 pub emit-returns-in_ok-copy-in_default : goal.emit-returns-in_ok-copy-in_default

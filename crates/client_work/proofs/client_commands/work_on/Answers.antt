@@ -5,7 +5,7 @@ use Rattle.client_work.proofs.client_commands.work_on.Goals as goal
 
 pub told_line-requires : goal.told_line-requires
 told_line-requires g c =
-    let mission = c.args.place.now.mission.now in
+    let mission = c.args.assignment.now.workplace.now.mission.now in
     let done = c.in_ok-answer.ensures.done in
-    answer_can mission c.args.place.now.lock.now c.args.pass.now c.requires.place (count_told mission done.statements) c.args.command.now (replies_of done.gained) c.in_ok-answer.answer
+    answer_can mission c.args.assignment.now.workplace.now.lock.now c.args.worker.now.pass.now c.requires.workplace (count_told mission done.statements) c.args.command.now (replies_of done.gained) c.in_ok-answer.answer
     done.told done.known

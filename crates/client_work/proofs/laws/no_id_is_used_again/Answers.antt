@@ -1,4 +1,3 @@
-use Rattle.std.specs.List.{concat}
 use Rattle.client_work.specs.Meanings.{meanings_of, ruled_by, scheduled}
 use Rattle.client_work.proofs.BranchIds.{goes_on}
 use Rattle.client_work.proofs.GoingOn.{adds_goes, none_again}

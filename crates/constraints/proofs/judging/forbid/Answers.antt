@@ -1,4 +1,5 @@
-use Rattle.constraints.proofs.Forbidding.{in_order, met_set}
+use Rattle.constraints.specs.SpansByStart.{in_order}
+use Rattle.constraints.proofs.Forbidding.{met_set}
 use Rattle.constraints.proofs.SpanOrder.{one_each_own}
 use Rattle.constraints.proofs.judging.forbid.Goals as goal
 

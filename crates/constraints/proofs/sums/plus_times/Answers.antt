@@ -9,7 +9,7 @@ use Rattle.constraints.proofs.sums.plus_times.Goals.{then-loop-at_sum-test+else-
 
 pub loop-at_sum-init : goal.loop-at_sum-init
 loop-at_sum-init c =
-    rw (c.new-made.ensures, c.first_time-from.ensures)
+    rw (c.new-made.ensures, c.zero-from.ensures)
     (merging_none c.args.reach c.args.sum.now c.args.segments.now _ (runs_of c.args.reach c.args.sum.now c.requires.sum) (runs_of c.args.reach c.args.segments.now c.requires.segments))
 
 pub added-piece-requires : goal.added-piece-requires

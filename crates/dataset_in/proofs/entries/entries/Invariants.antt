@@ -7,5 +7,5 @@ use Rattle.dataset_in.proofs.entries.entries.Given as goal
 
 abbrev pub invariant-loop-number : goal.invariant-loop-number
 invariant-loop-number g l =
-    entries_behind g.E.Entry.entry g.E.Entry.from None 0 (map view l.rows)
-    ≡ joined l.entries (entries_behind g.E.Entry.entry g.E.Entry.from l.last l.number (map view (drop l.number l.rows)))
+    entries_behind g.E.Entry.entry g.E.Begins.from None 0 (map view l.rows)
+    ≡ joined l.entries (entries_behind g.E.Entry.entry g.E.Begins.from l.last l.number (map view (drop l.number l.rows)))

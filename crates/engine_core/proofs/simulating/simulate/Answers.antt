@@ -1,6 +1,6 @@
 use Rattle.std.proofs.Common.{◌∙◌, sym}
 use Rattle.std.proofs.lemmas.Bool.{eqb-false}
-use Rattle.engine_core.specs.Standing.{jobs_in}
+use Rattle.engine_core.specs.EngineStates.{jobs_in}
 use Rattle.engine_core.proofs.BatchRuns.{ran_on}
 use Rattle.engine_core.proofs.CountedRuns.{counted_first, counted_on, counted_less, some_job}
 use Rattle.engine_core.proofs.RunCounts.{rose_not, ran_not}
@@ -15,7 +15,7 @@ loop-alloc-init g c = record {
       counted_first c.args.model.now c.args.plan.now c.args.bound (g.S.Stepper.records c.args.stepper.now) c.args.steps.now c.args.looks.now c.in_ok-engine.engine
       c.in_ok-engine.ensures.stands c.in_ok-engine.ensures.model c.in_ok-engine.ensures.plan c.in_ok-engine.ensures.bound c.in_ok-engine.ensures.first;
   ran =
-      ran_not (g.S.Stepper.is_of c.args.stepper.now) (g.S.Stepper.records c.args.stepper.now) (g.S.Stepper.anchor c.args.stepper.now) (g.S.Stepper.opened c.args.stepper.now)
+      ran_not (g.S.Stepper.is_of c.args.stepper.now) (g.S.Stepper.records c.args.stepper.now) (g.S.Stepper.address c.args.stepper.now) (g.S.Stepper.opened c.args.stepper.now)
       c.args.steps.now c.args.looks.now (g.S.Stepper.counted c.args.stepper.now);
 }
 
@@ -24,7 +24,7 @@ returns-in_err-engine-2-clause-opened g c =
     (ran_on c.loop-alloc.invariant.ran (record {
       models = c.step.ensures.same_models;
       records = c.step.ensures.same_records;
-      same_anchor = c.step.ensures.anchor;
+      same_address = c.step.ensures.address;
       rose = c.step.ensures.opened;
       looked = c.step.ensures.looks;
     })).rose
@@ -34,14 +34,14 @@ loop-alloc-preserved g c = record {
   counted =
       counted_on c.args.model.now c.args.plan.now c.args.bound (g.S.Stepper.records c.args.stepper.now) c.args.steps.now c.args.looks.now c.loop-alloc.engine c.loop-alloc.steps c.loop-alloc.looks
       c.loop-alloc.invariant.counted
-      (some_job (jobs_in c.loop-alloc.engine.place) c.ready.result.now c.ready.ensures.jobs (eqb-false _ 0 (sym c.is_empty.ensures ∙ c.loop-alloc-test.true)))
+      (some_job (jobs_in c.loop-alloc.engine.point) c.ready.result.now c.ready.ensures.jobs (eqb-false _ 0 (sym c.is_empty.ensures ∙ c.loop-alloc-test.true)))
       c.in_ok-engine-2.engine c.in_ok-engine-2.ensures.next c.in_ok-engine-2.ensures.model c.in_ok-engine-2.ensures.plan c.in_ok-engine-2.ensures.bound c.in_ok-engine-2.ensures.stands
       (g.S.Stepper.records c.loop-alloc.stepper) c.loop-alloc.invariant.ran.records c.step.new.steps c.step.new.looks c.in_ok-engine-2.ensures.frugal c.in_ok-engine-2.ensures.few_looks;
   ran =
       ran_on c.loop-alloc.invariant.ran (record {
         models = c.step.ensures.same_models;
         records = c.step.ensures.same_records;
-        same_anchor = c.step.ensures.anchor;
+        same_address = c.step.ensures.address;
         rose = c.step.ensures.opened;
         looked = c.step.ensures.looks;
       });
@@ -51,5 +51,5 @@ pub loop-alloc-smaller : goal.loop-alloc-smaller
 loop-alloc-smaller g c =
     counted_less c.args.model.now c.args.plan.now c.args.bound (g.S.Stepper.records c.args.stepper.now) c.args.steps.now c.args.looks.now c.loop-alloc.engine c.loop-alloc.steps c.loop-alloc.looks
     c.loop-alloc.invariant.counted
-    (some_job (jobs_in c.loop-alloc.engine.place) c.ready.result.now c.ready.ensures.jobs (eqb-false _ 0 (sym c.is_empty.ensures ∙ c.loop-alloc-test.true)))
+    (some_job (jobs_in c.loop-alloc.engine.point) c.ready.result.now c.ready.ensures.jobs (eqb-false _ 0 (sym c.is_empty.ensures ∙ c.loop-alloc-test.true)))
     c.in_ok-engine-2.engine c.in_ok-engine-2.ensures.next c.in_ok-engine-2.ensures.model c.in_ok-engine-2.ensures.plan c.in_ok-engine-2.ensures.bound c.weight_falls.ensures.falls

@@ -3,17 +3,17 @@ use Rattle.run_data.specs.declared.frames.Frame.{Frame}
 use Rattle.run_data.specs.Tasks.{after_frames}
 use Rattle.run_data.specs.laws.NumberedTasks.{sorted_tasks}
 use Rattle.engine_core.specs.TasksByNumber.{MadeIsSmall}
-use Rattle.engine_core.specs.Turns.{MakesFew}
+use Rattle.engine_core.specs.Stages.{MakesFew}
 use Rattle.engine_core.specs.declared.batch_ends.BatchEnd.{BatchEnd}
-use Rattle.engine_core.proofs.EndedBatches.{limit_place, failed_place, committed_kept}
+use Rattle.engine_core.proofs.EndedBatches.{limit_point, failed_point, committed_kept}
 use Rattle.engine_core.proofs.simulation.after_end.Goals as goal
 
-pub returns-in-Limit-clause-place : goal.returns-in-Limit-clause-place
-returns-in-Limit-clause-place c = λ model. limit_place model c.args.request c.args.history c.args.present c.args.end c.in-Limit.is c.run_with.result c.run_with.ensures
+pub returns-in-Limit-clause-point : goal.returns-in-Limit-clause-point
+returns-in-Limit-clause-point c = λ model. limit_point model c.args.request c.args.history c.args.present c.args.end c.in-Limit.is c.run_with.result c.run_with.ensures
 
-pub returns-in-Failed-clause-place : goal.returns-in-Failed-clause-place
-returns-in-Failed-clause-place c = λ model.
-    failed_place model c.args.request c.args.history c.args.present c.args.end c.in-Failed.who c.in-Failed.fault c.in-Failed.is c.run_with-in-Failed.result c.run_with-in-Failed.ensures
+pub returns-in-Failed-clause-point : goal.returns-in-Failed-clause-point
+returns-in-Failed-clause-point c = λ model.
+    failed_point model c.args.request c.args.history c.args.present c.args.end c.in-Failed.who c.in-Failed.fault c.in-Failed.is c.run_with-in-Failed.result c.run_with-in-Failed.ensures
 
 pub after_batch-requires-clause-made : goal.after_batch-requires-clause-made
 after_batch-requires-clause-made c =

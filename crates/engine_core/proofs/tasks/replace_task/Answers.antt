@@ -1,10 +1,10 @@
 use Rattle.std.proofs.Common.{◌∙◌, ◌<◌, ◌&&◌, ◌||◌, List, ℕ, length, ap, sym, subst, nat_eq, arith}
 use Rattle.run_data.specs.Tasks.{Table}
-use Rattle.engine_core.specs.Indexes.{standing_in, SayAnew}
+use Rattle.engine_core.specs.Indexes.{index_entry_in, SayChanged}
 use Rattle.engine_core.specs.TasksByNumber.{has_number}
-use Rattle.engine_core.specs.declared.indexes.Standing.{Standing}
+use Rattle.engine_core.specs.declared.indexes.IndexEntry.{IndexEntry}
 use Rattle.engine_core.specs.declared.tasks.TaskTables.{TaskTables}
-use Rattle.engine_core.proofs.PutTables.{in_step, keeps, says_of, path_there, number_there, put_there, this_path, this_standing, is_path_there, long_stays}
+use Rattle.engine_core.proofs.PutTables.{in_step, keeps, says_of, path_there, number_there, put_there, this_path, this_index_entry, is_path_there, long_stays}
 use Rattle.engine_core.proofs.tasks.replace_task.Goals as goal
 
 pub put-requires : goal.put-requires
@@ -23,7 +23,7 @@ put-requires-2 c =
     let old = c.args.tables.now in
     says_of old c.requires.before c.args.number c.args.task c.requires.number c.path_of-path.result.now c.exchange-stood.result
     (this_path old c.requires.before c.args.number c.args.task c.requires.number c.path_of-path.result.now c.exchange-stood.new.tasks.entries c.exchange-stood.ensures.is c.path_of-path.ensures)
-    (this_standing old c.requires.before c.args.number c.args.task c.requires.number c.exchange-stood.result c.exchange-stood.ensures.stood)
+    (this_index_entry old c.requires.before c.args.number c.args.task c.requires.number c.exchange-stood.result c.exchange-stood.ensures.stood)
 
 pub returns-clause-after : goal.returns-clause-after
 returns-clause-after c =
@@ -35,8 +35,8 @@ returns-clause-after c =
     (c.exchange-stood.ensures.is ∙ put_there old c.requires.before c.args.number c.args.task c.requires.number)
     c.in_ok-put.ensures.wakes
     (is_path_there old c.requires.before c.args.number c.args.task c.requires.number)
-    (subst (λ (p : List ℕ). SayAnew p c.args.number (standing_in c.args.task.phase) old.indexes c.put-2.new.self) same
-    (subst (λ (s : Standing). SayAnew c.path_of-path.result.now c.args.number s old.indexes c.put-2.new.self) c.of-standing.ensures c.in_ok-put-2.ensures))
+    (subst (λ (p : List ℕ). SayChanged p c.args.number (index_entry_in c.args.task.phase) old.indexes c.put-2.new.self) same
+    (subst (λ (s : IndexEntry). SayChanged c.path_of-path.result.now c.args.number s old.indexes c.put-2.new.self) c.of-index_entry.ensures c.in_ok-put-2.ensures))
 
 pub returns-clause-kept : goal.returns-clause-kept
 returns-clause-kept c =

@@ -1,7 +1,7 @@
 use Rattle.std.proofs.Common.{ap, ◌∙◌}
 use Rattle.goals.specs.Matching.{matching_starts as starts_matched}
 use Rattle.goals.proofs.FreeTimes.{are_in_plan, are_free, few_free}
-use Rattle.constraints.proofs.Forbidding.{in_order}
+use Rattle.constraints.specs.SpansByStart.{in_order}
 use Rattle.goals.proofs.candidate_times.candidates.Goals as goal
 
 pub match_spans-requires : goal.match_spans-requires

@@ -1,4 +1,4 @@
-use Rattle.constraints.proofs.Forbidding.{in_order}
+use Rattle.constraints.specs.SpansByStart.{in_order}
 use Rattle.goals.proofs.filled.filled_by_kind.Goals as goal
 
 pub match_spans-requires : goal.match_spans-requires

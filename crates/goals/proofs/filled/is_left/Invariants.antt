@@ -4,4 +4,4 @@ use Rattle.goals.specs.Goals.{is_left as left_over}
 use Rattle.goals.proofs.filled.is_left.Given as goal
 
 abbrev pub invariant-loop-anchor : goal.invariant-loop-anchor
-invariant-loop-anchor l = left_over l.beside.from l.beside.to l.starts (drop l.anchor-index l.anchors) l.gap.at ≡ left_over l.beside.from l.beside.to l.starts l.anchors l.gap.at
+invariant-loop-anchor l = left_over l.range.from l.range.to l.starts (drop l.anchor-index l.anchors) l.gap.at ≡ left_over l.range.from l.range.to l.starts l.anchors l.gap.at

@@ -1,3 +1,4 @@
+use Rattle.std.specs.Prelude.{IsPermutation}
 use Rattle.std.proofs.Common.{subst, sym, ap, ◌∙◌}
 use Rattle.goals.specs.Gaps.{coexistence_gap as least_without}
 use Rattle.goals.specs.Merging.{Rises}
@@ -10,5 +11,6 @@ coexistence_gap-gap-requires-clause-anchors c = subst Rises (sym c.as_slice.ensu
 pub returns : goal.returns
 returns c =
     c.coexistence_gap-gap.ensures
-    ∙ ap (least_without c.args.beside.now.from c.args.beside.now.to c.args.starts.now) c.as_slice.ensures.value
-    ∙ in_any_order c.args.beside.now.from c.args.beside.now.to c.args.starts.now _ _ c.in_ok-anchors.ensures.permutation
+    ∙ ap (least_without c.args.range.now.from c.args.range.now.to c.args.starts.now) c.as_slice.ensures.value
+    ∙ in_any_order c.args.range.now.from c.args.range.now.to c.args.starts.now _ _
+    (subst (λ anchors. IsPermutation anchors c.in_ok-anchors.anchors.items) c.in_ok-found.ensures c.in_ok-anchors.ensures.permutation)

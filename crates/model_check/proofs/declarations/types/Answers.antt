@@ -1,10 +1,10 @@
 use Rattle.std.proofs.Common.{refl}
 use Rattle.model_check.specs.ModelSymbols.{with_type_symbol, type_symbols_from}
-use Rattle.model_check.proofs.Turns.{state_turn}
+use Rattle.diagnostics.specs.Iterations.{state_iteration}
 use Rattle.model_check.proofs.declarations.types.Goals as goal
 
 pub loop-item-preserved : goal.loop-item-preserved
 loop-item-preserved c =
-    state_turn (with_type_symbol c.args.enums.now) (type_symbols_from c.args.enums.now) (λ s x rest. refl)
+    state_iteration (with_type_symbol c.args.enums.now) (type_symbols_from c.args.enums.now) (λ s x rest. refl)
     c.args.items.now c.loop-item.item-index c.item-item.result c.loop-item-test.true c.item-item.is
     c.loop-item.table _ _ c.in_ok-add_type.ensures c.loop-item.invariant

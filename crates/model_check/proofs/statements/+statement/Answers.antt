@@ -3,7 +3,8 @@ use Rattle.model_reader.specs.declared.raw.statements.RawStmtKind.{Let, LetCall,
 use Rattle.model_check.specs.StatementScopes.{scope_behind, scope_behind_all}
 use Rattle.model_check.specs.Statements.{stmt_diagnostics, block_diagnostics, stmt_of, block_of}
 use Rattle.model_check.proofs.StatementForms.{as_form, made_if, made_while}
-use Rattle.model_check.proofs.Turns.{state_turn, judged_turn, made_turn}
+use Rattle.model_check.specs.Diagnostics.{number_of_cause}
+use Rattle.diagnostics.specs.Iterations.{state_iteration, judged_iteration, made_iteration}
 use Rattle.model_check.proofs.statements.+statement.Goals as goal
 
 pub statement-returns-in-Let : goal.statement-returns-in-Let
@@ -70,13 +71,13 @@ pub block-loop-stmt-preserved : goal.block-loop-stmt-preserved
 block-loop-stmt-preserved t c =
     let symbols = c.args.symbols.now in
     let returns = c.args.returns in (
-      state_turn (λ s x. scope_behind symbols x s) (λ s xs. scope_behind_all symbols xs s) (λ s x rest. refl)
+      state_iteration (λ s x. scope_behind symbols x s) (λ s xs. scope_behind_all symbols xs s) (λ s x rest. refl)
           c.as_slice-stmt-items.result.now c.loop-stmt.stmt-index c.stmt-item.result c.loop-stmt-test.true c.stmt-item.is
           c.loop-stmt.scope c.statement.new.scope _ c.in_ok-statement.ensures.1 c.loop-stmt.invariant.0,
-      made_turn (λ s x. scope_behind symbols x s) (λ s x. stmt_of symbols x s) (λ s xs. block_of symbols xs s) (λ s x rest. refl)
+      made_iteration (λ s x. scope_behind symbols x s) (λ s x. stmt_of symbols x s) (λ s xs. block_of symbols xs s) (λ s x rest. refl)
           c.as_slice-stmt-items.result.now c.loop-stmt.stmt-index c.stmt-item.result c.loop-stmt-test.true c.stmt-item.is
           c.loop-stmt.scope c.statement.new.scope c.in_ok-statement.ensures.1 _ _ _ _ c.in_ok-statement.ensures.0.0 c.in_ok-push.ensures.pushed c.loop-stmt.invariant.1,
-      judged_turn (λ s x. scope_behind symbols x s) (λ s x. stmt_diagnostics symbols returns x s) (λ s xs. block_diagnostics symbols returns xs s) (λ s x rest. refl)
+      judged_iteration number_of_cause (λ s x. scope_behind symbols x s) (λ s x. stmt_diagnostics symbols returns x s) (λ s xs. block_diagnostics symbols returns xs s) (λ s x rest. refl)
           c.as_slice-stmt-items.result.now c.loop-stmt.stmt-index c.stmt-item.result c.loop-stmt-test.true c.stmt-item.is
           c.loop-stmt.scope c.statement.new.scope c.in_ok-statement.ensures.1 _ _ _ c.in_ok-statement.ensures.0.1 c.loop-stmt.invariant.2,
     )

@@ -2,8 +2,9 @@ use Rattle.std.proofs.Common.{Option, ap, sym, ◌∙◌}
 use Rattle.aerie_base.specs.declared.values.Kind.{Kind}
 use Rattle.model_reader.specs.declared.raw.expressions.RawExpr.{RawExpr}
 use Rattle.model_reader.specs.declared.raw.expressions.RawExprKind.{Not, Binary}
-use Rattle.model_check.specs.declared.diagnostics.Cause.TheVariants.{NotLinear}
-use Rattle.model_check.specs.Diagnostics.{noted, refused_unless}
+use Rattle.model_check.specs.declared.causes.Cause.TheVariants.{NotLinear}
+use Rattle.diagnostics.specs.Diagnostics.{refused_unless}
+use Rattle.model_check.specs.Diagnostics.{noted}
 use Rattle.model_check.specs.Waits.{is_truth}
 use Rattle.model_check.proofs.ConditionForms.{made_literal, made_read, made_not, made_negate, made_plain, made_joint}
 use Rattle.model_check.proofs.Results.{if_ok}

@@ -2,7 +2,7 @@
 
 ghost use Rattle.std.specs.Prelude.{◌≡◌, ◌<◌, IfOk};
 ghost use Rattle.readers.specs.Implements.{Consumes, MayConsume};
-ghost use Rattle.model_reader.specs.reading.Statements.{let_value_at, let_at, delay_at, wait_at, started, start_at, optional_expr_at, return_at, simple_at, simple_turn_at, with_stmt};
+ghost use Rattle.model_reader.specs.reading.Statements.{let_value_at, let_at, delay_at, wait_at, started, start_at, optional_expr_at, return_at, simple_at, simple_iteration_at, with_stmt};
 
 use crate::raw::{RawExpr, RawInvoke, RawName, RawStmt, RawStmtKind};
 use crate::reading::body::Body;
@@ -145,10 +145,10 @@ fn simple(alloc: Global, reader: &mut Reader) -> Result<RawStmt, Refusal>
 }
 
 /// The same, and puts it behind the statements so far.
-#[tactic(auto, unfolding(crate::specs::reading::Statements::simple_turn_at))]
-pub fn simple_turn(alloc: Global, reader: &mut Reader, body: Body) -> Result<Body, Refusal>
+#[tactic(auto, unfolding(crate::specs::reading::Statements::simple_iteration_at))]
+pub fn simple_iteration(alloc: Global, reader: &mut Reader, body: Body) -> Result<Body, Refusal>
     requires spare { 0 < body.spare }
-    ensures { Consumes (simple_turn_at body) reader.old reader.new result }
+    ensures { Consumes (simple_iteration_at body) reader.old reader.new result }
 {
     let last = simple(alloc, reader)?;
     let spare = body.spare - 1;

@@ -5,5 +5,5 @@ use Rattle.std.specs.BTreeMap.{get as noted_at}
 use Rattle.plan_edit.specs.Loading.{IsIndexOf}
 use Rattle.plan_edit.proofs.loading.index_of.Given as goal
 
-abbrev pub invariant-loop-place : goal.invariant-loop-place
-invariant-loop-place l = IsIndexOf (noted_at nat_cmp l.index) (take l.place l.all)
+abbrev pub invariant-loop-position : goal.invariant-loop-position
+invariant-loop-position l = IsIndexOf (noted_at nat_cmp l.index) (take l.position l.all)

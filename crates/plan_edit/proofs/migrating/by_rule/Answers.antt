@@ -5,21 +5,21 @@ use Rattle.aerie_base.specs.declared.expressions.Expr.{Expr}
 use Rattle.aerie_base.specs.declared.values.Value.{Value}
 use Rattle.aerie_base.specs.models.Limits.{require_limit}
 use Rattle.plan_edit.specs.declared.mappings.Feed.{Feed}
-use Rattle.plan_edit.specs.Migrating.{all_fed, is_feed_within, unless_misfit, retyped_directive}
+use Rattle.plan_edit.specs.Migrating.{mapped_arguments, is_feed_within, unless_misfit, retyped_directive}
 use Rattle.plan_edit.specs.Requires.{first_unmet, is_typed_for}
 use Rattle.plan_edit.proofs.Migrations.{ready_there, is_ready, by_values}
 use Rattle.plan_edit.proofs.Types.{type_good, requires_typed}
 use Rattle.plan_edit.proofs.migrating.by_rule.Goals as goal
 
-pub all_fed-requires-clause-count : goal.all_fed-requires-clause-count
-all_fed-requires-clause-count c =
+pub mapped_arguments-requires-clause-count : goal.mapped_arguments-requires-clause-count
+mapped_arguments-requires-clause-count c =
     let there = ready_there c.args.old.now c.args.new.now c.args.rule.now c.args.directive.now.kind c.args.directive.now.arguments c.activities.result.now c.from.result c.index-activities-from.result
     c.requires.rule c.requires.kind c.requires.takes c.activities.ensures.value c.from.ensures c.index-activities-from.is in
     let ready = is_ready c.args.old.now c.args.new.now c.args.rule.now c.args.directive.now.kind c.args.directive.now.arguments c.index-activities-from.result c.requires.rule c.requires.kind c.requires.takes there in
     ap length c.as_slice-2.ensures ∙ ready.count ∙ sym (ap length c.as_slice.ensures)
 
-pub all_fed-requires-clause-within : goal.all_fed-requires-clause-within
-all_fed-requires-clause-within c =
+pub mapped_arguments-requires-clause-within : goal.mapped_arguments-requires-clause-within
+mapped_arguments-requires-clause-within c =
     let there = ready_there c.args.old.now c.args.new.now c.args.rule.now c.args.directive.now.kind c.args.directive.now.arguments c.activities.result.now c.from.result c.index-activities-from.result
     c.requires.rule c.requires.kind c.requires.takes c.activities.ensures.value c.from.ensures c.index-activities-from.is in
     let ready = is_ready c.args.old.now c.args.new.now c.args.rule.now c.args.directive.now.kind c.args.directive.now.arguments c.index-activities-from.result c.requires.rule c.requires.kind c.requires.takes there in
@@ -28,11 +28,11 @@ all_fed-requires-clause-within c =
 
 -- the values that were made
 made : (arguments some : List Value) (parameters others : List Parameter) (feeds given : List Feed) → some ≡ arguments → others ≡ parameters → given ≡ feeds →
-    all_fed some (map (λ (parameter : Parameter). parameter.kind) others) given ≡ all_fed arguments (map (λ (parameter : Parameter). parameter.kind) parameters) feeds
+    mapped_arguments some (map (λ (parameter : Parameter). parameter.kind) others) given ≡ mapped_arguments arguments (map (λ (parameter : Parameter). parameter.kind) parameters) feeds
 made arguments some parameters others feeds given e f g =
-    ap (λ (vs : List Value). all_fed vs (map (λ (parameter : Parameter). parameter.kind) others) given) e
-    ∙ ap (λ (ps : List Parameter). all_fed arguments (map (λ (parameter : Parameter). parameter.kind) ps) given) f
-    ∙ ap (all_fed arguments (map (λ (parameter : Parameter). parameter.kind) parameters)) g
+    ap (λ (vs : List Value). mapped_arguments vs (map (λ (parameter : Parameter). parameter.kind) others) given) e
+    ∙ ap (λ (ps : List Parameter). mapped_arguments arguments (map (λ (parameter : Parameter). parameter.kind) ps) given) f
+    ∙ ap (mapped_arguments arguments (map (λ (parameter : Parameter). parameter.kind) parameters)) g
 
 pub first_unmet-requires-clause-typed : goal.first_unmet-requires-clause-typed
 first_unmet-requires-clause-typed c =

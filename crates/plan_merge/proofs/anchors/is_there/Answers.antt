@@ -1,6 +1,6 @@
 use Rattle.std.proofs.Common.{sym, ap, ◌∙◌}
 use Rattle.aerie_base.specs.plans.OfModel.{is_there}
-use Rattle.plan_merge.proofs.Finds.{among}
+use Rattle.aerie_base.specs.plans.FoundById.{among}
 use Rattle.plan_merge.proofs.anchors.is_there.Goals as goal
 
 pub returns-in-Some : goal.returns-in-Some

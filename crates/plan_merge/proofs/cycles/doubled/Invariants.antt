@@ -1,7 +1,7 @@
--- The leads of those so far.
+-- What is reached from those so far.
 use Rattle.std.proofs.Common.{◌≡◌, map, take}
-use Rattle.plan_merge.specs.Leads.{lead_from}
+use Rattle.plan_merge.specs.Reached.{reached_from}
 use Rattle.plan_merge.proofs.cycles.doubled.Given as goal
 
-abbrev pub invariant-loop-lead : goal.invariant-loop-lead
-invariant-loop-lead l = l.doubled.items ≡ map (lead_from l.directives l.leads) (take l.lead-index l.leads)
+abbrev pub invariant-loop-one : goal.invariant-loop-one
+invariant-loop-one g l = l.doubled.items ≡ map (reached_from (g.D.HasIds.as_directives l.directives) l.reached) (take l.one-index l.reached)

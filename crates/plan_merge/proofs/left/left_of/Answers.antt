@@ -1,7 +1,7 @@
 use Rattle.std.proofs.Common.{sym, ap, ◌∙◌}
 use Rattle.std.specs.Option.{option_copied}
 use Rattle.aerie_base.specs.plans.OfModel.{with_id}
-use Rattle.plan_merge.proofs.Renames.{id_found}
+use Rattle.aerie_base.specs.plans.FoundById.{id_found}
 use Rattle.plan_merge.proofs.left.left_of.Goals as goal
 
 pub left_of_both-requires-clause-same : goal.left_of_both-requires-clause-same

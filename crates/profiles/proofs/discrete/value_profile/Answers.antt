@@ -37,7 +37,7 @@ pub after_instant-showing-requires-clause-settled : goal.after_instant-showing-r
 after_instant-showing-requires-clause-settled c =
     let some : 0 < length c.as_slice-instants.result.now = some_there _ (sym c.is_empty.ensures ∙ c.if-is_empty.false) in
     let is = first_cut c.args.run.now.instants c.as_slice-instants.result.now c.index-instants-0.result c.as_slice-instants.ensures some c.index-instants-0.is in
-    let below : c.index-instants-0.result.time < c.args.run.now.reach = ltb-true _ _ (sym c.is_below.ensures ∙ c.if-not-is_below.false) in
+    let below : c.index-instants-0.result.time < c.args.run.now.reach = ltb-true _ _ (sym c.is_before.ensures ∙ c.if-not-is_before.false) in
     subst (λ (s : Showing). is_in_range (next_showing s c.args.read c.index-instants-0.result).state ≡ true) (sym c.at_start.ensures)
     (first_in_range c.args.model.now c.args.run.now c.args.read c.index-instants-0.result _ is c.can_be_followed.ensures.rise c.can_be_followed.ensures.instants.changes
     c.requires.there below c.can_be_followed.ensures.in_range)
@@ -46,7 +46,7 @@ pub loop-at-init : goal.loop-at-init
 loop-at-init c =
     let some : 0 < length c.as_slice-instants.result.now = some_there _ (sym c.is_empty.ensures ∙ c.if-is_empty.false) in
     let is = first_cut c.args.run.now.instants c.as_slice-instants.result.now c.index-instants-0.result c.as_slice-instants.ensures some c.index-instants-0.is in
-    let below : c.index-instants-0.result.time < c.args.run.now.reach = ltb-true _ _ (sym c.is_below.ensures ∙ c.if-not-is_below.false) in
+    let below : c.index-instants-0.result.time < c.args.run.now.reach = ltb-true _ _ (sym c.is_before.ensures ∙ c.if-not-is_before.false) in
     let start = first_showing c.args.model.now c.args.read in
     let showing : c.after_instant-showing.result ≡ next_showing start c.args.read c.index-instants-0.result =
     c.after_instant-showing.ensures ∙ ap (λ (s : Showing). next_showing s c.args.read c.index-instants-0.result) c.at_start.ensures in
@@ -58,11 +58,11 @@ loop-at-init c =
     (walk_starts c.args.model.now c.args.run.now c.args.read c.index-instants-0.result _ is c.can_be_followed.ensures.rise c.can_be_followed.ensures.instants.changes
     c.requires.there below)
 
-pub returns-then-not-is_below-2 : goal.returns-then-not-is_below-2
-returns-then-not-is_below-2 c =
+pub returns-then-not-is_before-2 : goal.returns-then-not-is_before-2
+returns-then-not-is_before-2 c =
     walk_ends c.args.model.now c.args.run.now c.args.read _ c.loop-at.showing c.loop-at.segments c.requires.shown
     (past_reach c.args.run.now.reach c.index-instants-at.result _ _ (cut_at c.as_slice-instants.result.now c.loop-at.at c.index-instants-at.result c.loop-at-test.true c.index-instants-at.is)
-    (ltb-false _ _ (sym c.is_below-in-loop-at.ensures ∙ c.if-not-is_below-2.true)))
+    (ltb-false _ _ (sym c.is_before-in-loop-at.ensures ∙ c.if-not-is_before-2.true)))
     c.loop-at.invariant
 
 pub after_instant-next-requires-clause-range : goal.after_instant-next-requires-clause-range
@@ -73,7 +73,7 @@ pub after_instant-next-requires-clause-settled : goal.after_instant-next-require
 after_instant-next-requires-clause-settled c =
     let instants = c.as_slice-instants.result.now in
     let cut = cut_at instants c.loop-at.at c.index-instants-at.result c.loop-at-test.true c.index-instants-at.is in
-    let below : c.index-instants-at.result.time < c.args.run.now.reach = ltb-true _ _ (sym c.is_below-in-loop-at.ensures ∙ c.if-not-is_below-2.false) in
+    let below : c.index-instants-at.result.time < c.args.run.now.reach = ltb-true _ _ (sym c.is_before-in-loop-at.ensures ∙ c.if-not-is_before-2.false) in
     let walk : ValueWalk c.args.model.now c.args.run.now c.args.read (c.index-instants-at.result ∷ drop (c.loop-at.at + 1) instants) c.loop-at.showing c.loop-at.segments =
     subst (λ (l : List Instant). ValueWalk c.args.model.now c.args.run.now c.args.read l c.loop-at.showing c.loop-at.segments) cut c.loop-at.invariant in
     next_in_range c.args.model.now c.args.run.now c.args.read c.index-instants-at.result (drop (c.loop-at.at + 1) instants) c.loop-at.showing c.loop-at.segments c.requires.there walk
@@ -83,7 +83,7 @@ pub loop-at-preserved : goal.loop-at-preserved
 loop-at-preserved c =
     let instants = c.as_slice-instants.result.now in
     let cut = cut_at instants c.loop-at.at c.index-instants-at.result c.loop-at-test.true c.index-instants-at.is in
-    let below : c.index-instants-at.result.time < c.args.run.now.reach = ltb-true _ _ (sym c.is_below-in-loop-at.ensures ∙ c.if-not-is_below-2.false) in
+    let below : c.index-instants-at.result.time < c.args.run.now.reach = ltb-true _ _ (sym c.is_before-in-loop-at.ensures ∙ c.if-not-is_before-2.false) in
     let walk : ValueWalk c.args.model.now c.args.run.now c.args.read (c.index-instants-at.result ∷ drop (c.loop-at.at + 1) instants) c.loop-at.showing c.loop-at.segments =
     subst (λ (l : List Instant). ValueWalk c.args.model.now c.args.run.now c.args.read l c.loop-at.showing c.loop-at.segments) cut c.loop-at.invariant in
     let next : Showing = next_showing c.loop-at.showing c.args.read c.index-instants-at.result in

@@ -22,12 +22,12 @@ returns-then-is_empty c =
     let reach : run.reach ≡ 0 = nothing_reached run.instants run.reach c.can_be_followed.ensures.instants (ap (λ (l : List Instant). length l) (sym c.as_slice-instants.ensures) ∙ none) in
     c.new-segments.ensures ∙ ap (line_segments (sums c.args.model.now run c.args.form.now) (rates c.args.model.now run c.args.form.now)) (sym reach)
 
-pub returns-then-not-is_below : goal.returns-then-not-is_below
-returns-then-not-is_below c =
+pub returns-then-not-is_before : goal.returns-then-not-is_before
+returns-then-not-is_before c =
     let run = c.args.run.now in
     let some : 0 < length c.as_slice-instants.result.now = some_there _ (sym c.is_empty.ensures ∙ c.if-is_empty.false) in
     let is = first_cut run.instants c.as_slice-instants.result.now c.index-instants-0.result c.as_slice-instants.ensures some c.index-instants-0.is in
-    let past : run.reach ≤ c.index-instants-0.result.time = ltb-false _ _ (sym c.is_below.ensures ∙ c.if-not-is_below.true) in
+    let past : run.reach ≤ c.index-instants-0.result.time = ltb-false _ _ (sym c.is_before.ensures ∙ c.if-not-is_before.true) in
     let reach : run.reach ≡ 0 = none_below run.instants _ c.index-instants-0.result run.reach is c.can_be_followed.ensures.rise past in
     c.new-segments.ensures ∙ ap (line_segments (sums c.args.model.now run c.args.form.now) (rates c.args.model.now run c.args.form.now)) (sym reach)
 
@@ -58,8 +58,8 @@ line_after-line-requires-clause-settled c =
     let items : c.in_ok-watched.watched.items ≡ watched_on (initial model) c.args.form.now.terms = c.in_ok-watched.ensures ∙ ap (watched_on (initial model)) c.as_slice.ensures in
     let some : 0 < length c.as_slice-instants.result.now = some_there _ (sym c.is_empty.ensures ∙ c.if-is_empty.false) in
     let is = first_cut c.args.run.now.instants c.as_slice-instants.result.now first c.as_slice-instants.ensures some c.index-instants-0.is in
-    let below : c.index-instants-0.result.time < c.args.run.now.reach = ltb-true _ _ (sym c.is_below.ensures ∙ c.if-not-is_below.false) in
-    subst (λ (n : ℕ). All IsWatchable (map (advanced (c.index-instants-0.result.time - n) c.index-instants-0.result.changed) c.in_ok-watched.watched.items)) (sym c.start_time.ensures)
+    let below : c.index-instants-0.result.time < c.args.run.now.reach = ltb-true _ _ (sym c.is_before.ensures ∙ c.if-not-is_before.false) in
+    subst (λ (n : ℕ). All IsWatchable (map (advanced (c.index-instants-0.result.time - n) c.index-instants-0.result.changed) c.in_ok-watched.watched.items)) (sym c.zero.ensures)
     (subst (λ (w : List Watched). All IsWatchable (map (advanced (c.index-instants-0.result.time - 0) c.index-instants-0.result.changed) w)) (sym items)
     (first_watchable model c.args.run.now c.args.form.now (form_of model.cells c.args.form.now c.requires.form) first _ is c.can_be_followed.ensures.rise
     c.can_be_followed.ensures.instants.changes below c.can_be_followed.ensures.in_range))
@@ -72,14 +72,14 @@ loop-at-init c =
     let items : c.in_ok-watched.watched.items ≡ watched_on (initial model) terms = c.in_ok-watched.ensures ∙ ap (watched_on (initial model)) c.as_slice.ensures in
     let some : 0 < length c.as_slice-instants.result.now = some_there _ (sym c.is_empty.ensures ∙ c.if-is_empty.false) in
     let is = first_cut c.args.run.now.instants c.as_slice-instants.result.now first c.as_slice-instants.ensures some c.index-instants-0.is in
-    let below : first.time < c.args.run.now.reach = ltb-true _ _ (sym c.is_below.ensures ∙ c.if-not-is_below.false) in
+    let below : first.time < c.args.run.now.reach = ltb-true _ _ (sym c.is_before.ensures ∙ c.if-not-is_before.false) in
     let moved : c.line_after-line.new.watched.items ≡ map (advanced (first.time - 0) first.changed) (watched_on (initial model) terms) =
     c.line_after-line.ensures.watched
-    ∙ (ap (λ (n : ℕ). map (advanced (first.time - n) first.changed) c.in_ok-watched.watched.items) c.start_time.ensures
+    ∙ (ap (λ (n : ℕ). map (advanced (first.time - n) first.changed) c.in_ok-watched.watched.items) c.zero.ensures
     ∙ ap (λ (w : List Watched). map (advanced (first.time - 0) first.changed) w) items) in
     let line : c.line_after-line.result ≡ summed_line first.time (map (advanced (first.time - 0) first.changed) (watched_on (initial model) terms)) =
     c.line_after-line.ensures.line
-    ∙ (ap (λ (n : ℕ). summed_line first.time (map (advanced (first.time - n) first.changed) c.in_ok-watched.watched.items)) c.start_time.ensures
+    ∙ (ap (λ (n : ℕ). summed_line first.time (map (advanced (first.time - n) first.changed) c.in_ok-watched.watched.items)) c.zero.ensures
     ∙ ap (λ (w : List Watched). summed_line first.time (map (advanced (first.time - 0) first.changed) w)) items) in
     let segments : c.put.new.segments ≡ summed_line first.time (map (advanced (first.time - 0) first.changed) (watched_on (initial model) terms)) ∷ [] =
     c.in_ok-put.ensures ∙ (ap (λ (l : List Segment). l ++ c.line_after-line.result ∷ []) c.new-segments.ensures ∙ ap (λ (l : Segment). l ∷ []) line) in
@@ -91,11 +91,11 @@ loop-at-init c =
       small = c.line_after-line.ensures.small;
     }
 
-pub returns-then-not-is_below-2 : goal.returns-then-not-is_below-2
-returns-then-not-is_below-2 c =
+pub returns-then-not-is_before-2 : goal.returns-then-not-is_before-2
+returns-then-not-is_before-2 c =
     walk_ends c.args.model.now c.args.run.now c.args.form.now (form_of c.args.model.now.cells c.args.form.now c.requires.form) _ _ c.loop-at.line c.loop-at.segments
     (past_reach c.args.run.now.reach c.index-instants-at.result _ _ (cut_at c.as_slice-instants.result.now c.loop-at.at c.index-instants-at.result c.loop-at-test.true c.index-instants-at.is)
-    (ltb-false _ _ (sym c.is_below-in-loop-at.ensures ∙ c.if-not-is_below-2.true)))
+    (ltb-false _ _ (sym c.is_before-in-loop-at.ensures ∙ c.if-not-is_before-2.true)))
     c.loop-at.invariant.walk
 
 pub line_after-next-requires-clause-watched : goal.line_after-next-requires-clause-watched
@@ -123,7 +123,7 @@ pub line_after-next-requires-clause-settled : goal.line_after-next-requires-clau
 line_after-next-requires-clause-settled c =
     let cut = cut_at c.as_slice-instants.result.now c.loop-at.at c.index-instants-at.result c.loop-at-test.true c.index-instants-at.is in
     let walk = subst (λ (l : List Instant). LineWalk c.args.model.now c.args.run.now c.args.form.now l c.loop-at.watched.items c.loop-at.line c.loop-at.segments) cut c.loop-at.invariant.walk in
-    let below : c.index-instants-at.result.time < c.args.run.now.reach = ltb-true _ _ (sym c.is_below-in-loop-at.ensures ∙ c.if-not-is_below-2.false) in
+    let below : c.index-instants-at.result.time < c.args.run.now.reach = ltb-true _ _ (sym c.is_before-in-loop-at.ensures ∙ c.if-not-is_before-2.false) in
     next_watchable c.args.model.now c.args.run.now c.args.form.now (form_of c.args.model.now.cells c.args.form.now c.requires.form) c.index-instants-at.result _ c.loop-at.watched.items c.loop-at.line
     c.loop-at.segments walk c.can_be_followed.ensures.in_range below
 
@@ -140,7 +140,7 @@ loop-at-preserved c =
     let old : Segment = c.loop-at.line in
     let cut = cut_at c.as_slice-instants.result.now c.loop-at.at c.index-instants-at.result c.loop-at-test.true c.index-instants-at.is in
     let walk = subst (λ (l : List Instant). LineWalk c.args.model.now c.args.run.now c.args.form.now l c.loop-at.watched.items c.loop-at.line c.loop-at.segments) cut c.loop-at.invariant.walk in
-    let below : instant.time < c.args.run.now.reach = ltb-true _ _ (sym c.is_below-in-loop-at.ensures ∙ c.if-not-is_below-2.false) in
+    let below : instant.time < c.args.run.now.reach = ltb-true _ _ (sym c.is_before-in-loop-at.ensures ∙ c.if-not-is_before-2.false) in
     let next : Segment = summed_line instant.time (map (advanced (instant.time - old.from) instant.changed) c.loop-at.watched.items) in
     let segments : c.put-in-loop-at.new.segments ≡ c.loop-at.segments ++ cond (int_eq (segment_value old instant.time) next.value && int_eq old.rate next.rate) [] (next ∷ []) =
     c.in_ok-put-2.ensures

@@ -3,7 +3,7 @@ use Rattle.std.proofs.Common.{◌++◌, ◌<◌, ◌∙◌, ℕ, ap, length, sub
 use Rattle.std.specs.Prelude.{List}
 use Rattle.std.specs.List.{All}
 use Rattle.std.proofs.lemmas.Result.{IfOk-equal}
-use Rattle.aerie_text.specs.Json.{object_of}
+use Rattle.json_line.specs.Json.{object_of}
 use Rattle.json_line.specs.Parts.{data_tokens}
 use Rattle.report_text.proofs.ArgumentOrders.{given_fields, order_within}
 use Rattle.report_text.proofs.arguments.write_arguments.Goals as goal

@@ -1,22 +1,21 @@
 -- The array is written item by item.
-use Rattle.std.proofs.Common.{◌∙◌, ap, slice_get}
-use Rattle.std.specs.Prelude.{List, ℕ}
-use Rattle.std.proofs.lemmas.Option.{slice_get_read}
 use Rattle.std.proofs.lemmas.Result.{IfOk-equal}
-use Rattle.std.proofs.Common.{refl, sym}
-use Rattle.aerie_base.specs.declared.models.Resource.{Resource}
+use Rattle.profiles.specs.Profiles.{profile_of}
 use Rattle.report_text.specs.ProfileLines.{resource_data}
 use Rattle.report_text.proofs.Arrays.{begins, goes_on, is_whole}
+use Rattle.report_text.proofs.FoundAt.{found_at}
 use Rattle.report_text.proofs.profile_lines.write_resources.Goals as goal
 
 pub loop-number-init : goal.loop-number-init
 loop-number-init c =
     begins (resource_data c.args.wording.now c.args.run.now) c.args.resources.now c.args.line.now c.begin_array.new.self c.in_ok-begin_array.ensures
 
-pub write_resource-requires-clause-named : goal.write_resource-requires-clause-named
-write_resource-requires-clause-named c =
-    ap (λ (all : List (List ℕ × Resource)). slice_get all c.loop-number.number) (sym c.requires.all)
-    ∙ slice_get_read c.args.resources.now _ c.loop-number.number c.index-resources-number.result refl c.loop-number-test.true c.index-resources-number.is
+pub write_resource-requires : goal.write_resource-requires
+write_resource-requires c = record {
+  found =
+      found_at (λ named. profile_of c.args.wording.now c.args.run.now named.1) c.args.resources.now c.args.profiles.now c.loop-number.number
+      c.index-resources-number.result c.index-profiles-number.result c.requires.found c.loop-number-test.true c.index-resources-number.is c.index-profiles-number.is;
+}
 
 pub loop-number-preserved : goal.loop-number-preserved
 loop-number-preserved c =

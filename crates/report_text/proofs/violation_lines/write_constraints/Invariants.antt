@@ -5,7 +5,7 @@ use Rattle.json_line.specs.Parts.{listed_tokens}
 use Rattle.report_text.specs.Violations.{constraint_data}
 use Rattle.report_text.proofs.violation_lines.write_constraints.Given as goal
 
-abbrev pub invariant-loop-constraint : goal.invariant-loop-constraint
-invariant-loop-constraint l =
-    l.line ++ listed_tokens (flat_map (constraint_data l.wording l.run) (drop l.constraint-index l.constraints))
+abbrev pub invariant-loop-number : goal.invariant-loop-number
+invariant-loop-number l =
+    l.line ++ listed_tokens (flat_map (constraint_data l.wording l.run) (drop l.number l.constraints))
     ≡ l.fn.line ++ listed_tokens (flat_map (constraint_data l.wording l.run) l.constraints)

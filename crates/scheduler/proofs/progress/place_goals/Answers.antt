@@ -1,7 +1,7 @@
 use Rattle.std.proofs.Common.{◌∙◌, ap, length, sym}
 use Rattle.scheduler.specs.FreshRuns.{fresh_run}
 use Rattle.scheduler.specs.Scheduling.{GoalsPlaced, trial_limit}
-use Rattle.scheduler.specs.Standing.{all_shown}
+use Rattle.scheduler.specs.InProgram.{all_shown}
 use Rattle.scheduler.proofs.GoalCounts.{as_many, none_more}
 use Rattle.scheduler.proofs.progress.place_goals.Goals as goal
 

@@ -12,8 +12,8 @@ use Rattle.scheduler.proofs.ByAdds.{schedule_by_adds}
 use Rattle.scheduler.proofs.Placed.{is_placed, schedule_like, schedule_placed, schedule_told}
 use Rattle.scheduler.proofs.scheduling.schedule.Goals as goal
 
-pub returns-clause-same_place : goal.returns-clause-same_place
-returns-clause-same_place g c =
+pub returns-clause-same_position : goal.returns-clause-same_position
+returns-clause-same_position g c =
     let bound = g.M.Simulator.bound c.args.simulator.now in
     subst (λ (s : Schedule). IsLikePlan c.args.plan.now s.plan) (sym c.in_ok-whole.ensures.scheduled)
     (schedule_like c.args.model.now bound c.args.constraints.now c.args.goals.now c.args.plan.now)

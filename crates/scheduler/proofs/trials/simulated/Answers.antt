@@ -2,7 +2,7 @@ use Rattle.std.proofs.Common.{◌∙◌, ap, sym, subst}
 use Rattle.aerie_base.specs.declared.plans.Plan.{Plan}
 use Rattle.aerie_base.specs.plans.OfModel.{IsPlanOf}
 use Rattle.scheduler.specs.FreshRuns.{fresh_run}
-use Rattle.scheduler.specs.Standing.{IsKeptOf}
+use Rattle.scheduler.specs.InProgram.{IsKeptOf}
 use Rattle.scheduler.proofs.FreshRunFacts.{fresh_is, kept_is}
 use Rattle.scheduler.proofs.trials.simulated.Goals as goal
 

@@ -1,7 +1,7 @@
 use Rattle.std.proofs.Common.{◌&&◌, ◌||◌, drop, ◌+◌, sym, ap, ◌∙◌}
 use Rattle.aerie_base.specs.models.Names.{same_name}
 use Rattle.seq_expand.specs.Closeness.{is_soon, is_too_close as is_too_close_by}
-use Rattle.seq_expand.proofs.Places.{spacing_next}
+use Rattle.seq_expand.proofs.Positions.{spacing_next}
 use Rattle.seq_expand.proofs.closeness.is_too_close.Goals as goal
 
 pub returns-then-is_close_by : goal.returns-then-is_close_by

@@ -2,4 +2,4 @@ use Rattle.session_judge.proofs.GoodSeries.{good_series}
 use Rattle.session_judge.proofs.judging.with_goals.Goals as goal
 
 pub session_goals-requires-clause-series : goal.session_goals-requires-clause-series
-session_goals-requires-clause-series c = good_series c.args.session.datasets c.requires.session.datasets
+session_goals-requires-clause-series c = good_series c.read_series_may_be_given.ensures c.args.session.datasets c.requires.session.datasets

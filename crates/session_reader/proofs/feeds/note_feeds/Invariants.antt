@@ -1,5 +1,6 @@
 use Rattle.std.proofs.Common.{◌≡◌, drop}
-use Rattle.session_reader.specs.Diagnostics.{noted, all_of}
+use Rattle.diagnostics.specs.Diagnostics.{all_of}
+use Rattle.session_reader.specs.Diagnostics.{noted}
 use Rattle.session_reader.specs.MappingDiagnostics.{feed_diagnostics}
 use Rattle.session_reader.proofs.feeds.note_feeds.Given as goal
 

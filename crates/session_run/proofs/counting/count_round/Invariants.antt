@@ -4,5 +4,5 @@ use Rattle.session_run.proofs.counting.count_round.Given as goal
 
 abbrev pub invariant-loop-which : goal.invariant-loop-which
 invariant-loop-which g l =
-    IsInCount l.place.mission.now l.place.lock.now l.clients l.number l.which l.fn.pass l.pass l.fn.summary l.summary
+    IsInCount l.workplace.mission.now l.workplace.lock.now l.clients l.number l.which l.fn.pass l.pass l.fn.summary l.summary
     × (l.fn.steps ≤ l.steps)

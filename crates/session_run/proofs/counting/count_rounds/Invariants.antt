@@ -5,6 +5,6 @@ use Rattle.session_run.proofs.counting.count_rounds.Given as goal
 
 abbrev pub invariant-loop-number : goal.invariant-loop-number
 invariant-loop-number g l =
-    HasCountedUntil l.place.mission.now l.clients l.number 0 l.fn.pass l.pass l.summary
-    × IsAtWork l.place.mission.now l.place.lock.now l.pass
+    HasCountedUntil l.workplace.mission.now l.clients l.number 0 l.fn.pass l.pass l.summary
+    × IsAtWork l.workplace.mission.now l.workplace.lock.now l.pass
     × (l.fn.steps ≤ l.steps)

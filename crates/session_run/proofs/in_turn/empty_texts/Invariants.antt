@@ -1,6 +1,6 @@
 use Rattle.std.proofs.Common.{◌≡◌, map}
 use Rattle.std.specs.String.{string_bytes}
-use Rattle.session_run.specs.Turning.{texts_without}
+use Rattle.session_run.specs.Rounds.{texts_without}
 use Rattle.session_run.proofs.in_turn.empty_texts.Given as goal
 
 abbrev pub invariant-loop-number : goal.invariant-loop-number

@@ -5,5 +5,5 @@ use Rattle.session_run.proofs.in_turn.take_round.Given as goal
 
 abbrev pub invariant-loop-which : goal.invariant-loop-which
 invariant-loop-which g l =
-    IsInRound l.place.mission.now l.place.lock.now l.clients l.number l.which l.fn.pass l.pass (map string_bytes l.fn.texts.items) (map string_bytes l.texts.items)
+    IsInRound l.workplace.mission.now l.workplace.lock.now l.clients l.number l.which l.fn.pass l.pass (map string_bytes l.fn.texts.items) (map string_bytes l.texts.items)
     × (l.fn.steps ≤ l.steps)

@@ -33,6 +33,6 @@ returns g c = record {
   many = search rules;
   each = λ which work done at found.
       let given = (c.in_ok-dones.ensures.each which done (slice_get_within c.args.works.items which work at)).1 in
-      subst (λ (x : Work). HasDoneWork c.args.place.now.mission.now c.args.clients.now x done) (sym (given.job_is work) ∙ got c.args.works.items which work at)
-      (subst (λ (x : Done). HasDoneWork c.args.place.now.mission.now c.args.clients.now given.job x) (got c.in_ok-dones.dones.items which done found) given.call.met);
+      subst (λ (x : Work). HasDoneWork c.args.workplace.now.mission.now c.args.clients.now x done) (sym (given.job_is work) ∙ got c.args.works.items which work at)
+      (subst (λ (x : Done). HasDoneWork c.args.workplace.now.mission.now c.args.clients.now given.job x) (got c.in_ok-dones.dones.items which done found) given.call.met);
 }

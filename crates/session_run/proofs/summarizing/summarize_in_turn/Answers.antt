@@ -1,7 +1,7 @@
 use Rattle.std.proofs.Common.{◌≡◌, false, List, sym, ap, subst, ◌∙◌}
 use Rattle.hangar_core.specs.declared.workspaces.Workspace.{Workspace}
 use Rattle.hangar_core.specs.Journals.{IsReplay}
-use Rattle.hangar_core.specs.Standing.{CountedWorkspace}
+use Rattle.hangar_core.specs.ValidWorkspaces.{CountedWorkspace}
 use Rattle.hangar_lock.specs.Passes.{PassView}
 use Rattle.client_work.specs.declared.missions.Mission.{Mission}
 use Rattle.client_work.specs.Working.{IsAtWork}
@@ -12,8 +12,8 @@ use Rattle.session_run.proofs.Counted.{summarized}
 use Rattle.session_run.proofs.Rules.{at_work}
 use Rattle.session_run.proofs.summarizing.summarize_in_turn.Goals as goal
 
-pub count_rounds-requires-clause-place : goal.count_rounds-requires-clause-place
-count_rounds-requires-clause-place g c κs within =
+pub count_rounds-requires-clause-workplace : goal.count_rounds-requires-clause-workplace
+count_rounds-requires-clause-workplace g c κs within =
     subst (λ (mission : Mission). IsAtWork mission c.in_ok-lock.lock c.in_ok-lock.pass) (sym c.in_ok-mission.ensures)
     (at_work c.args.judged.now c.args.bound false c.in_ok-lock.lock c.in_ok-lock.pass c.requires.session c.requires.bound
     (ap (λ (h : CountedWorkspace). h.workspace) c.in_ok-lock.ensures.opened ∙ c.in_ok-hangar.ensures.workspace) c.in_ok-lock.ensures.first)

@@ -1,6 +1,6 @@
 use Rattle.std.proofs.Common.{◌≡◌, ◌++◌, drop, map}
 use Rattle.std.specs.String.{string_bytes}
-use Rattle.aerie_text.specs.Json.{line_of}
+use Rattle.json_line.specs.Json.{line_of}
 use Rattle.report_text.specs.JournalLines.{journal_data}
 use Rattle.session_run.specs.Joined.{joined_texts}
 use Rattle.session_run.proofs.texts.whole_text.Given as goal

@@ -2,7 +2,7 @@ use Rattle.std.proofs.Common.{◌≡◌, ◌≤◌, ℕ, List, Some, cond, lengt
 use Rattle.std.specs.HashMap as hash
 use Rattle.aerie_base.specs.Paths.{is_prefix}
 use Rattle.run_data.specs.Spans.{same_path}
-use Rattle.span_table.proofs.Noting.{so_far}
+use Rattle.aerie_base.specs.PathsAbove.{so_far}
 use Rattle.span_table.proofs.last_times.note_time.Given as goal
 
 -- the paths above the one where the loop is have the time

@@ -8,7 +8,7 @@ use Rattle.run_data.specs.laws.Generations.{child_jobs}
 use Rattle.engine_core.specs.BatchDues.{IsSeenStep, fresh}
 use Rattle.engine_core.specs.BatchGenerations.{HasRoomForChild}
 use Rattle.engine_core.specs.BatchViews.{CanEmitAll}
-use Rattle.engine_core.proofs.BatchTurns.{pair_here}
+use Rattle.engine_core.proofs.FrameByFrame.{pair_here}
 use Rattle.engine_core.proofs.WholeGenerations.{adds_none, adds_more, adds_all, room_at}
 use Rattle.engine_core.proofs.batches.generations.add_all.Goals as goal
 

@@ -1,6 +1,6 @@
 -- Frames and jobs are passed side by side.
 use Rattle.std.proofs.Common.{◌≤◌, ◌∙◌, sym, length, arith}
-use Rattle.engine_core.proofs.BatchTurns.{frame_turn, frames_end, pair_here, first_of_rest}
+use Rattle.engine_core.proofs.FrameByFrame.{frame_iteration, frames_end, pair_here, first_of_rest}
 use Rattle.engine_core.proofs.batches.generations.add_each.Goals as goal
 
 pub add_frame-requires : goal.add_frame-requires
@@ -17,7 +17,7 @@ loop-frame-preserved c =
       left = here.1;
       count = omega (arith, c.in-Some.ensures.steps.1, c.loop-frame.invariant.count);
       made =
-          frame_turn c.args.model.now c.args.jobs.now c.args.frames c.loop-frame.made.items c.add_frame.new.made.items c.loop-frame.dues c.in_ok-dues.dues _ c.loop-frame.at
+          frame_iteration c.args.model.now c.args.jobs.now c.args.frames c.loop-frame.made.items c.add_frame.new.made.items c.loop-frame.dues c.in_ok-dues.dues _ c.loop-frame.at
           (c.made.result, c.index-jobs-at.result) c.in-Some.frame job here.0 c.in_ok-dues.ensures c.loop-frame.invariant.made;
     }
 

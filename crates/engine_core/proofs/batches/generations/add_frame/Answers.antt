@@ -1,5 +1,5 @@
 -- By whether the path of the job has room.
-use Rattle.engine_core.proofs.BatchTurns.{adds_due, adds_deep}
+use Rattle.engine_core.proofs.FrameByFrame.{adds_due, adds_deep}
 use Rattle.engine_core.proofs.batches.generations.add_frame.Goals as goal
 
 pub returns-then-children-lt-CHILD_LIMIT : goal.returns-then-children-lt-CHILD_LIMIT

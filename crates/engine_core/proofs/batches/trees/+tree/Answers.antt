@@ -6,7 +6,7 @@ use Rattle.run_data.specs.declared.frames.Frame.{Frame}
 use Rattle.run_data.specs.Frames.{room_of}
 use Rattle.run_data.specs.laws.Trees.{parts_by}
 use Rattle.engine_core.specs.BatchTrees.{parts_below}
-use Rattle.engine_core.proofs.TreeParts.{rebuilt_is, part_turn, all_parts, of_found, is_child, has_child, child_is_below, none_below}
+use Rattle.engine_core.proofs.TreeParts.{rebuilt_is, part_iteration, all_parts, of_found, is_child, has_child, child_is_below, none_below}
 use Rattle.engine_core.proofs.batches.trees.+tree.Goals as goal
 
 pub child_parts-returns-then-children-ge-CHILD_LIMIT : goal.child_parts-returns-then-children-ge-CHILD_LIMIT
@@ -41,7 +41,7 @@ pub parts-loop-item-preserved : goal.parts-loop-item-preserved
 parts-loop-item-preserved t c = record {
   made =
       rw c.children_in-next.ensures.value
-      (part_turn (parts_below c.args.frames.now (room_of c.args.path.now)) c.args.path.now c.as_slice-items.result.now c.loop-item.next c.loop-item.item-index c.item-item.result
+      (part_iteration (parts_below c.args.frames.now (room_of c.args.path.now)) c.args.path.now c.as_slice-items.result.now c.loop-item.next c.loop-item.item-index c.item-item.result
       c.loop-item-test.true c.item-item.is c.loop-item.parts _ c.push.new.self c.in_ok-part.part c.in_ok-part.ensures c.in_ok-push.ensures.pushed c.loop-item.invariant.made);
   next = omega (arith, c.loop-item.invariant.next, c.children_in-next.ensures.few);
 }

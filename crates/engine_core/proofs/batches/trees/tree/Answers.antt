@@ -4,7 +4,7 @@ use Rattle.aerie_base.specs.Ranges.{step_limit}
 use Rattle.run_data.specs.declared.jobs.Job.{Job}
 use Rattle.run_data.specs.Frames.{room_of}
 use Rattle.run_data.specs.laws.Trees.{rebuilt}
-use Rattle.engine_core.proofs.BatchTurns.{pair_here}
+use Rattle.engine_core.proofs.FrameByFrame.{pair_here}
 use Rattle.engine_core.proofs.ChildEffects.{each_at}
 use Rattle.engine_core.proofs.TreeParts.{job_part}
 use Rattle.engine_core.proofs.batches.trees.tree.Goals as goal

@@ -23,11 +23,11 @@ after_end-requires-clause-quiet g c =
     all_quiet c.reached_states_are_of_the_model.ensures c.args.model.now c.args.self c.cells.ensures.valid c.requires.course c.args.ready.now c.requires.ready
     c.reached_states_are_quiet.ensures
 
-pub returns-clause-turn : goal.returns-clause-turn
-returns-clause-turn g c =
+pub returns-clause-stage : goal.returns-clause-stage
+returns-clause-stage g c =
     stands_after c.reached_states_are_of_the_model.ensures c.args.model.now c.args.self c.cells.ensures.valid c.requires.course c.args.ready.now c.requires.ready
-    c.requires.job c.run_batch.new.cells c.in_ok-end.end c.in_ok-end.ensures.end c.in_ok-turn.turn c.in_ok-turn.ensures.place c.in_ok-turn.ensures.plan c.in_ok-turn.ensures.bound
-    c.in_ok-turn.ensures.kept
+    c.requires.job c.run_batch.new.cells c.in_ok-end.end c.in_ok-end.ensures.end c.in_ok-stage.stage c.in_ok-stage.ensures.point c.in_ok-stage.ensures.plan c.in_ok-stage.ensures.bound
+    c.in_ok-stage.ensures.kept
 
 pub returns-clause-frugal : goal.returns-clause-frugal
 returns-clause-frugal g c =

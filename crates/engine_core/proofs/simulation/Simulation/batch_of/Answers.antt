@@ -26,5 +26,5 @@ after_end-requires-clause-quiet c =
 pub returns : goal.returns
 returns c =
     stands_after c.reached_states_are_of_the_model.ensures c.args.model.now c.args.self c.cells.ensures.valid c.requires.course c.args.ready.now c.requires.ready
-    c.requires.job c.take_batch.new.cells c.in_ok-end.end c.in_ok-end.ensures.end c.in_ok-turn.turn c.in_ok-turn.ensures.place c.in_ok-turn.ensures.plan c.in_ok-turn.ensures.bound
-    c.in_ok-turn.ensures.kept
+    c.requires.job c.take_batch.new.cells c.in_ok-end.end c.in_ok-end.ensures.end c.in_ok-stage.stage c.in_ok-stage.ensures.point c.in_ok-stage.ensures.plan c.in_ok-stage.ensures.bound
+    c.in_ok-stage.ensures.kept

@@ -4,10 +4,10 @@ use Rattle.engine_core.proofs.simulation.Simulation.begin.Goals as goal
 
 pub returns-clause-state : goal.returns-clause-state
 returns-clause-state c =
-    starts c.args.model.now c.args.plan.now c.new.result (record { time = c.first_time-time.result; spent = 0; cells = c.in_ok-cells.cells; tasks = c.in_ok-tasks.tasks })
-    c.new.ensures c.first_time-time.ensures refl c.in_ok-cells.ensures.value c.in_ok-tasks.ensures.table
+    starts c.args.model.now c.args.plan.now c.new.result (record { time = c.zero-time.result; spent = 0; cells = c.in_ok-cells.cells; tasks = c.in_ok-tasks.tasks })
+    c.new.ensures c.zero-time.ensures refl c.in_ok-cells.ensures.value c.in_ok-tasks.ensures.table
 
 pub returns-clause-kept : goal.returns-clause-kept
 returns-clause-kept c =
-    kept_first c.args.model.now c.args.plan.now.duration (record { time = c.first_time-time.result; spent = 0; cells = c.in_ok-cells.cells; tasks = c.in_ok-tasks.tasks })
-    c.first_time-time.ensures c.in_ok-cells.ensures.value c.in_ok-tasks.ensures.kept
+    kept_first c.args.model.now c.args.plan.now.duration (record { time = c.zero-time.result; spent = 0; cells = c.in_ok-cells.cells; tasks = c.in_ok-tasks.tasks })
+    c.zero-time.ensures c.in_ok-cells.ensures.value c.in_ok-tasks.ensures.kept

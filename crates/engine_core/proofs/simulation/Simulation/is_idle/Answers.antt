@@ -1,6 +1,6 @@
 use Rattle.run_data.specs.Tasks.{ready_jobs}
 use Rattle.run_data.specs.laws.NumberedTasks.{sorted_tasks}
-use Rattle.engine_core.proofs.StandingTurns.{idle_is}
+use Rattle.engine_core.proofs.Transitions.{idle_is}
 use Rattle.engine_core.proofs.simulation.Simulation.is_idle.Goals as goal
 
 pub returns : goal.returns

@@ -60,4 +60,4 @@ returns c =
     stands_moved c.reached_states_are_of_the_model.ensures c.args.model.now c.args.self c.cells.ensures.valid c.requires.course
     c.requires.idle c.tasks_stand_by_number.ensures.changed c.in_ok-present.present c.in_ok-present.ensures.time c.in_ok-present.ensures.spent
     c.in_ok-present.ensures.cells c.in_ok-present.ensures.tasks
-    (c.is_ready.ensures.none c.if-is_ready.false c.in_ok-present.present.cells) c.in_ok-turn.turn c.in_ok-turn.ensures
+    (c.is_ready.ensures.none c.if-is_ready.false c.in_ok-present.present.cells) c.in_ok-stage.stage c.in_ok-stage.ensures

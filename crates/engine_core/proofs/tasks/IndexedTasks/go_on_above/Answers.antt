@@ -2,7 +2,7 @@ use Rattle.std.proofs.Common.{◌≡◌, ◌+◌, ◌∙◌, subst, List, ℕ, a
 use Rattle.aerie_base.specs.Paths.{comes_from_daemon, id_of}
 use Rattle.engine_core.specs.GoingOn.{GoOnOf, IsAbove}
 use Rattle.engine_core.proofs.Candidates.{goes_root_of, goes_child}
-use Rattle.engine_core.proofs.PathsAbove.{made_is, next_is, next_child, last_is, not_none, so_far}
+use Rattle.aerie_base.specs.PathsAbove.{made_is, next_is, next_child, last_is, not_none, so_far}
 use Rattle.engine_core.proofs.tasks.IndexedTasks.go_on_above.Goals as goal
 
 pub loop-number-init : goal.loop-number-init

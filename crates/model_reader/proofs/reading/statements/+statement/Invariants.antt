@@ -1,6 +1,6 @@
 use Rattle.std.proofs.Common.{length, ◌+◌, ◌*◌}
 use Rattle.readers.proofs.Going.{Going}
-use Rattle.model_reader.specs.reading.Statements.{begins_stmt, inner_blocks, stmt_turn_at}
+use Rattle.model_reader.specs.reading.Statements.{begins_stmt, inner_blocks, stmt_iteration_at}
 use Rattle.model_reader.proofs.reading.statements.+statement.Given as goal
 
 abbrev pub decreases-nested : goal.decreases-nested
@@ -18,15 +18,15 @@ decreases-if_ l = 10 * l.room + 6
 abbrev pub decreases-while_ : goal.decreases-while_
 decreases-while_ l = 10 * l.room + 6
 
-abbrev pub decreases-stmt_turn : goal.decreases-stmt_turn
-decreases-stmt_turn l = 10 * l.room + 8
+abbrev pub decreases-stmt_iteration : goal.decreases-stmt_iteration
+decreases-stmt_iteration l = 10 * l.room + 8
 
 abbrev pub decreases-stmts : goal.decreases-stmts
 decreases-stmts l = 10 * l.room + 9
 
 abbrev pub invariant-stmts-loop-alloc : goal.invariant-stmts-loop-alloc
 invariant-stmts-loop-alloc l =
-    Going begins_stmt (stmt_turn_at l.room (inner_blocks l.room)) l.initial.body l.initial.reader l.body l.reader
+    Going begins_stmt (stmt_iteration_at l.room (inner_blocks l.room)) l.initial.body l.initial.reader l.body l.reader
 
 abbrev pub decreases-stmts-loop-alloc : goal.decreases-stmts-loop-alloc
 decreases-stmts-loop-alloc l = length l.reader

@@ -1,5 +1,5 @@
-use Rattle.run_data.proofs.Ending.{turns_finish, has_fresh_run, fresh_by_turns}
+use Rattle.run_data.proofs.Ending.{transitions_finish, has_fresh_run, fresh_by_transitions}
 use Rattle.run_data.proofs.laws.runs.simulation_ends.Goals as goal
 
 pub returns : goal.returns
-returns c = record { turns = turns_finish; run = has_fresh_run; same = fresh_by_turns }
+returns c = record { transitions = transitions_finish; run = has_fresh_run; same = fresh_by_transitions }

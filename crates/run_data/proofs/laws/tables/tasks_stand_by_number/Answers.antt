@@ -1,4 +1,4 @@
-use Rattle.run_data.proofs.NumberedTasks.{are_in_order, order_is_distinct, order_is_itself, found_by_number, new_is_not_there, set_by_number, pushed_by_number, changed_by_number, changed_in_turn, set_keeps_distinct, push_keeps_distinct}
+use Rattle.run_data.specs.NumberLaws.{are_in_order, order_is_distinct, order_is_itself, found_by_number, new_is_not_there, set_by_number, pushed_by_number, changed_by_number, changed_in_turn, set_keeps_distinct, push_keeps_distinct}
 use Rattle.run_data.proofs.laws.tables.tasks_stand_by_number.Goals as goal
 
 pub returns : goal.returns

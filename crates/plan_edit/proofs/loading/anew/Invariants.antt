@@ -1,7 +1,0 @@
--- Those so far are anew, and those behind as they were.
-use Rattle.std.proofs.Common.{◌≡◌, ◌++◌, map, take, drop}
-use Rattle.plan_edit.specs.Loading.{directive_anew}
-use Rattle.plan_edit.proofs.loading.anew.Given as goal
-
-abbrev pub invariant-loop-at : goal.invariant-loop-at
-invariant-loop-at l = l.directives ≡ map (directive_anew l.first l.all) (take l.at l.initial.directives) ++ drop l.at l.initial.directives

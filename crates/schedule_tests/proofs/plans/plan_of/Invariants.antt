@@ -1,6 +1,0 @@
-use Rattle.aerie_base.specs.plans.OfModel.{IsPlanOf}
-use Rattle.schedule_tests.proofs.plans.plan_of.Given as goal
-
--- it is a plan of the model
-abbrev pub invariant-loop-each : goal.invariant-loop-each
-invariant-loop-each l = IsPlanOf l.model l.plan
