@@ -1,18 +1,20 @@
 -- Digits in front of a text, the number that they write, and the digits that write a number.
-use Rattle.std.proofs.Common.{◌≡◌, ℕ, ◌+◌, ◌-◌, ◌*◌, ◌<◌, ◌≤◌, List, [], ◌∷◌, ◌++◌, length, take, codes, nat_eq, nat_le, get_or, Bool, true, false, Some, None, refl, ◌∙◌, ap, arith, add_comm, add-one}
+use Rattle.std.proofs.Common.{◌≡◌, ℕ, ◌+◌, ◌<◌, ◌≤◌, List, [], ◌∷◌, ◌++◌, length, take, codes, nat_eq, nat_le, nat_lt, Bool, true, false, Some, None, refl, ap, ◌∙◌, drop, arith, add_comm, add-one}
 use Rattle.std.specs.Char.{is_ascii_digit, digit_value}
 use Rattle.std.specs.List.{list_all}
 use Rattle.std.specs.Fmt.{decimal}
 use Rattle.std.specs.Str.Parse.{digits_value, AllDigits}
 use Rattle.std.proofs.Math.Seq.{take-append_seam, drop-append_seam}
 use Rattle.std.proofs.lemmas.Bool.Decides.{nat_tests}
-use Rattle.std.proofs.lemmas.List.Folds.{list_all_at}
 use Rattle.std.proofs.lemmas.List.Sums.{prefix_len-le-length}
-use Rattle.std.proofs.lemmas.Int.Digits.{digits_value_more}
 use Rattle.std.proofs.lemmas.Fmt.{decimal_is_IsNumeral}
 use Rattle.std.proofs.lemmas.Str.Parse.{digits_value-take-le, digit_from_value}
 use Rattle.aerie_base.specs.Ranges.{time_of, time_limit}
-use Rattle.aerie_base.specs.Durations.{digit_count, duration_of, duration_text, of_unit}
+use Rattle.std.proofs.lemmas.Bool.{eq-eqb}
+use Rattle.std.proofs.lemmas.List.{length-append}
+use Rattle.aerie_base.specs.Durations.{begins_part, digit_count, duration_len, duration_of, duration_text, parts_len, parts_micros, units}
+use Rattle.aerie_base.specs.declared.durations.Unit.{Unit}
+use Rattle.aerie_base.specs.declared.durations.Unit.TheVariants.{Day, Hour, Minute, Second, Millisecond, Microsecond}
 
 -- they are no more than the text has bytes
 pub digit_count_within : (text : List ℕ) → digit_count text ≤ length text
@@ -46,18 +48,57 @@ digits_alone (digit ∷ digits) rest all none =
     let more = digits_alone digits rest all.1 none in
     rw (is_digit digit all.0, more) (omega arith)
 
--- so many microseconds
-in_microseconds : (micros : ℕ) → micros ≤ time_limit → of_unit micros (codes "us") ≡ Some micros
-in_microseconds micros within =
-    let once : micros * 1 ≡ micros = omega arith in
-    let is : nat_le micros time_limit ≡ true = grind (arith, nat_tests) in
-    rw (once, is) refl
+-- no part of such a unit stands in front: the parts are those of the units less than it
+passes : (unit : Unit) (lesser : List Unit) (text : List ℕ) → begins_part unit text ≡ false
+    → (parts_len (unit ∷ lesser) text ≡ parts_len lesser text) × (parts_micros (unit ∷ lesser) text ≡ parts_micros lesser text)
+passes unit lesser text e = (rw e (omega arith), rw e (omega arith))
+
+-- the part of the last unit in front is all
+record Written (units : List Unit) (text : List ℕ) (micros : ℕ) : Type 0 where
+  len : parts_len units text ≡ length text
+  sum : parts_micros units text ≡ micros
+
+last_part : (text : List ℕ) (micros : ℕ) → begins_part Microsecond text ≡ true → digit_count text + 2 ≡ length text → digits_value 10 (take (digit_count text) text) ≡ micros
+    → Written (Microsecond ∷ []) text micros
+last_part text micros e whole value =
+    record { len = rw e (omega (arith, whole)); sum = rw (e, value) (omega arith) }
+
+behind : (unit : Unit) (lesser : List Unit) (text : List ℕ) (micros : ℕ) → begins_part unit text ≡ false → Written lesser text micros → Written (unit ∷ lesser) text micros
+behind unit lesser text micros e written =
+    let pass = passes unit lesser text e in
+    record { len = pass.0 ∙ written.len; sum = pass.1 ∙ written.sum }
+
+-- digits and `us`
+in_microseconds : (text : List ℕ) (micros : ℕ) → drop (digit_count text) text ≡ codes "us" → nat_lt 0 (digit_count text) ≡ true
+    → digits_value 10 (take (digit_count text) text) ≡ micros → digit_count text + 2 ≡ length text → Written units text micros
+in_microseconds text micros unit some value whole =
+    behind Day _ text micros (rw (some, unit) refl)
+    (behind Hour _ text micros (rw (some, unit) refl)
+    (behind Minute _ text micros (rw (some, unit) refl)
+    (behind Second _ text micros (rw (some, unit) refl)
+    (behind Millisecond _ text micros (rw (some, unit) refl) (last_part text micros (rw (some, unit) refl) whole value)))))
+
+-- where parts are all of a text, it is a duration unless their sum is too long
+pub all_parts : (text : List ℕ) → 0 < duration_len text → duration_len text ≤ length text → length text ≤ duration_len text
+    → duration_of text ≡ time_of (parts_micros units text)
+all_parts text some within whole =
+    let filled : nat_lt 0 (length text) ≡ true = let positive : 0 < length text = omega arith in grind (arith, nat_tests) in
+    let same : nat_eq (duration_len text) (length text) ≡ true = eq-eqb (duration_len text) (length text) (omega arith) in
+    rw (filled, same) refl
 
 -- a time that is written and read again is the same
 pub written_is_read : (micros : ℕ) → micros ≤ time_limit → duration_of (duration_text micros) ≡ Some micros
 written_is_read micros within =
+    let text = duration_text micros in
     let numeral = decimal_is_IsNumeral micros (omega arith) in
-    let all = digits_alone (decimal micros) (codes "us") numeral.0.1 refl in
-    let some_digit : nat_eq (length (decimal micros)) 0 ≡ false = let filled = numeral.0.0 in grind (arith, nat_tests) in
-    rw (all, some_digit, take-append_seam (decimal micros) (codes "us"), drop-append_seam (decimal micros) (codes "us"), numeral.1)
-    (in_microseconds micros within)
+    let all : digit_count text ≡ length (decimal micros) = digits_alone (decimal micros) (codes "us") numeral.0.1 refl in
+    let some : nat_lt 0 (digit_count text) ≡ true = let filled = numeral.0.0 in rw all (grind (arith, nat_tests)) in
+    let unit : drop (digit_count text) text ≡ codes "us" = rw all (drop-append_seam (decimal micros) (codes "us")) in
+    let front : take (digit_count text) text ≡ decimal micros = rw all (take-append_seam (decimal micros) (codes "us")) in
+    let long : length text ≡ length (decimal micros) + 2 = length-append (decimal micros) (codes "us") in
+    let whole : digit_count text + 2 ≡ length text = omega (arith, all, long) in
+    let written = in_microseconds text micros unit some (ap (digits_value 10) front ∙ numeral.1) whole in
+    let filled : nat_lt 0 (length text) ≡ true = let positive : 0 < length text = omega (arith, long) in grind (arith, nat_tests) in
+    let same : nat_eq (length text) (length text) ≡ true = eq-eqb (length text) (length text) refl in
+    let is : nat_le micros time_limit ≡ true = grind (arith, nat_tests) in
+    rw (written.len, written.sum, filled, same, is) refl

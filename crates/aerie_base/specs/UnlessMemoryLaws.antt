@@ -1,7 +1,7 @@
 -- A file of lemmas: what it proves need not be read to trust a clause.
 --
 -- What is known of an answer that is this one unless memory ran out.
-use Rattle.std.proofs.Common.{◌≡◌, Bool, true, false, Result, Ok, Err, IfOk, subst, ap, sym}
+use Rattle.std.proofs.Common.{◌≡◌, Bool, true, false, Result, Ok, Err, IfOk, subst}
 use Rattle.aerie_base.specs.UnlessMemory.{Unless, UnlessMemory}
 
 -- where the test says no, the fact

@@ -1,11 +1,11 @@
 //! The text of a duration.
 
-ghost use Rattle.std.specs.Prelude.{◌≡◌, ◌<◌, ◌*◌, Some, None, IsTrue, IfOk, string_bytes};
+ghost use Rattle.std.specs.Prelude.{◌≡◌, ◌≤◌, ◌+◌, ◌*◌, ℕ, Some, IsTrue, IfOk, length, string_bytes, take};
 ghost use Rattle.std.specs.Char.{is_ascii_digit};
 ghost use Rattle.std.specs.List.{list_all};
 ghost use Rattle.std.specs.Str.Parse.{digits_value};
 ghost use Rattle.aerie_base.specs.Ranges.{time_of};
-ghost use Rattle.aerie_base.specs.Durations.{digit_count, duration_of, duration_text, unit_micros};
+ghost use Rattle.aerie_base.specs.Durations.{begins_part, digit_count, duration_len, duration_of, duration_text, parts_len, parts_micros, unit_micros, unit_text};
 
 use crate::memory::OutOfMemory;
 use crate::numbers::Time;
@@ -15,20 +15,40 @@ use std::alloc::Global;
 /// The longest duration, in microseconds.
 const LONGEST: u64 = TIME_LIMIT as u64;
 
-/// Reads a duration: one or more digits and at once a unit, `us`, `ms`, `s`, `min`, `h` or `d`, with nothing before or
-/// behind. `None` for any other text, and above 10^15 microseconds. It takes no memory, and time linear in the text.
-#[tactic(auto, using(crate::proofs::Digits::digit_count_within, crate::proofs::Digits::digits_in_front))]
+/// A unit of time.
+#[derive(Clone, Copy)]
+enum Unit {
+    Day,
+    Hour,
+    Minute,
+    Second,
+    Millisecond,
+    Microsecond,
+}
+
+/// The units, each less than the one before.
+const UNITS: [Unit; 6] = [
+    Unit::Day,
+    Unit::Hour,
+    Unit::Minute,
+    Unit::Second,
+    Unit::Millisecond,
+    Unit::Microsecond,
+];
+
+/// Reads a duration: one or more parts, each of one or more digits and at once a unit, `d`, `h`, `min`, `s`, `ms` or `us`,
+/// and the units fall. Nothing stands before, between or behind them. `None` for any other text, and where the sum is
+/// above 10^15 microseconds. It takes no memory, and time linear in the text.
+#[tactic(auto, using(crate::proofs::Digits::all_parts))]
 pub fn read_duration(text: &str) -> Option<Time>
     ensures { result ≡ duration_of text.now }
 {
     let bytes = text.as_bytes();
-    let count = digit_count(bytes);
-    if count == 0 {
+    let (len, micros) = parts_in_front(&UNITS, bytes);
+    if len == 0 || len < bytes.len() {
         return None;
     }
-    let micros = unit_micros(&bytes[count..])?;
-    let number = number_within_range(&bytes[..count])?;
-    time_of_product(number, micros)
+    micros
 }
 
 /// Writes a duration as microseconds: the digits, and `us`. `read_duration` reads the same time from it.
@@ -41,9 +61,77 @@ pub fn write_duration(alloc: Global, time: Time) -> Result<String, OutOfMemory>
     Ok(text)
 }
 
+/// How many bytes in front are parts of a duration, as many as there are with units that fall: 0 where there is none.
+pub fn duration_len(bytes: &[u8]) -> usize
+    ensures len { result ≡ duration_len bytes.now }
+    ensures within { result ≤ length bytes.now }
+{
+    let (len, _) = parts_in_front(&UNITS, bytes);
+    len
+}
+
+/// How long the parts in front are, of each of these units one or none, and what they come to in microseconds, or `None`
+/// above the longest duration. Each digit is read at most twice.
+fn parts_in_front(units: &[Unit], bytes: &[u8]) -> (usize, Option<Time>)
+    ensures len { result.0 ≡ parts_len units.now bytes.now }
+    ensures within { result.0 ≤ length bytes.now }
+    ensures micros { result.1 ≡ time_of (parts_micros units.now bytes.now) }
+{
+    let mut len = 0;
+    let mut micros = Some(Time::zero());
+    let mut count = digit_count(bytes);
+    for unit in units {
+        let rest = &bytes[len..];
+        if begins_part(*unit, count, rest) {
+            micros = sum_within_range(micros, part_micros(*unit, count, rest));
+            len += count + unit_text(*unit).len();
+            count = digit_count(&bytes[len..]);
+        }
+    }
+    (len, micros)
+}
+
+/// Whether a part of this unit stands in front, with so many digits.
+#[tactic(auto, using(crate::proofs::Digits::digit_count_within))]
+fn begins_part(unit: Unit, count: usize, bytes: &[u8]) -> bool
+    requires { count ≡ digit_count bytes.now }
+    ensures { result ≡ begins_part unit bytes.now }
+{
+    0 < count && bytes[count..].starts_with(unit_text(unit).as_bytes())
+}
+
+/// What so many digits in front come to in microseconds, in this unit, or `None` above the longest duration.
+#[tactic(auto, using(crate::proofs::Digits::digit_count_within, crate::proofs::Digits::digits_in_front))]
+fn part_micros(unit: Unit, count: usize, bytes: &[u8]) -> Option<Time>
+    requires { count ≡ digit_count bytes.now }
+    ensures { result ≡ time_of (digits_value 10 (take count bytes.now) * unit_micros unit) }
+{
+    let number = number_within_range(&bytes[..count])?;
+    let product = number.checked_mul(unit_micros(unit))?;
+    within_range(product)
+}
+
+/// The sum of two durations, or `None` where it is above the longest, as where one of the two is.
+fn sum_within_range(micros: Option<Time>, more: Option<Time>) -> Option<Time>
+    ensures { (a b : ℕ) → micros ≡ time_of a → more ≡ time_of b → result ≡ time_of (a + b) }
+{
+    within_range(micros?.get() as u64 + more?.get() as u64)
+}
+
+/// So many microseconds, or `None` above the longest duration.
+fn within_range(micros: u64) -> Option<Time>
+    ensures { result ≡ time_of micros }
+{
+    if LONGEST < micros {
+        return None;
+    }
+    Time::new(micros as i64)
+}
+
 /// How many digits stand in front.
 fn digit_count(bytes: &[u8]) -> usize
-    ensures { result ≡ digit_count bytes.now }
+    ensures len { result ≡ digit_count bytes.now }
+    ensures within { result ≤ length bytes.now }
 {
     bytes
         .iter()
@@ -51,18 +139,31 @@ fn digit_count(bytes: &[u8]) -> usize
         .count()
 }
 
-/// The microseconds of a unit.
-fn unit_micros(unit: &[u8]) -> Option<u64>
-    ensures { result ≡ unit_micros unit.now }
+/// How a unit is written.
+fn unit_text(unit: Unit) -> &'static str
+    ensures { result.now ≡ unit_text unit }
 {
     match unit {
-        b"us" => Some(1),
-        b"ms" => Some(1_000),
-        b"s" => Some(1_000_000),
-        b"min" => Some(60_000_000),
-        b"h" => Some(3_600_000_000),
-        b"d" => Some(86_400_000_000),
-        _ => None,
+        Unit::Day => "d",
+        Unit::Hour => "h",
+        Unit::Minute => "min",
+        Unit::Second => "s",
+        Unit::Millisecond => "ms",
+        Unit::Microsecond => "us",
+    }
+}
+
+/// The microseconds of a unit.
+fn unit_micros(unit: Unit) -> u64
+    ensures { result ≡ unit_micros unit }
+{
+    match unit {
+        Unit::Day => 86_400_000_000,
+        Unit::Hour => 3_600_000_000,
+        Unit::Minute => 60_000_000,
+        Unit::Second => 1_000_000,
+        Unit::Millisecond => 1_000,
+        Unit::Microsecond => 1,
     }
 }
 
@@ -81,15 +182,4 @@ fn number_within_range(digits: &[u8]) -> Option<u64>
         }
     }
     Some(number)
-}
-
-/// The duration of so many units of so many microseconds.
-fn time_of_product(number: u64, micros: u64) -> Option<Time>
-    ensures { result ≡ time_of (number * micros) }
-{
-    let product = number.checked_mul(micros)?;
-    if LONGEST < product {
-        return None;
-    }
-    Time::new(product as i64)
 }

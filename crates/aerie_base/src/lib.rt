@@ -29,7 +29,7 @@ mod values;
 pub use arguments::{RawArgument, RawValue};
 pub use conditions::{Cond, Simple};
 pub use containers::{Boxed, List, Shared};
-pub use durations::{read_duration, write_duration};
+pub use durations::{duration_len, read_duration, write_duration};
 pub use evaluation::eval;
 pub use expressions::{Comparison, Expr, Operator};
 pub use faults::Fault;

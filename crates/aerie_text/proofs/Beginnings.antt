@@ -8,17 +8,18 @@ use Rattle.std.proofs.lemmas.Bool.{cases_lt, eqb-true, false≢true}
 use borrow.Author.Tests.{ltb-true}
 use Rattle.std.proofs.lemmas.Str.Ascii.{IsAscii-nil, IsAscii-cons}
 use Rattle.std.proofs.lemmas.Bool.Decides.{nat_tests}
-use Rattle.std.proofs.lemmas.List.{drop_more, drop_all, take_all, get_or-take, length-drop}
+use Rattle.std.proofs.lemmas.List.{drop_more, drop_all, get_or-take}
 use Rattle.std.proofs.lemmas.List.Sums.{prefix_len-le-length, prefix_len_passes}
 use Rattle.std.proofs.lemmas.Slice.Eq.{bytes_eq-Decides}
 use Rattle.aerie_text.specs.Bytes.{begins_with, is_letter, is_word_byte}
-use Rattle.aerie_text.specs.Numerals.{digits_at, duration_len, fits_number, is_duration, unit_len}
+use Rattle.aerie_base.specs.Durations.{duration_len}
+use Rattle.aerie_text.specs.Numerals.{digits_at, fits_number, is_duration}
 use Rattle.aerie_text.specs.Quotes.{backquote, enclosed_len, is_quotable, is_raw, quotation_mark}
 use Rattle.aerie_text.specs.Symbols.{begins_double_symbol, double_symbols, is_single_symbol, single_symbols, symbol_len}
 use Rattle.aerie_text.specs.TokenAt.{of_kind, token_at, word_len}
 use Rattle.aerie_text.specs.declared.token.TokenKind.{TokenKind}
 use Rattle.aerie_text.specs.declared.token.TokenKind.TheVariants.{Word, Quoted, Raw, Symbol}
-use Rattle.aerie_text.proofs.Units.{InFront, no_unit, a_unit, duration_ascii, unit_in_front}
+use Rattle.aerie_text.proofs.Units.{duration_ascii, duration_within, fits}
 
 pub record Facts (text : List ℕ) (len : ℕ) : Type 0 where
   pub positive : 0 < len
@@ -74,36 +75,24 @@ word_facts b bs n letter e = go (nat_le (prefix_len is_word_byte (b ∷ bs)) 64)
 digit_ascii : (b : ℕ) → is_ascii_digit b ≡ true → b < 128
 digit_ascii b e = grind (arith, nat_tests)
 
--- what stands in front is no longer than the text
-pub fits : (u text : List ℕ) → take (length u) text ≡ u → length u ≤ length text
-fits u text front = elim (cases_lt (length text) (length u)) [
-  | inl lt ↦ let whole : take (length u) text ≡ text = take_all (length u) text (omega arith) in
-      omega (arith, ap length front, ap length whole)
-  | inr le ↦ le
+-- a duration is not nothing
+pub duration_positive : (text : List ℕ) → is_duration (take (duration_len text) text) ≡ true → 0 < duration_len text
+duration_positive text is = elim (cases_lt 0 (duration_len text)) [
+  | inl lt ↦ lt
+  | inr le ↦ let none : is_duration (take (duration_len text) text) ≡ false = let zero_long : duration_len text ≡ 0 = omega arith in rw zero_long refl in
+      absurd (false≢true (sym none ∙ is))
 ]
 
-unit_within : (text : List ℕ) → unit_len text ≤ length text
-unit_within text = go (unit_in_front text)
-  where
-    go : InFront text → unit_len text ≤ length text
-    go (no_unit none) = omega (arith, none)
-    go (a_unit u is len front) = omega (arith, len, fits u text front)
-
-duration_facts : (b : ℕ) (bs : List ℕ) → is_ascii_digit b ≡ true → Facts (b ∷ bs) (duration_len (b ∷ bs))
-duration_facts b bs e =
+duration_facts : (b : ℕ) (bs : List ℕ) → is_ascii_digit b ≡ true → is_duration (take (duration_len (b ∷ bs)) (b ∷ bs)) ≡ true → Facts (b ∷ bs) (duration_len (b ∷ bs))
+duration_facts b bs e is =
     let text = b ∷ bs in
-    let count = prefix_len is_ascii_digit text in
-    let digits = run_facts is_ascii_digit digit_ascii b bs e in
-    let unit = unit_within (drop count text) in
-    let rest = length-drop count text in
-    let inside : duration_len text ≤ length text = omega (arith, digits.within, unit, rest) in
-    let positive : 0 < duration_len text = omega (arith, digits.positive) in
+    let positive = duration_positive text is in
     let last : get_or (take (duration_len text) text) (duration_len text - 1) 0 ≡ get_or text (duration_len text - 1) 0 =
     get_or-take (duration_len text) text (duration_len text - 1) 0 (omega (arith, positive)) in
     record {
       positive = positive;
-      within = inside;
-      first = digits.first;
+      within = duration_within text;
+      first = digit_ascii b e;
       last = subst (λ (x : ℕ). x < 128) last (duration_ascii text (duration_len text - 1));
     }
 
@@ -116,7 +105,7 @@ digits_facts b bs kind n digit e = go _ _ _ refl refl refl
 
     go : (v1 v2 v3 : Bool) → is_duration (take (duration_len (b ∷ bs)) (b ∷ bs)) ≡ v1 → begins_with is_word_byte (drop (prefix_len is_ascii_digit (b ∷ bs)) (b ∷ bs)) ≡ v2
         → fits_number (take (prefix_len is_ascii_digit (b ∷ bs)) (b ∷ bs)) ≡ v3 → Facts (b ∷ bs) n
-    go true v2 v3 e1 e2 e3 = subst (Facts (b ∷ bs)) (ap (λ (x : TokenKind × ℕ). x.1) (some_is _ _ (rw e1 at e))) (duration_facts b bs digit)
+    go true v2 v3 e1 e2 e3 = subst (Facts (b ∷ bs)) (ap (λ (x : TokenKind × ℕ). x.1) (some_is _ _ (rw e1 at e))) (duration_facts b bs digit e1)
     go false true v3 e1 e2 e3 = absurd (let no : None ≡ Some (kind, n) = rw (e1, e2) at e in cc)
     go false false true e1 e2 e3 = subst (Facts (b ∷ bs)) (ap (λ (x : TokenKind × ℕ). x.1) (some_is _ _ (rw (e1, e2, e3) at e))) (run_facts is_ascii_digit digit_ascii b bs digit)
     go false false false e1 e2 e3 = absurd (let no : None ≡ Some (kind, n) = rw (e1, e2, e3) at e in cc)

@@ -1,28 +1,28 @@
 -- No token is longer than the one that is read.
-use Rattle.std.proofs.Common.{◌≡◌, ℕ, zero, suc, ◌+◌, ◌<◌, ◌≤◌, ◌∙◌, Bool, true, false, cond, List, [], ◌∷◌, ◌++◌, length, take, drop, get_or, Option, Some, None, refl, ap, subst, sym, arith, nat_eq, le-leb, codes, append_assoc, take-append-drop}
-use Rattle.std.specs.Prelude.{◌==◌, ◌&&◌, ◌||◌, not, is_some, option_and_then}
+use Rattle.std.proofs.Common.{◌≡◌, ℕ, zero, suc, ◌+◌, ◌<◌, ◌≤◌, ◌∙◌, Bool, true, false, cond, List, [], ◌∷◌, ◌++◌, length, take, drop, get_or, Option, Some, None, refl, ap, subst, sym, arith, nat_eq, le-leb, append_assoc, take-append-drop}
+use Rattle.std.specs.Prelude.{◌==◌, ◌&&◌, ◌||◌, not, is_some}
 use Rattle.std.specs.Char.{is_ascii_digit}
 use Rattle.std.specs.List.{list_all, list_any, prefix_len, starts_with}
 use Rattle.std.specs.Str.{bytes_eq}
 use Rattle.std.specs.Str.Parse.{digits_value}
 use Rattle.std.proofs.lemmas.Bool.{and_parts, eq-eqb, eqb-true, false≢true, not-true}
 use Rattle.std.proofs.lemmas.Bool.Decides.{nat_tests}
-use Rattle.std.proofs.lemmas.List.{drop_more, drop_at, drop-append-le, get_or-take, length-append, length-drop, length-take-le, take_all, take_at, take-take}
+use Rattle.std.proofs.lemmas.List.{drop_more, drop_at, get_or-take, length-append, length-take-le, take_all, take_at}
 use Rattle.std.proofs.lemmas.List.Prefix.{front_fits}
-use Rattle.std.proofs.lemmas.List.Sums.{prefix_len-le-length, prefix_len_is, AllPass-from_list_all}
+use Rattle.std.proofs.lemmas.List.Sums.{prefix_len_is, AllPass-from_list_all}
 use Rattle.std.proofs.lemmas.Slice.Eq.{bytes_eq-Decides}
-use Rattle.aerie_base.specs.Durations.{duration_of, unit_micros}
+use Rattle.aerie_base.specs.Durations.{duration_len, duration_of}
 use Rattle.aerie_text.specs.Bytes.{begins_with, is_letter, is_word_byte}
-use Rattle.aerie_text.specs.Numerals.{digits_at, duration_len, fits_number, is_duration, unit_len}
+use Rattle.aerie_text.specs.Numerals.{digits_at, fits_number, is_duration}
 use Rattle.aerie_text.specs.Quotes.{enclosed_len, is_quotable, is_raw}
 use Rattle.aerie_text.specs.Symbols.{begins_double_symbol, double_symbols, is_single_symbol, single_symbols, symbol_len}
 use Rattle.aerie_text.specs.TokenAt.{of_kind, token_at, word_len}
-use Rattle.aerie_text.specs.TokenTexts.{IsTextOf, word, number, duration, quoted, raw, single, double, BeginsNone, IsLongest, Matches, is_double_symbol, may_stand_before}
+use Rattle.aerie_text.specs.TokenTexts.{IsTextOf, word, number, duration, quoted, raw, single, double, BeginsNone, IsLongest, Matches, is_double_symbol, may_end}
 use Rattle.aerie_text.specs.declared.token.TokenKind.{TokenKind}
 use Rattle.aerie_text.specs.declared.token.TokenKind.TheVariants.{Word, Number, Duration, Quoted, Raw, Symbol}
-use Rattle.aerie_text.proofs.Beginnings.{else_of, some_is, then_of}
-use Rattle.aerie_text.proofs.Matching.{front_all, read_matches}
-use Rattle.aerie_text.proofs.Units.{IsUnit, us, ms, min, s, h, d}
+use Rattle.aerie_text.proofs.Beginnings.{duration_positive, some_is}
+use Rattle.aerie_text.proofs.Matching.{read_matches}
+use Rattle.aerie_text.proofs.Units.{duration_begun, duration_read}
 
 -- a token of at least so many bytes is found
 pub record AtLeast (found : Option (TokenKind × ℕ)) (len : ℕ) : Type 0 where
@@ -106,7 +106,7 @@ unfolding digits_at
 digits_cover text n e stops fits = go (is_duration (take (duration_len text) text)) refl
   where
     go : (v : Bool) → is_duration (take (duration_len text) text) ≡ v → AtLeast (digits_at text) n
-    go true t = record { kind = Duration; whole = duration_len text; is = if_true _ _ _ t; covers = omega (arith, e) }
+    go true t = record { kind = Duration; whole = duration_len text; is = if_true _ _ _ t; covers = let begun = duration_begun text (duration_positive text t) in omega (arith, e, begun.all) }
     go false t =
         let last : begins_with is_word_byte (drop (prefix_len is_ascii_digit text) text) ≡ false = rw e stops in
         let short : fits_number (take (prefix_len is_ascii_digit text) text) ≡ true = rw e fits in
@@ -138,86 +138,20 @@ number_covers (b ∷ bs) n within long all fits stops =
 
 -- ---- durations
 
-unit_of : (u : List ℕ) (m : ℕ) → unit_micros u ≡ Some m → IsUnit u
-unit_of u m e = go _ _ _ _ _ _ refl refl refl refl refl refl
+begins_digit : (b : ℕ) (bs : List ℕ) → 0 < prefix_len is_ascii_digit (b ∷ bs) → is_ascii_digit b ≡ true
+begins_digit b bs lt = go (is_ascii_digit b) refl
   where
-    same : (v : List ℕ) → bytes_eq u v ≡ true → IsUnit v → IsUnit u
-    same v t is = subst IsUnit (sym ((bytes_eq-Decides u v).0 t)) is
+    go : (v : Bool) → is_ascii_digit b ≡ v → is_ascii_digit b ≡ true
+    go true e = e
+    go false e = let none : prefix_len is_ascii_digit (b ∷ bs) ≡ 0 = rw e refl in absurd (omega (arith, none))
 
-    go : (v1 v2 v3 v4 v5 v6 : Bool) → bytes_eq u (codes "us") ≡ v1 → bytes_eq u (codes "ms") ≡ v2 → bytes_eq u (codes "s") ≡ v3
-        → bytes_eq u (codes "min") ≡ v4 → bytes_eq u (codes "h") ≡ v5 → bytes_eq u (codes "d") ≡ v6 → IsUnit u
-    go true v2 v3 v4 v5 v6 e1 e2 e3 e4 e5 e6 = same (codes "us") e1 us
-    go false true v3 v4 v5 v6 e1 e2 e3 e4 e5 e6 = same (codes "ms") e2 ms
-    go false false true v4 v5 v6 e1 e2 e3 e4 e5 e6 = same (codes "s") e3 s
-    go false false false true v5 v6 e1 e2 e3 e4 e5 e6 = same (codes "min") e4 min
-    go false false false false true v6 e1 e2 e3 e4 e5 e6 = same (codes "h") e5 h
-    go false false false false false true e1 e2 e3 e4 e5 e6 = same (codes "d") e6 d
-    go false false false false false false e1 e2 e3 e4 e5 e6 = absurd (let no : None ≡ Some m = rw (e1, e2, e3, e4, e5, e6) at e in cc)
-
-unit_no_digit : (u rest : List ℕ) → IsUnit u → begins_with is_ascii_digit (u ++ rest) ≡ false
-unit_no_digit u rest us = refl
-unit_no_digit u rest ms = refl
-unit_no_digit u rest min = refl
-unit_no_digit u rest s = refl
-unit_no_digit u rest h = refl
-unit_no_digit u rest d = refl
-
-unit_len_of : (u rest : List ℕ) → IsUnit u → unit_len (u ++ rest) ≡ length u
-unit_len_of u rest us = refl
-unit_len_of u rest ms = refl
-unit_len_of u rest min = refl
-unit_len_of u rest s = refl
-unit_len_of u rest h = refl
-unit_len_of u rest d = refl
-
--- a duration is digits and a unit
-record Parts (text : List ℕ) : Type 0 where
-  positive : 0 < prefix_len is_ascii_digit text
-  unit : IsUnit (drop (prefix_len is_ascii_digit text) text)
-
-parts_of : (text : List ℕ) (m : ℕ) → duration_of text ≡ Some m → Parts text
-parts_of text m e = go (nat_eq (prefix_len is_ascii_digit text) 0) refl
+duration_covers : (text : List ℕ) (n micros : ℕ) → duration_of (take n text) ≡ Some micros → duration_len text ≡ n → AtLeast (token_at text) n
+duration_covers text n micros e len = go text (ap (λ (m : ℕ). is_duration (take m text)) len ∙ ap is_some e) len
   where
-    inner : (o : Option ℕ) (f : ℕ → Option ℕ) → option_and_then f o ≡ Some m → (x : ℕ) × (o ≡ Some x)
-    inner None f same = absurd (cc)
-    inner (Some x) f same = (x, refl)
-
-    go : (v : Bool) → nat_eq (prefix_len is_ascii_digit text) 0 ≡ v → Parts text
-    go true t = absurd (let no : None ≡ Some m = then_of _ _ _ _ t e in cc)
-    go false t =
-        let found = inner (unit_micros (drop (prefix_len is_ascii_digit text) text)) _ (else_of _ _ _ _ t e) in
-        record { positive = not_zero (prefix_len is_ascii_digit text) t; unit = unit_of _ found.0 found.1 }
-      where
-        not_zero : (n : ℕ) → nat_eq n 0 ≡ false → 0 < n
-        not_zero zero e = absurd (false≢true (sym e))
-        not_zero (suc n) e = omega arith
-
-duration_read : (text : List ℕ) → is_duration (take (duration_len text) text) ≡ true → digits_at text ≡ Some (Duration, duration_len text)
-unfolding digits_at
-duration_read text t = if_true _ _ _ t
-
-duration_covers : (text : List ℕ) (n micros : ℕ) → n ≤ length text → duration_of (take n text) ≡ Some micros → AtLeast (token_at text) n
-duration_covers text n micros within e =
-    let t = take n text in
-    let parts = parts_of t micros e in
-    let count = prefix_len is_ascii_digit t in
-    let u = drop count t in
-    let long : length t ≡ n = length-take-le n text within in
-    let inside : count ≤ length t = prefix_len-le-length is_ascii_digit t in
-    let behind : drop count text ≡ u ++ drop n text = ap (drop count) (sym (take-append-drop n text)) ∙ drop-append-le count t (drop n text) inside in
-    let front : take count text ≡ take count t = sym (take-take count n text (omega arith)) in
-    let all : list_all is_ascii_digit (take count text) ≡ true = rw front (front_all is_ascii_digit t) in
-    let stops : begins_with is_ascii_digit (drop count text) ≡ false = rw behind (unit_no_digit u (drop n text) parts.unit) in
-    let digits : prefix_len is_ascii_digit text ≡ count = run_is is_ascii_digit text count (omega arith) all stops in
-    let unit : unit_len (drop count text) ≡ length u = rw behind (unit_len_of u (drop n text) parts.unit) in
-    let len : duration_len text ≡ n = rw digits (omega (arith, unit, length-drop count t)) in
-    let is : is_duration (take (duration_len text) text) ≡ true = ap (λ (m : ℕ). is_duration (take m text)) len ∙ ap is_some e in
-    go text count n parts.positive all is len
-  where
-    go : (text : List ℕ) (count n : ℕ) → 0 < count → list_all is_ascii_digit (take count text) ≡ true → is_duration (take (duration_len text) text) ≡ true → duration_len text ≡ n → AtLeast (token_at text) n
-    go [] count n positive all is len = absurd (false≢true is)
-    go (b ∷ bs) count n positive all is len =
-        let digit = first_digit count b bs positive all in
+    go : (text : List ℕ) → is_duration (take (duration_len text) text) ≡ true → duration_len text ≡ n → AtLeast (token_at text) n
+    go [] is len = absurd (false≢true is)
+    go (b ∷ bs) is len =
+        let digit = begins_digit b bs (duration_begun (b ∷ bs) (duration_positive (b ∷ bs) is)).some in
         record { kind = Duration; whole = duration_len (b ∷ bs); is = at_digit b bs (digit_no_letter b digit) digit ∙ duration_read (b ∷ bs) is; covers = omega (arith, len) }
 
 -- ---- quotes
@@ -321,7 +255,7 @@ double_covers text n within is =
 pub covers : (text : List ℕ) (kind : TokenKind) (n : ℕ) → Matches text kind n → AtLeast (token_at text) n
 covers text kind n m = go kind (take n text) refl m.is_token m.ends
   where
-    go : (kind : TokenKind) (front : List ℕ) → take n text ≡ front → IsTextOf kind front → may_stand_before kind (drop n text) ≡ true → AtLeast (token_at text) n
+    go : (kind : TokenKind) (front : List ℕ) → take n text ≡ front → IsTextOf kind front → may_end kind text n ≡ true → AtLeast (token_at text) n
     go kind front same (word whole begins all short) ends =
         word_covers text n m.within (ap (begins_with is_letter) same ∙ begins) (ap (list_all is_word_byte) same ∙ all)
         (omega (arith, ap length same, length-take-le n text m.within)) (not-true _ ends)
@@ -331,7 +265,7 @@ covers text kind n m = go kind (take n text) refl m.is_token m.ends
       where
         fits : (digits : List ℕ) → length digits ≤ 19 → digits_value 10 digits ≤ 1_000_000_000_000_000_000 → fits_number digits ≡ true
         fits digits short value = rw (le-leb _ _ short, le-leb _ _ value) refl
-    go kind front same (duration whole micros is) ends = duration_covers text n micros m.within (ap duration_of same ∙ is)
+    go kind front same (duration whole micros is) ends = duration_covers text n micros (ap duration_of same ∙ is) (eqb-true _ _ ends)
     go kind front same (quoted whole inside is all) ends =
         let found = enclosed_covers is_quotable 34 text inside n refl m.within (same ∙ is) all in
         subst (λ l. AtLeast (token_at l) n) (sym found.1) (subst (λ o. AtLeast o n) (sym (at_quote found.0)) (at_least Quoted _ n n found.2 (omega arith)))

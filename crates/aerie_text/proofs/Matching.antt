@@ -3,12 +3,12 @@ use Rattle.std.proofs.Common.{◌≡◌, ℕ, zero, suc, ◌+◌, ◌<◌, ◌�
 use Rattle.std.specs.Prelude.{◌==◌, ◌&&◌, is_some, nat_le}
 use Rattle.std.specs.Char.{is_ascii_digit}
 use Rattle.std.specs.List.{list_all, prefix_len}
-use Rattle.std.proofs.lemmas.Bool.{and_parts, cases_lt, eqb-true, false≢true, leb-true}
+use Rattle.std.proofs.lemmas.Bool.{and_parts, cases_lt, eq-eqb, eqb-true, false≢true, leb-true}
 use Rattle.std.proofs.lemmas.List.{drop_more, drop_all, take_more, length-take-le}
 use Rattle.std.proofs.lemmas.List.Sums.{prefix_len-le-length, prefix_len_stops}
-use Rattle.aerie_base.specs.Durations.{duration_of}
+use Rattle.aerie_base.specs.Durations.{duration_len, duration_of}
 use Rattle.aerie_text.specs.Bytes.{begins_with, is_letter, is_word_byte}
-use Rattle.aerie_text.specs.Numerals.{digits_at, duration_len, fits_number, is_duration}
+use Rattle.aerie_text.specs.Numerals.{digits_at, fits_number, is_duration}
 use Rattle.aerie_text.specs.Quotes.{backquote, enclosed_len, is_quotable, is_raw, quotation_mark}
 use Rattle.aerie_text.specs.Symbols.{begins_double_symbol, double_symbols, is_single_symbol, symbol_len}
 use Rattle.aerie_text.specs.TokenAt.{token_at, word_len}
@@ -80,7 +80,7 @@ digits_match text kind n positive facts e = go _ _ _ refl refl refl
         let found = some_of (duration_of (take (duration_len text) text)) e1 in
         let len : duration_len text ≡ n = ap (λ (x : TokenKind × ℕ). x.1) pair in
         let is : IsTextOf Duration (take n text) = subst (λ (m : ℕ). IsTextOf Duration (take m text)) len (duration (take (duration_len text) text) found.0 found.1) in
-        subst (λ (k : TokenKind). Matches text k n) (ap (λ (x : TokenKind × ℕ). x.0) pair) (record { within = facts.within; is_token = is; ends = refl })
+        subst (λ (k : TokenKind). Matches text k n) (ap (λ (x : TokenKind × ℕ). x.0) pair) (record { within = facts.within; is_token = is; ends = eq-eqb (duration_len text) n len })
     go false true v3 e1 e2 e3 = absurd (let no : None ≡ Some (kind, n) = rw (e1, e2) at e in cc)
     go false false true e1 e2 e3 =
         let pair = some_is (Number, prefix_len is_ascii_digit text) (kind, n) (rw (e1, e2, e3) at e) in

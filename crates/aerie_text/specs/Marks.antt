@@ -42,5 +42,8 @@ pub record AreTokensWithin (text : List ℕ) (tokens : List Token) : Type 0 wher
 pub duration : count_of kind.Duration (codes "2min") ≡ 120_000_000
 duration = refl
 
+pub parts : count_of kind.Duration (codes "7h30min") ≡ 27_000_000_000
+parts = refl
+
 pub number : count_of kind.Number (codes "20") ≡ 20
 number = refl

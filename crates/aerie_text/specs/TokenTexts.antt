@@ -1,10 +1,10 @@
 -- What a token of each kind is, and the longest of them at a place.
-use Rattle.std.specs.Prelude.{◌≡◌, ℕ, ◌++◌, ◌≤◌, Bool, true, not, List, [], ◌∷◌, length, take, drop, Some}
+use Rattle.std.specs.Prelude.{◌≡◌, ℕ, ◌++◌, ◌≤◌, nat_eq, Bool, true, not, List, [], ◌∷◌, length, take, drop, Some}
 use Rattle.std.specs.Char.{is_ascii_digit}
 use Rattle.std.specs.List.{list_all, list_any}
 use Rattle.std.specs.Str.{bytes_eq}
 use Rattle.std.specs.Str.Parse.{digits_value}
-use Rattle.aerie_base.specs.Durations.{duration_of}
+use Rattle.aerie_base.specs.Durations.{duration_len, duration_of}
 use Rattle.aerie_base.specs.Ranges.{number_limit}
 use Rattle.aerie_text.specs.Bytes.{begins_with, is_letter, is_word_byte}
 use Rattle.aerie_text.specs.Numerals.{digit_limit}
@@ -29,21 +29,21 @@ pub data IsTextOf : TokenKind → List ℕ → Type 0 where
   single : (text : List ℕ) (byte : ℕ) → text ≡ byte ∷ [] → is_single_symbol byte ≡ true → IsTextOf Symbol text
   double : (text : List ℕ) → is_double_symbol text ≡ true → IsTextOf Symbol text
 
--- whether a token of this kind may stand before such a text: a word and a number are not cut, so no letter, digit or
--- underscore stands behind them
-abbrev pub may_stand_before : TokenKind → List ℕ → Bool
-may_stand_before Word behind = not (begins_with is_word_byte behind)
-may_stand_before Number behind = not (begins_with is_word_byte behind)
-may_stand_before Duration behind = true
-may_stand_before Quoted behind = true
-may_stand_before Raw behind = true
-may_stand_before Symbol behind = true
+-- whether a token of this kind may end behind so many bytes of a text. None is cut: behind a word and a number stands no
+-- letter, digit or underscore, and a duration has all parts in front whose units fall
+abbrev pub may_end : TokenKind → List ℕ → ℕ → Bool
+may_end Word text len = not (begins_with is_word_byte (drop len text))
+may_end Number text len = not (begins_with is_word_byte (drop len text))
+may_end Duration text len = nat_eq (duration_len text) len
+may_end Quoted text len = true
+may_end Raw text len = true
+may_end Symbol text len = true
 
 -- so many bytes in front of the text are a token of this kind
 pub record Matches (text : List ℕ) (kind : TokenKind) (len : ℕ) : Type 0 where
   pub within : len ≤ length text
   pub is_token : IsTextOf kind (take len text)
-  pub ends : may_stand_before kind (drop len text) ≡ true
+  pub ends : may_end kind text len ≡ true
 
 -- no other token in front of the text is longer
 pub record IsLongest (text : List ℕ) (kind : TokenKind) (len : ℕ) : Type 0 where

@@ -8,7 +8,7 @@ use Rattle.aerie_text.specs.declared.text_error.TextError.{TextError}
 use Rattle.aerie_text.specs.declared.text_error.TextError.TheVariants.{BadToken}
 use Rattle.aerie_text.specs.declared.token.Token.{Token}
 use Rattle.aerie_text.specs.declared.token.TokenKind.{TokenKind}
-use Rattle.aerie_text.specs.declared.token.TokenKind.TheVariants.{Word, Duration, Raw, Symbol}
+use Rattle.aerie_text.specs.declared.token.TokenKind.TheVariants.{Word, Number, Duration, Raw, Symbol}
 
 -- these tokens, and behind them those that were read there, or the place where none begins
 abbrev pub with_tokens : List Token → Result (List Token) ℕ → Result (List Token) ℕ
@@ -51,6 +51,22 @@ a_line = refl
 pub a_unit_and_a_word : tokens_of (codes "5minx") ≡ Ok (token 0 Duration 4 ∷ token 4 Word 1 ∷ [])
 unfolding tokens_of tokens_from token_at digits_at
 a_unit_and_a_word = refl
+
+pub parts_and_a_word : tokens_of (codes "7h30minx") ≡ Ok (token 0 Duration 7 ∷ token 7 Word 1 ∷ [])
+unfolding tokens_of tokens_from token_at digits_at
+parts_and_a_word = refl
+
+pub a_unit_that_rises : tokens_of (codes "30min7h") ≡ Ok (token 0 Duration 5 ∷ token 5 Duration 2 ∷ [])
+unfolding tokens_of tokens_from token_at digits_at
+a_unit_that_rises = refl
+
+pub parts_and_digits : tokens_of (codes "12h30") ≡ Ok (token 0 Duration 3 ∷ token 3 Number 2 ∷ [])
+unfolding tokens_of tokens_from token_at digits_at
+parts_and_digits = refl
+
+pub parts_too_long : tokens_of (codes "x 11574d2h") ≡ Err 2
+unfolding tokens_of tokens_from token_at digits_at
+parts_too_long = refl
 
 pub a_letter_past_ascii : tokens_of (53 ∷ 195 ∷ 169 ∷ []) ≡ Err 1
 unfolding tokens_of tokens_from token_at digits_at symbol_len

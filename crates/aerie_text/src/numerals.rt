@@ -3,11 +3,11 @@
 ghost use Rattle.std.specs.Prelude.{◌≡◌, ◌≤◌, length, is_some};
 ghost use Rattle.std.specs.Str.{IsAscii};
 ghost use Rattle.std.specs.Str.Parse.{AllDigits, digits_value};
-ghost use Rattle.aerie_text.specs.Numerals.{digits_at, fits_number, is_duration, unit_len};
+ghost use Rattle.aerie_text.specs.Numerals.{digits_at, fits_number, is_duration, number_at};
 
 use crate::bytes::{begins_with_word_byte, digit_len};
 use crate::token::TokenKind;
-use aerie_base::{NUMBER_LIMIT, read_duration};
+use aerie_base::{NUMBER_LIMIT, duration_len, read_duration};
 
 /// The most digits of a number.
 const MOST_DIGITS: usize = 19;
@@ -15,35 +15,29 @@ const MOST_DIGITS: usize = 19;
 /// The greatest number.
 const GREATEST: u64 = NUMBER_LIMIT as u64;
 
-/// The kind and the length of the token of the digits in front, all of which it takes, or `None` where they are none.
-/// Each digit is read a few times.
-#[tactic(auto, using(crate::proofs::Figures::front_digits), unfolding(crate::specs::Numerals::digits_at))]
+/// The kind and the length of the token of the digits in front, all of which it takes, or `None` where they are none. A
+/// duration takes the parts behind them too, as long as their units fall. Each digit is read a few times.
 pub fn digits_at(bytes: &[u8]) -> Option<(TokenKind, usize)>
     ensures { result ≡ digits_at bytes.now }
 {
-    let count = digit_len(bytes);
-    let (digits, rest) = bytes.split_at(count);
-    let len = count + unit_len(rest);
+    let len = duration_len(bytes);
     if is_duration(&bytes[..len]) {
         return Some((TokenKind::Duration, len));
     }
+    number_at(bytes)
+}
+
+/// The number of the digits in front, all of which it takes, or `None` where they are none.
+#[tactic(auto, using(crate::proofs::Figures::front_digits))]
+fn number_at(bytes: &[u8]) -> Option<(TokenKind, usize)>
+    ensures { result ≡ number_at bytes.now }
+{
+    let count = digit_len(bytes);
+    let (digits, rest) = bytes.split_at(count);
     if begins_with_word_byte(rest) || !fits_number(digits) {
         return None;
     }
     Some((TokenKind::Number, count))
-}
-
-/// How long the unit of a duration in front is, or 0 where there is none.
-fn unit_len(bytes: &[u8]) -> usize
-    ensures len { result ≡ unit_len bytes.now }
-    ensures within { result ≤ length bytes.now }
-{
-    match bytes {
-        [b'u', b's', ..] | [b'm', b's', ..] => 2,
-        [b'm', b'i', b'n', ..] => 3,
-        [b's' | b'h' | b'd', ..] => 1,
-        _ => 0,
-    }
 }
 
 /// Whether the bytes are a duration.

@@ -82,7 +82,7 @@ pub enum Sort {
     Name,
     /// Digits.
     Number,
-    /// A length of time: digits and a unit. The word `duration` is of another sort.
+    /// A length of time: digits and a unit, or several such parts. The word `duration` is of another sort.
     Time,
     /// A text between quotation marks.
     Quoted,

@@ -5,7 +5,7 @@ pub enum TokenKind {
     Word,
     /// 1 to 19 digits of a value of at most 10^18.
     Number,
-    /// Digits and at once a unit of time, at most 10^15 microseconds.
+    /// Parts of digits and at once a unit of time, whose units fall, at most 10^15 microseconds in all.
     Duration,
     /// Characters of one line between quotation marks.
     Quoted,

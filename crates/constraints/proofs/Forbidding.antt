@@ -1,5 +1,5 @@
 -- Two types that exclude one another: what the sweep takes and gives, over the spans of a run.
-use Rattle.std.proofs.Common.{◌≡◌, ℕ, Bool, true, false, not, List, [], map, None, refl, sym, ap, subst, ◌∙◌}
+use Rattle.std.proofs.Common.{◌≡◌, ℕ, Bool, true, false, not, List, map, None, refl, ap, subst, ◌∙◌}
 use Rattle.aerie_base.specs.declared.models.model.Parts.{Parts}
 use Rattle.run_data.specs.declared.runs.Run.{Run}
 use Rattle.run_data.specs.Spans.{SpanOf, spans_of}

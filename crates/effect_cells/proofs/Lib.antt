@@ -1,10 +1,12 @@
 pub mod Flags
+pub mod GatheredEffects
 pub mod GatheringAll
 pub mod GatheringOne
 pub mod GatheringSteps
 pub mod GatheringTree
 pub mod InRange
 pub mod KeptWakes
+pub mod Listed
 pub mod ModelCells
 pub mod PendingLoops
 pub mod ReadFlags

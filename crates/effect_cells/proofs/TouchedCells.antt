@@ -17,20 +17,20 @@ use Rattle.effect_cells.proofs.InRange.{first_is, rest_is, each_is}
 
 -- ---- which cells are among some
 
-same_number : (a b : ℕ) → nat_eq a b ≡ true → b ≡ a
+pub same_number : (a b : ℕ) → nat_eq a b ≡ true → b ≡ a
 same_number a b e = grind (arith, nat_tests)
 
 other_number : (a b : ℕ) → nat_eq a b ≡ false → b ≢ a
 other_number a b e = grind (arith, nat_tests)
 
-itself : (a : ℕ) → nat_eq a a ≡ true
+pub itself : (a : ℕ) → nat_eq a a ≡ true
 itself a = grind (arith, nat_tests)
 
-or_right : (a b : Bool) → b ≡ true → (a || b) ≡ true
+pub or_right : (a b : Bool) → b ≡ true → (a || b) ≡ true
 or_right true b e = refl
 or_right false b e = e
 
-or_left : (a b : Bool) → a ≡ true → (a || b) ≡ true
+pub or_left : (a b : Bool) → a ≡ true → (a || b) ≡ true
 or_left true b e = refl
 or_left false b e = absurd (false≢true e)
 
@@ -71,7 +71,7 @@ default_state [] i d within = absurd (omega arith)
 default_state (x ∷ xs) zero d within = refl
 default_state (x ∷ xs) (suc i) d within = default_state xs i d (omega arith)
 
-default_pending : (pending : List Pending) (i : ℕ) (d : Pending) → i < length pending → pending_at pending i ≡ get_or pending i d
+pub default_pending : (pending : List Pending) (i : ℕ) (d : Pending) → i < length pending → pending_at pending i ≡ get_or pending i d
 default_pending [] i d within = absurd (omega arith)
 default_pending (x ∷ xs) zero d within = refl
 default_pending (x ∷ xs) (suc i) d within = default_pending xs i d (omega arith)

@@ -4,6 +4,7 @@ pub mod ChangeCases
 pub mod ChangeLaws
 pub mod Changes
 pub mod Folded
+pub mod Gathered
 pub mod Gathering
 pub mod KeptWakes
 pub mod Pending

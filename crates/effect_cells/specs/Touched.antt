@@ -1,6 +1,7 @@
--- Which cells a tree has an effect on, as flags by cell.
-use Rattle.std.specs.Prelude.{◌≡◌, ℕ, ◌+◌, Bool, true, false, ◌||◌, List, [], ◌∷◌, pos, refl}
-use Rattle.effect_cells.specs.Worth.{has_effect_on}
+-- Which cells a tree has an effect on, as flags by cell and as their numbers.
+use Rattle.std.specs.Prelude.{◌≡◌, ℕ, ◌+◌, Bool, true, false, ◌||◌, List, [], ◌∷◌, pos, is_some, if◌then◌else◌, refl}
+use Rattle.effect_cells.specs.Worth.{has_effect_on, worth_of}
+use Rattle.effect_cells.specs.declared.effects.CellState.{CellState}
 use Rattle.effect_cells.specs.declared.effects.Effect.TheVariants.{Add}
 use Rattle.effect_cells.specs.declared.trees.Part.{Emit}
 use Rattle.effect_cells.specs.declared.trees.Tree.{Tree}
@@ -13,6 +14,12 @@ flagged_from test from (flag ∷ rest) = (flag || test from) ∷ flagged_from te
 -- flags by cell, and the cells besides on which a tree has an effect
 abbrev pub also_touched : Tree → List Bool → List Bool
 also_touched tree flags = flagged_from (has_effect_on tree) 0 flags
+
+-- the numbers of the cells on which a tree has an effect, in order; the first of the cells has number `cell`
+abbrev pub touched_from : ℕ → Tree → List CellState → List ℕ
+touched_from cell tree [] = []
+touched_from cell tree (state ∷ rest) =
+    if is_some (worth_of tree cell) then cell ∷ touched_from (cell + 1) tree rest else touched_from (cell + 1) tree rest
 
 -- ---- worked cases
 

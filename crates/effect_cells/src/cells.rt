@@ -1,17 +1,20 @@
 ghost use Rattle.std.specs.Prelude.{◌≡◌, ◌<◌, ◌^◌, length, slice_get, IsTrue, Some, OnOk, OnErr, IfOk};
 ghost use Rattle.effect_cells.specs.Sums.{sum_limit};
 ghost use Rattle.effect_cells.specs.Worth.{magnitude_of};
+ghost use Rattle.effect_cells.specs.Gathered.{IsWhole, IsSomeTree, HasBegun};
+ghost use Rattle.effect_cells.specs.declared.trees.Tree.{Tree};
 ghost use Rattle.effect_cells.specs.Cells.{initial, fits_cells, committed_cells, passed, emitted, IsSmallOn, verdict, AreInRange};
 
 use crate::committing::commit_tree;
 use crate::effects::{CellState, Effect};
+use crate::gathering::Gathering;
 use crate::passing::{check_later, pass_each};
-use crate::pending::{Pending, nothing_pending};
 use crate::starts::first_states;
 use crate::states::applied;
 use crate::trees::Tree;
 use aerie_base::{Model, OutOfMemory, Time};
 use std::alloc::Global;
+use std::mem;
 use thiserror::Error;
 
 /// A cell would leave its range: the first such cell, counted from 0 in the order of the model.
@@ -26,10 +29,8 @@ pub struct OutOfRange {
 #[derive(Debug, Drop)]
 pub struct Cells {
     states: Vec<CellState>,
-    /// Room for what a commit is going to do, where nothing is pending; a copy has none.
-    pending: Vec<Pending>,
-    /// Room for the cells that a commit touches.
-    touched: Vec<u16>,
+    /// Room to gather what a commit is going to do, where nothing is pending; a copy has none.
+    room: Gathering,
 }
 
 impl std::marker::Model for Cells {
@@ -41,7 +42,7 @@ impl std::marker::Model for Cells {
 
     ghost view = { λ cells. cells.states.items };
 
-    ghost invariant = { λ cells. (length cells.states.items < 2 ^ 16) × AreBlank cells.pending.items };
+    ghost invariant = { λ cells. (length cells.states.items < 2 ^ 16) × AreBlank cells.room.pending };
 }
 
 impl Cells {
@@ -53,13 +54,8 @@ impl Cells {
     {
         let starts = model.cells();
         let states = first_states(alloc, starts)?;
-        let pending = nothing_pending(alloc, states.as_slice())?;
-        let touched = Vec::with_capacity(alloc, states.len())?;
-        Ok(Cells {
-            states,
-            pending,
-            touched,
-        })
+        let room = Gathering::new(alloc, states.as_slice())?;
+        Ok(Cells { states, room })
     }
 
     /// The state of the cell. It takes no memory.
@@ -82,12 +78,35 @@ impl Cells {
         ensures committed { OnOk result (self.new ≡ committed_cells self.old tree.now) }
         ensures unchanged { OnErr result (self.new ≡ self.old) }
     {
-        commit_tree(
-            tree,
-            self.states.as_mut_slice(),
-            self.pending.as_mut_slice(),
-            &mut self.touched,
-        )
+        commit_tree(tree, self.states.as_mut_slice(), &mut self.room)
+    }
+
+    /// Begins to gather the effects of a batch. It takes memory for cells that were copied alone.
+    pub fn begin_gathering(&mut self, alloc: Global) -> Result<Gathering, OutOfMemory>
+        ensures same { self.new ≡ self.old }
+        ensures begun { IfOk result (HasBegun self.old) }
+    {
+        let room = mem::replace(&mut self.room, Gathering::none(alloc));
+        if room.is_on(self.states.len()) {
+            return Ok(room);
+        }
+        Gathering::new(alloc, self.states.as_slice())
+    }
+
+    /// Puts the effects that were gathered on the cells, as `commit` does with a tree of them. It takes no memory, and a time
+    /// in the order of the number of cells that they touch.
+    pub fn commit_gathered(&mut self, gathering: Gathering) -> Result<(), OutOfRange>
+        requires range { AreInRange self.old }
+        requires gathered { IsSomeTree self.old gathering }
+        ensures answer { (tree : Tree) → IsWhole self.old tree gathering → result ≡ verdict (committed_cells self.old tree) }
+        ensures range { OnOk result (AreInRange self.new) }
+        ensures committed { OnOk result ((tree : Tree) → IsWhole self.old tree gathering → self.new ≡ committed_cells self.old tree) }
+        ensures unchanged { OnErr result (self.new ≡ self.old) }
+    {
+        let mut room = gathering;
+        let end = room.commit_on(self.states.as_mut_slice());
+        self.room = room;
+        end
     }
 
     /// Applies one effect to one cell, also past the cell's range. It takes no memory.
@@ -121,8 +140,7 @@ impl Cells {
         let states = Vec::from_slice(alloc, self.states.as_slice())?;
         Ok(Cells {
             states,
-            pending: Vec::new(alloc),
-            touched: Vec::new(alloc),
+            room: Gathering::none(alloc),
         })
     }
 }

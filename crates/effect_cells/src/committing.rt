@@ -1,47 +1,112 @@
-ghost use Rattle.std.specs.Prelude.{◌≡◌, ◌<◌, ◌^◌, true, length, OnOk, OnErr};
+ghost use Rattle.std.specs.Prelude.{◌≡◌, ◌<◌, ◌+◌, ◌^◌, ℕ, Option, true, length, IsTrue, IsFalse, OnOk, OnErr};
 ghost use Rattle.effect_cells.specs.Sums.{sum_limit};
 ghost use Rattle.effect_cells.specs.Worth.{magnitude_of, magnitude_if_any, worth_of};
 ghost use Rattle.effect_cells.specs.States.{applied_if_any, is_in_range};
 ghost use Rattle.effect_cells.specs.Pending.{with_pending, AreSmallPending};
+ghost use Rattle.effect_cells.specs.Folded.{folded_worth, folded_part_worth, folded_magnitude, folded_part_magnitude, folded_fits, folded_part_fits};
 ghost use Rattle.effect_cells.specs.Gathering.{AreBlank};
+ghost use Rattle.effect_cells.specs.Gathered.{Gathered as Stand, IsReady, IsGathered, IsWhole, HasRoom};
 ghost use Rattle.effect_cells.specs.TouchedCells.{Touches, lower};
-ghost use Rattle.effect_cells.specs.Cells.{committed_cells, first_out, fits_cells, verdict, AreInRange};
+ghost use Rattle.effect_cells.specs.Cells.{accepts, committed_cells, first_out, fits_cells, verdict, AreInRange};
+ghost use Rattle.effect_cells.specs.declared.effects.Effect.{Effect as Change};
 
 use crate::cells::OutOfRange;
 use crate::effects::{CellState, Effect};
-use crate::pending::{Pending, clear, gather, nothing};
+use crate::gathering::Gathering;
+use crate::pending::{Pending, clear, nothing};
 use crate::states::{applied, is_in_range};
-use crate::trees::Tree;
+use crate::trees::{Part, Tree};
 use crate::worths::worth;
+use aerie_base::OutOfMemory;
 
 /// Puts the effects of a tree on the cells. It takes a time in the order of the tree's size, whatever the number of cells,
 /// where there is room to gather them.
 pub(crate) fn commit_tree(
     tree: &Tree,
     states: &mut [CellState],
-    pending: &mut [Pending],
-    touched: &mut Vec<u16>,
+    room: &mut Gathering,
 ) -> Result<(), OutOfRange>
     requires range { AreInRange states.old }
     requires kinds { fits_cells states.old tree.now ≡ true }
     requires small { magnitude_of tree.now < sum_limit }
     requires cells { length states.old < 2 ^ 16 }
-    requires blank { AreBlank pending.old }
+    requires blank { AreBlank room.old.pending }
     ensures answer { result ≡ verdict (committed_cells states.old tree.now) }
     ensures range { OnOk result (AreInRange states.new) }
     ensures committed { OnOk result (states.new ≡ committed_cells states.old tree.now) }
     ensures unchanged { OnErr result (states.new ≡ states.old) }
-    ensures blank { AreBlank pending.new }
+    ensures blank { AreBlank room.new.pending }
 {
-    if gather(tree, states, pending, touched) {
-        commit_pending(states, pending, touched.as_slice())
+    if gather(tree, states, room) {
+        room.commit_on(states)
     } else {
         commit_worths(tree, states)
     }
 }
 
+/// Gathers the effects of a tree, where nothing is pending. Whether there was room; where there was none, nothing is pending.
+fn gather(tree: &Tree, states: &[CellState], room: &mut Gathering) -> bool
+    requires kinds { fits_cells states.now tree.now ≡ true }
+    requires small { magnitude_of tree.now < sum_limit }
+    requires blank { AreBlank room.old.pending }
+    ensures whole { IsTrue result → IsWhole states.now tree.now room.new }
+    ensures blank { IsFalse result → AreBlank room.new.pending }
+{
+    if !room.is_on(states.len()) {
+        return false;
+    }
+    if gather_tree(tree, states, room).is_ok() {
+        return true;
+    }
+    room.clear();
+    false
+}
+
+/// Gathers the effects of a tree, from the last to the first.
+#[cycle(gather)]
+fn gather_tree(
+    tree: &Tree,
+    states: &[CellState],
+    gathering: &mut Gathering,
+) -> Result<(), OutOfMemory>
+    requires kinds { folded_fits (accepts states.now) tree.now ≡ true }
+    requires ready { IsReady states.now gathering.old }
+    requires room { HasRoom (folded_magnitude tree.now) gathering.old }
+    ensures { OnOk result (IsGathered states.now (folded_worth tree.now) (folded_magnitude tree.now) gathering.old gathering.new) }
+{
+    let entered_at = gathering.clock();
+    let parts = tree.items.as_slice();
+    let mut left = parts.len();
+    while left > 0 {
+        left -= 1;
+        gather_part(&parts[left], states, entered_at, gathering)?;
+    }
+    Ok(())
+}
+
+/// Gathers a part of a tree that was entered when the clock showed `entered_at`.
+#[cycle(gather)]
+fn gather_part(
+    part: &Part,
+    states: &[CellState],
+    entered_at: u64,
+    gathering: &mut Gathering,
+) -> Result<(), OutOfMemory>
+    requires kinds { folded_part_fits (accepts states.now) part.now ≡ true }
+    requires ready { IsReady states.now gathering.old }
+    requires room { HasRoom (folded_part_magnitude part.now) gathering.old }
+    ensures { OnOk result ((before : Stand) (behind : ℕ → Option Change) (size : ℕ) →
+        before.clock ≡ entered_at → IsGathered states.now behind size before gathering.old →
+        IsGathered states.now (λ cell. folded_part_worth part.now cell (behind cell)) (folded_part_magnitude part.now + size) before gathering.new) }
+{
+    match part {
+        Part::Emit { cell, effect } => gathering.gather(*cell, effect, entered_at),
+        Part::Child(child) => gather_tree(child, states, gathering),
+    }
+}
+
 /// Puts what is pending on the cells, of which it looks at those that are touched alone.
-fn commit_pending(
+pub(crate) fn commit_pending(
     states: &mut [CellState],
     pending: &mut [Pending],
     touched: &[u16],

@@ -1,5 +1,6 @@
 //! Laws, each the promise of a function without a body.
 
+ghost use Rattle.effect_cells.specs.Gathered.{BeginsReady, EntersWithNothing, ChildIsBeside, StaysReady};
 ghost use Rattle.effect_cells.specs.KeptWakes.{PassesInParts, HoldsByCellsRead, WakesByCellsRead, HoldsWhereItWakesNow, StaysWhileTimePasses, StaysThroughBatches};
 
 /// To let a time pass and then another is to let both pass.
@@ -20,4 +21,13 @@ pub fn waiting_depends_on_cells_read()
 pub fn kept_wake_times_stay()
     ensures passing { StaysWhileTimePasses }
     ensures batches { StaysThroughBatches }
+{}
+
+/// How a tree is gathered from behind: as it is entered it has nothing, and a child that is gathered next is beside what is
+/// gathered; then the next part may be gathered.
+pub fn effects_are_gathered()
+    ensures begins { BeginsReady }
+    ensures enters { EntersWithNothing }
+    ensures child { ChildIsBeside }
+    ensures stays { StaysReady }
 {}

@@ -8,6 +8,7 @@ mod committing;
 mod counters;
 mod effect_trait;
 mod effects;
+mod gathering;
 mod kinds;
 mod laws;
 mod passing;
@@ -27,8 +28,11 @@ pub use cells::{Cells, OutOfRange};
 pub use counters::Counter;
 pub use effect_trait::EffectTrait;
 pub use effects::{CellState, Effect};
+pub use gathering::Gathering;
 pub use kinds::CellKind;
-pub use laws::{kept_wake_times_stay, time_passes_in_parts, waiting_depends_on_cells_read};
+pub use laws::{
+    effects_are_gathered, kept_wake_times_stay, time_passes_in_parts, waiting_depends_on_cells_read,
+};
 pub use read_cells::flag_read;
 pub use registers::{Change, Register};
 pub use touching::flag_touched;

@@ -5,7 +5,7 @@ use Rattle.std.specs.List.{slice_get}
 use Rattle.std.specs.BTreeMap.{is_at}
 use Rattle.aerie_base.specs.Paths.{root, child_path, path_cmp}
 use Rattle.aerie_base.specs.declared.plans.Edge.TheVariants.{Start, End}
-use Rattle.run_data.specs.declared.frames.Frame.{Frame}
+use Rattle.run_data.specs.TaskFrames.{Frame}
 use Rattle.run_data.specs.Endings.{gone_on, after_batch}
 use Rattle.run_data.specs.Tasks.{TaskPhase, anchored, ready, delayed, waiting, calling, over, Task, Table, task_at, on_each, after_frame, after_frames, task_after, children_made, children_in}
 use Rattle.run_data.specs.laws.EndedTasks.{OverUnder, first as over_here, later as over_below}

@@ -4,7 +4,7 @@ use Rattle.std.proofs.lemmas.List.{drop_more}
 use Rattle.std.specs.Ordering.{is_eq}
 use Rattle.std.specs.BTreeMap.{is_at}
 use Rattle.aerie_base.specs.Paths.{path_cmp}
-use Rattle.run_data.specs.declared.frames.Frame.{Frame}
+use Rattle.run_data.specs.TaskFrames.{Frame}
 use Rattle.run_data.specs.Tasks.{Table, task_at, children_made, children_in, task_after, after_frame, after_frames}
 use Rattle.engine_core.specs.TasksByNumber.{MadeIsSmall}
 use Rattle.run_data.specs.TableLaws.{path_itself, is_same, at_with}

@@ -6,7 +6,7 @@ use Rattle.aerie_base.specs.Paths.{root, child_path, is_prefix, path_of, comes_f
 use Rattle.aerie_base.specs.declared.plans.Anchor.{Anchor}
 use Rattle.aerie_base.specs.declared.plans.Edge.{Edge}
 use Rattle.aerie_base.specs.declared.plans.Edge.TheVariants.{Start, End}
-use Rattle.run_data.specs.declared.frames.Frame.{Frame}
+use Rattle.run_data.specs.TaskFrames.{Frame}
 use Rattle.run_data.specs.Endings.{has_come, back, due_phase, gone_on}
 use Rattle.run_data.specs.Tasks.{TaskPhase, anchored, ready, delayed, waiting, calling, over, Task, Table, after_delay}
 use Rattle.run_data.specs.laws.EndedTasks.{is_open_status, OverUnder, first as over_here, later as over_below}

@@ -6,8 +6,8 @@ use Rattle.std.specs.declared.cmp.Ordering.{Ordering}
 use Rattle.std.specs.declared.cmp.Ordering.TheVariants.{Less, Equal, Greater}
 use Rattle.aerie_base.specs.declared.faults.Fault.{Fault}
 use Rattle.aerie_base.specs.Paths.{path_cmp}
-use Rattle.run_data.specs.declared.frames.Frame.{Frame}
-use Rattle.run_data.specs.Batches.{Blame, first_unless_greater, lesser, blamed, fault_in, least_fault, cost_of, in_front_unless_greater, put_by_path, by_path}
+use Rattle.run_data.specs.TaskFrames.{Frame}
+use Rattle.run_data.specs.Batches.{Blame, first_unless_greater, lesser, blamed, fault_in, least_fault, in_front_unless_greater, put_by_path, by_path}
 use Rattle.run_data.specs.Records.{unmatched, has_fit}
 use Rattle.run_data.specs.declared.frames.Record.{Record}
 use Rattle.run_data.specs.laws.Orders.{EachOf}

@@ -13,7 +13,7 @@ use Rattle.effect_cells.specs.declared.trees.Tree.{Tree}
 use Rattle.effect_cells.specs.Cells.{committed_cells, first_out, fits_cells, refusal, verdict}
 use Rattle.effect_cells.specs.Sums.{sum_limit}
 use Rattle.effect_cells.specs.Worth.{magnitude_of}
-use Rattle.run_data.specs.declared.frames.Frame.{Frame}
+use Rattle.run_data.specs.TaskFrames.{Frame}
 use Rattle.run_data.specs.declared.frames.Record.{Record}
 use Rattle.run_data.specs.declared.jobs.Job.{Job}
 use Rattle.run_data.specs.declared.runs.Who.TheVariants as who

@@ -11,7 +11,7 @@ use Rattle.std.specs.Ordering.{is_lt, ordering_reverse}
 use Rattle.std.specs.declared.cmp.Ordering.{Ordering}
 use Rattle.std.specs.declared.cmp.Ordering.TheVariants.{Less, Equal, Greater}
 use Rattle.aerie_base.specs.Paths.{path_cmp}
-use Rattle.run_data.specs.declared.frames.Frame.{Frame}
+use Rattle.run_data.specs.TaskFrames.{Frame}
 use Rattle.run_data.specs.Batches.{by_path, put_by_path, in_front_unless_greater}
 use Rattle.run_data.specs.FrameLaws.{each_put}
 use Rattle.run_data.specs.laws.Orders.{EachOf}

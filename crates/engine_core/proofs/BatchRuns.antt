@@ -1,19 +1,9 @@
 -- Runs of a stepper one after another.
-use Rattle.std.proofs.Common.{ℕ, ◌-◌, List, ◌∙◌, arith}
+use Rattle.std.proofs.Common.{ℕ, List, ◌∙◌, arith}
 use Rattle.aerie_base.specs.declared.models.model.Parts.{Parts}
 use Rattle.run_data.specs.declared.frames.Record.{Record}
-use Rattle.run_data.specs.Waves.{RoseAlike}
+use Rattle.run_data.specs.Counts.{rose_on}
 use Rattle.engine_core.specs.BatchGenerations.{Ran}
-
-rose_on : (count steps count_then steps_then count_after steps_after : ℕ) → RoseAlike count steps count_then steps_then →
-    RoseAlike count_then steps_then count_after steps_after → RoseAlike count steps count_after steps_after
-rose_on count steps count_then steps_then count_after steps_after first second = (
-  omega (arith, first.0, second.0),
-  λ rise is.
-      let one = first.1 (steps_then - steps) (omega (arith, first.0)) in
-      let other = second.1 (steps_after - steps_then) (omega (arith, second.0)) in
-      omega (arith, one, other, is, first.0, second.0),
-)
 
 pub ran_on : {was is later : Parts → Type 0} {had has have : List Record} {address stays same : ℕ} {opened steps looks opened_then steps_then looks_then opened_after steps_after looks_after : ℕ} →
     Ran was is had has address stays opened steps looks opened_then steps_then looks_then → Ran is later has have stays same opened_then steps_then looks_then opened_after steps_after looks_after →

@@ -1,27 +1,23 @@
 -- The effects of a step of a valid model are small enough to be put on the view of its job one after another.
-use Rattle.std.proofs.Common.{◌≡◌, ℕ, zero, suc, ◌+◌, ◌*◌, ◌<◌, ◌≤◌, true, IsTrue, List, [], ◌∷◌, length, Option, Some, None, slice_get, slice_set, refl, sym, ap, ◌∙◌, subst, arith}
-use Rattle.std.proofs.lemmas.Int.{ints}
+use Rattle.std.proofs.Common.{◌≡◌, ℕ, zero, suc, ◌+◌, ◌*◌, ◌<◌, ◌≤◌, true, IsTrue, List, [], ◌∷◌, length, Option, Some, None, slice_get, refl, sym, ap, ◌∙◌, subst, arith}
 use Rattle.std.proofs.lemmas.List.{length-set}
 use Rattle.std.proofs.lemmas.Option.{slice_get_within}
 use Rattle.aerie_base.specs.Ranges.{number_limit, step_limit}
 use Rattle.aerie_base.specs.declared.models.model.Parts.{Parts}
 use Rattle.aerie_base.specs.models.ValidModel.{valid_model}
 use Rattle.effect_cells.specs.declared.effects.CellState.{CellState}
-use Rattle.effect_cells.specs.declared.effects.CellState.TheVariants as state
 use Rattle.effect_cells.specs.declared.effects.Effect.{Effect}
-use Rattle.effect_cells.specs.declared.effects.Effect.TheVariants.{Add, Register, Flow}
-use Rattle.effect_cells.specs.declared.registers.Change.TheVariants as change
 use Rattle.effect_cells.specs.Cells.{accepts, accepted_by, emitted, emitted_on, IsSmallOn}
-use Rattle.effect_cells.specs.States.{applied, IsSmallState}
+use Rattle.effect_cells.specs.States.{applied}
 use Rattle.effect_cells.specs.Sums.{sum_limit}
-use Rattle.run_data.specs.declared.frames.Frame.{Frame}
+use Rattle.run_data.specs.TaskFrames.{Frame}
 use Rattle.run_data.specs.declared.frames.Item.{Item}
 use Rattle.run_data.specs.declared.frames.Item.TheVariants as item
 use Rattle.run_data.specs.declared.frames.Status.{Status}
 use Rattle.run_data.specs.declared.jobs.Job.{Job}
 use Rattle.run_data.specs.Frames.{job_step, frame_of}
 use Rattle.run_data.specs.MagnitudeLaws.{set_within, applied_within, is_small}
-use Rattle.run_data.specs.Magnitudes.{state_magnitude, effect_magnitude, AreWithin}
+use Rattle.run_data.specs.Magnitudes.{effect_magnitude, AreWithin}
 use Rattle.run_data.specs.StepStates.{StepState}
 use Rattle.run_data.specs.Steps.{Stepped}
 use Rattle.run_data.specs.TaskStates.{body_of}

@@ -5,7 +5,7 @@ use Rattle.std.proofs.Common.{◌≡◌, ℕ, List, [], ◌∷◌, ◌++◌, sym
 use Rattle.aerie_base.specs.declared.faults.Fault.{Fault}
 use Rattle.aerie_base.specs.declared.models.model.Parts.{Parts}
 use Rattle.effect_cells.specs.declared.effects.CellState.{CellState}
-use Rattle.run_data.specs.declared.frames.Frame.{Frame}
+use Rattle.run_data.specs.TaskFrames.{Frame}
 use Rattle.run_data.specs.declared.runs.Outcome.TheVariants.{Failed as Failed_, StepLimit}
 use Rattle.run_data.specs.declared.runs.Run.{Run}
 use Rattle.run_data.specs.declared.runs.Who.{Who}

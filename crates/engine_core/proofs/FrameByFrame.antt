@@ -6,12 +6,13 @@ use Rattle.aerie_base.specs.Ranges.{step_limit}
 use Rattle.aerie_base.specs.declared.models.model.Parts.{Parts}
 use Rattle.effect_cells.specs.declared.effects.CellState.{CellState}
 use Rattle.effect_cells.specs.Cells.{emitted}
-use Rattle.run_data.specs.declared.frames.Frame.{Frame}
+use Rattle.run_data.specs.TaskFrames.{Frame}
 use Rattle.run_data.specs.declared.frames.Item.{Item}
 use Rattle.run_data.specs.declared.frames.Item.TheVariants as item
 use Rattle.run_data.specs.declared.frames.Record.{Record}
 use Rattle.run_data.specs.declared.jobs.Job.{Job}
 use Rattle.run_data.specs.Batches.{cost_of}
+use Rattle.run_data.specs.Counts.{cost_append, unmatched_append}
 use Rattle.run_data.specs.Frames.{child_job, frame_of, job_step, room_of}
 use Rattle.run_data.specs.Records.{unmatched, has_fit}
 use Rattle.run_data.specs.Steps.{Stepped}
@@ -126,20 +127,6 @@ deep_cost : (maker : List ℕ) (children : List Job) → cost_of (map (deep_fram
 deep_cost maker [] = refl
 deep_cost maker (child ∷ rest) = (let none = deep_cost maker rest in omega (arith, none))
 
-pub cost_append : (first second : List Frame) → cost_of (first ++ second) ≡ cost_of first + cost_of second
-cost_append [] second = omega arith
-cost_append (frame ∷ first) second = (let rest = cost_append first second in omega (arith, rest))
-
-pub unmatched_append : (records : List Record) (first second : List Frame) → unmatched (first ++ second) records ≡ unmatched first records + unmatched second records
-unmatched_append records [] second = omega arith
-unmatched_append records (frame ∷ first) second = by (has_fit records frame) (unmatched_append records first second)
-  where
-    by : (fits : Bool) → unmatched (first ++ second) records ≡ unmatched first records + unmatched second records →
-        (if fits then unmatched (first ++ second) records else frame.cost + unmatched (first ++ second) records)
-        ≡ (if fits then unmatched first records else frame.cost + unmatched first records) + unmatched second records
-    by true rest = rest
-    by false rest = omega (arith, rest)
-
 -- the frames of a generation cost what those of its jobs cost; there are no fewer, and the jobs that are due next are new
 pub record Counts (frames own : List Frame) (next : List PendingStep) : Type 0 where
   pub cost : cost_of own ≡ cost_of frames
@@ -160,7 +147,7 @@ CountsAll frames None = Unit {0}
 CountsAll frames (Some here) = Counts frames here.0 here.1
 
 first_alone : (records : List Record) (first second : List Frame) → unmatched second records ≡ 0 → unmatched (first ++ second) records ≡ unmatched first records
-first_alone records first second none = (let both = unmatched_append records first second in omega (arith, both, none))
+first_alone records first second none = (let both = unmatched_append first second records in omega (arith, both, none))
 
 one_counts : (room : ℕ) (maker : List ℕ) (frame : Frame) (children : List Job) → CountsAll (frame ∷ []) (with_children room maker frame children)
 one_counts zero maker frame children = record {
@@ -182,7 +169,7 @@ both_count first second (Some one) None h k = tt
 both_count first second (Some one) (Some other) h k = record {
   cost = cost_append one.0 other.0 ∙ (λ i. h.cost i + k.cost i) ∙ sym (cost_append first second);
   unmatched_too = λ records.
-      unmatched_append records one.0 other.0 ∙ (λ i. h.unmatched_too records i + k.unmatched_too records i) ∙ sym (unmatched_append records first second);
+      unmatched_append one.0 other.0 records ∙ (λ i. h.unmatched_too records i + k.unmatched_too records i) ∙ sym (unmatched_append first second records);
   many = (let a = length-append one.0 other.0 in let b = length-append first second in omega (arith, a, b, h.many, k.many));
   fresh_too = each_append (λ due. due.number ≡ 0) one.1 other.1 h.fresh_too k.fresh_too;
 }
@@ -247,7 +234,7 @@ frame_counts model jobs frames made after dues same adds =
         record {
           cost = sym (ap cost_of own) ∙ cost_append made here.0 ∙ ap (λ n. cost_of made + n) counts.cost;
           unmatched_too = λ records.
-              sym (ap (λ (l : List Frame). unmatched l records) own) ∙ unmatched_append records made here.0 ∙ ap (λ n. unmatched made records + n) (counts.unmatched_too records);
+              sym (ap (λ (l : List Frame). unmatched l records) own) ∙ unmatched_append made here.0 records ∙ ap (λ n. unmatched made records + n) (counts.unmatched_too records);
           many = (let long = length-append made here.0 in let all : length (made ++ here.0) ≡ length after = ap length own in omega (arith, long, all, counts.many));
           few = all_few dues (subst (EachOf (λ due. due.number ≡ 0)) next counts.fresh_too);
         }

@@ -13,7 +13,7 @@ use Rattle.effect_cells.specs.States.{applied_if_any}
 use Rattle.effect_cells.specs.TouchedCells.{is_cell_among}
 use Rattle.effect_cells.specs.WakeTimes.{wake_time}
 use Rattle.effect_cells.specs.Worth.{worth_of}
-use Rattle.run_data.specs.declared.frames.Frame.{Frame}
+use Rattle.run_data.specs.TaskFrames.{Frame}
 use Rattle.run_data.specs.declared.jobs.Job.{Job}
 use Rattle.run_data.specs.Batches.{committed, batch, judged, when_within, when_no_fault, unless_out, Blame, least_fault, tree_of, cost_of, touched_from}
 use Rattle.run_data.specs.Frames.{Made, Making, made_by_all}

@@ -7,7 +7,7 @@ use Rattle.aerie_base.specs.declared.models.model.Parts.{Parts}
 use Rattle.aerie_base.specs.declared.plans.Plan.{Plan}
 use Rattle.effect_cells.specs.declared.effects.CellState.{CellState}
 use Rattle.effect_cells.specs.Cells.{passed, first_out}
-use Rattle.run_data.specs.declared.frames.Frame.{Frame}
+use Rattle.run_data.specs.TaskFrames.{Frame}
 use Rattle.run_data.specs.declared.frames.Record.{Record}
 use Rattle.run_data.specs.declared.jobs.Job.{Job}
 use Rattle.run_data.specs.declared.runs.Instant.{Instant}
@@ -18,7 +18,8 @@ use Rattle.run_data.specs.Fresh.{SimulationState, start, next_state, next_by, wo
 use Rattle.run_data.specs.Records.{unmatched, has_fit}
 use Rattle.run_data.specs.Tasks.{on_each, woken, ready_jobs}
 use Rattle.run_data.specs.Transitions.{Next, more, finished, onward}
-use Rattle.run_data.specs.Waves.{last_count, RoseAlike}
+use Rattle.run_data.specs.Counts.{unmatched_append, rose_not}
+use Rattle.run_data.specs.Waves.{last_count}
 use Rattle.run_data.specs.laws.Weights.{weight, WeightFalls}
 use Rattle.engine_core.specs.BatchGenerations.{Ran}
 use Rattle.engine_core.specs.RunFrames.{frames_in_batches, frames_in_instants, frames_in_run}
@@ -96,19 +97,9 @@ module _ (P : List Frame → Type 0) (model : Parts) (plan : Plan) (bound : ℕ)
 
 -- ---- counts
 
-unmatched_more : (frames others : List Frame) (records : List Record) → unmatched (frames ++ others) records ≡ unmatched frames records + unmatched others records
-unmatched_more [] others records = (let none : unmatched others records ≡ 0 + unmatched others records = omega arith in none)
-unmatched_more (frame ∷ rest) others records = by (has_fit records frame) (unmatched_more rest others records)
-  where
-    by : (fits : Bool) → unmatched (rest ++ others) records ≡ unmatched rest records + unmatched others records →
-        (if fits then unmatched (rest ++ others) records else frame.cost + unmatched (rest ++ others) records)
-        ≡ (if fits then unmatched rest records else frame.cost + unmatched rest records) + unmatched others records
-    by true further = further
-    by false further = omega (arith, further)
-
 pub pays_more : (records : List Record) (frames others : List Frame) (before then_ after : ℕ) → then_ ≤ before + unmatched frames records → after ≤ then_ + unmatched others records →
     after ≤ before + unmatched (frames ++ others) records
-pays_more records frames others before then_ after first second = (let whole = unmatched_more frames others records in omega (arith, first, second, whole))
+pays_more records frames others before then_ after first second = (let whole = unmatched_append frames others records in omega (arith, first, second, whole))
 
 pub looks_more : (frames others : List Frame) (before then_ after : ℕ) → then_ ≤ before + 2 * length frames → after ≤ then_ + 2 * length others →
     after ≤ before + 2 * length (frames ++ others)
@@ -175,9 +166,6 @@ module _ (engine later : EngineState) (some : jobs_in engine.point ≡ [] → �
       by (finished run) jobs comes goes = absurd (jobs refl)
 
 -- ---- at the start and where nothing is run
-
-pub rose_not : (count steps : ℕ) → count ≤ last_count → RoseAlike count steps count steps
-rose_not count steps small = (omega arith, λ rise is. let none : rise ≡ 0 = omega (arith, is) in omega (arith, none, small))
 
 pub ran_not : (was : Parts → Type 0) (records : List Record) (address opened steps looks : ℕ) → opened ≤ last_count → Ran was was records records address address opened steps looks opened steps looks
 ran_not was records address opened steps looks small = record {

@@ -9,7 +9,7 @@ use Rattle.std.specs.declared.cmp.Ordering.{Ordering}
 use Rattle.std.specs.declared.cmp.Ordering.TheVariants.{Less, Equal, Greater}
 use Rattle.std.proofs.lemmas.Map.Lookups.{exact_bytes}
 use Rattle.aerie_base.specs.Paths.{path_cmp}
-use Rattle.run_data.specs.declared.frames.Frame.{Frame}
+use Rattle.run_data.specs.TaskFrames.{Frame}
 use Rattle.run_data.specs.laws.Orders.{EachOf}
 use Rattle.run_data.specs.laws.Trees.{frame_at}
 use Rattle.engine_core.specs.BatchOrders.{is_before, AreByPath}

@@ -14,7 +14,7 @@ use Rattle.effect_cells.specs.Sums.{sum_limit}
 use Rattle.effect_cells.specs.TreeRecursion.{part_gives}
 use Rattle.effect_cells.specs.TreeRecursionLaws.{gives-Child}
 use Rattle.effect_cells.specs.Worth.{magnitude, part_magnitude, tree_magnitude, magnitude_of, part_fits, tree_fits}
-use Rattle.run_data.specs.declared.frames.Frame.{Frame}
+use Rattle.run_data.specs.TaskFrames.{Frame}
 use Rattle.run_data.specs.declared.frames.Item.{Item}
 use Rattle.run_data.specs.declared.frames.Item.TheVariants as item
 use Rattle.run_data.specs.declared.jobs.Job.{Job}
@@ -27,7 +27,7 @@ use Rattle.run_data.specs.laws.Generations.{child_jobs}
 use Rattle.run_data.specs.laws.Orders.{EachOf, FitsCells, MadeFitsCells}
 use Rattle.run_data.specs.laws.SmallSteps.{IsSmallItem, IsJobWithin, StepsAreSmall, ChildrenAreJobs, WithinIsJob}
 use Rattle.engine_core.specs.BatchTrees.{HaveFewItems}
-use Rattle.engine_core.proofs.FrameByFrame.{cost_append}
+use Rattle.run_data.specs.Counts.{cost_append}
 
 -- ---- magnitudes
 

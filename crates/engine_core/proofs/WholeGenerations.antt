@@ -5,7 +5,7 @@ use Rattle.std.proofs.lemmas.List.{append-nil, take_all}
 use Rattle.std.proofs.lemmas.Option.{slice_get_read, slice_get-map, get_or_from_slice_get, slice_get_within}
 use Rattle.std.proofs.Math.Seq.{take-suc}
 use Rattle.aerie_base.specs.declared.models.model.Parts.{Parts}
-use Rattle.run_data.specs.declared.frames.Frame.{Frame}
+use Rattle.run_data.specs.TaskFrames.{Frame}
 use Rattle.run_data.specs.declared.jobs.Job.{Job}
 use Rattle.run_data.specs.laws.Generations.{child_jobs, beside_generation, pending_of}
 use Rattle.run_data.specs.laws.WaveGenerations.{generation_of}

@@ -2,7 +2,7 @@
 use Rattle.std.specs.Prelude.{◌≡◌, ℕ, ◌≤◌, List, [], map, length, Some, slice_get}
 use Rattle.aerie_base.specs.Ranges.{step_limit}
 use Rattle.aerie_base.specs.declared.models.model.Parts.{Parts}
-use Rattle.run_data.specs.declared.frames.Frame.{Frame}
+use Rattle.run_data.specs.TaskFrames.{Frame}
 use Rattle.run_data.specs.declared.frames.Item.{Item}
 use Rattle.run_data.specs.declared.jobs.Job.{Job}
 use Rattle.run_data.specs.laws.Generations.{child_jobs, deep_frame}

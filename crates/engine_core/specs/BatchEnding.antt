@@ -4,7 +4,7 @@ use Rattle.aerie_base.specs.declared.faults.Fault.TheVariants.{Range}
 use Rattle.effect_cells.specs.declared.effects.CellState.{CellState}
 use Rattle.effect_cells.specs.declared.trees.Tree.{Tree}
 use Rattle.effect_cells.specs.Cells.{committed_cells, first_out}
-use Rattle.run_data.specs.declared.frames.Frame.{Frame}
+use Rattle.run_data.specs.TaskFrames.{Frame}
 use Rattle.run_data.specs.declared.runs.Who.TheVariants as who
 use Rattle.run_data.specs.Batches.{Batch, failed, committed, touched_from}
 use Rattle.engine_core.specs.declared.batch_ends.BatchEnd.{BatchEnd}

@@ -5,7 +5,7 @@ use Rattle.aerie_base.specs.Paths.{child_limit, children_of, is_path}
 use Rattle.aerie_base.specs.Ranges.{number_limit, step_limit}
 use Rattle.aerie_base.specs.declared.models.model.Parts.{Parts}
 use Rattle.effect_cells.specs.declared.effects.CellState.{CellState}
-use Rattle.run_data.specs.declared.frames.Frame.{Frame}
+use Rattle.run_data.specs.TaskFrames.{Frame}
 use Rattle.run_data.specs.declared.frames.Record.{Record}
 use Rattle.run_data.specs.declared.jobs.Job.{Job}
 use Rattle.run_data.specs.declared.steppers.Wave.TheVariants.{Frames, Spent}

@@ -4,7 +4,7 @@ use Rattle.std.specs.Ordering.{is_lt}
 use Rattle.aerie_base.specs.declared.faults.Fault.{Fault}
 use Rattle.aerie_base.specs.Paths.{path_cmp}
 use Rattle.aerie_base.specs.declared.models.model.Parts.{Parts}
-use Rattle.run_data.specs.declared.frames.Frame.{Frame}
+use Rattle.run_data.specs.TaskFrames.{Frame}
 use Rattle.run_data.specs.declared.jobs.Job.{Job}
 use Rattle.run_data.specs.Batches.{Blame, fault_in, cost_of, by_path}
 use Rattle.run_data.specs.Frames.{Made, made_by_all}

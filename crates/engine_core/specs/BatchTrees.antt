@@ -3,7 +3,7 @@ use Rattle.std.specs.Prelude.{ℕ, zero, suc, ◌≤◌, List, [], length}
 use Rattle.aerie_base.specs.Paths.{child_path}
 use Rattle.aerie_base.specs.Ranges.{step_limit}
 use Rattle.effect_cells.specs.declared.trees.Part.{Part, Emit, Child}
-use Rattle.run_data.specs.declared.frames.Frame.{Frame}
+use Rattle.run_data.specs.TaskFrames.{Frame}
 use Rattle.run_data.specs.declared.frames.Item.{Item}
 use Rattle.run_data.specs.declared.frames.Item.TheVariants as item
 use Rattle.run_data.specs.laws.Orders.{EachOf}

@@ -1,7 +1,7 @@
 -- How the engine lets tasks go on, one after another.
 use Rattle.std.specs.Prelude.{◌≡◌, ◌⊎◌, ℕ, ◌<◌, ◌≤◌, true, List, Option, Some, None, length, slice_get, if◌then◌else◌}
 use Rattle.aerie_base.specs.Paths.{child_path, is_prefix, root}
-use Rattle.run_data.specs.declared.frames.Frame.{Frame}
+use Rattle.run_data.specs.TaskFrames.{Frame}
 use Rattle.aerie_base.specs.declared.plans.Edge.{Edge}
 use Rattle.aerie_base.specs.declared.plans.Edge.TheVariants.{Start, End}
 use Rattle.run_data.specs.Endings.{has_ended, result_of, has_come, gone_on}

@@ -142,18 +142,18 @@ pub(crate) fn run_batch<S: Stepper, L: Ledger, K: Ledger>(
     Ok(end)
 }
 
-/// Equal frames.
-fn copies(alloc: Global, frames: &[Frame]) -> Result<Vec<Frame>, OutOfMemory>
-    ensures { IfOk result (λ copies. copies.items ≡ frames.now) }
+/// The same frames once more, of which nothing is copied.
+fn shared(alloc: Global, frames: &[Frame]) -> Result<Vec<Frame>, OutOfMemory>
+    ensures { IfOk result (λ shared. shared.items ≡ frames.now) }
 {
-    let mut copies = Vec::with_capacity(alloc, frames.len())?;
+    let mut shared = Vec::with_capacity(alloc, frames.len())?;
     for frame in frames {
-        copies.push(frame.copy(alloc)?)?;
+        shared.push(frame.share()?)?;
     }
-    Ok(copies)
+    Ok(shared)
 }
 
-/// The batch of the ready jobs, whose frames the caller has, in order of path. They are copied.
+/// The batch of the ready jobs, whose frames the caller has, in order of path. They are shared.
 pub(crate) fn take_batch(
     alloc: Global,
     model: &Model,
@@ -170,7 +170,7 @@ pub(crate) fn take_batch(
     ensures end { IfOk result (λ end. batch_as end cells.new ≡ batch model.now bound spent cells.old ready.now) }
     ensures spends { IfOk result (λ end. SpendsWith spent end) }
 {
-    let copies = copies(alloc, frames)?;
-    let end = judge(alloc, model, bound, spent, cells, ready, copies)?;
+    let shared = shared(alloc, frames)?;
+    let end = judge(alloc, model, bound, spent, cells, ready, shared)?;
     Ok(end)
 }

@@ -1,7 +1,7 @@
 ghost use Rattle.std.specs.Prelude.{◌≡◌, ◌++◌, ◌-◌, IfOk, length, replicate, slice_get};
 ghost use Rattle.run_data.specs.TaskStates.{activity_begun, activity_slots, daemon_begun, unset};
 
-use aerie_base::{Daemon, List, Model, Number, OutOfMemory, Value};
+use aerie_base::{Daemon, List, Model, Number, OutOfMemory, Shared, Value};
 use run_data::{BodyId, TaskState};
 use std::alloc::Global;
 
@@ -12,16 +12,17 @@ pub(crate) fn activity_state(
     model: &Model,
     kind: u16,
     arguments: &[Value],
-) -> Result<TaskState, OutOfMemory>
+) -> Result<Shared<TaskState>, OutOfMemory>
     ensures { IfOk result (λ state. state ≡ activity_begun model.now kind arguments.now) }
 {
     let arguments = Vec::from_slice(alloc, arguments)?;
     let locals = filled(List::from_vec(arguments), slots_of(model, kind))?;
-    Ok(TaskState {
+    let state = TaskState {
         kind: BodyId::Activity(kind),
         at: 0,
         locals,
-    })
+    };
+    Shared::new(alloc, state)
 }
 
 /// The state in which the task of a daemon begins: at the first place of its body, with no local set.
@@ -29,15 +30,16 @@ pub(crate) fn daemon_state(
     alloc: Global,
     number: u16,
     daemon: &Daemon,
-) -> Result<TaskState, OutOfMemory>
+) -> Result<Shared<TaskState>, OutOfMemory>
     ensures { IfOk result (λ state. state ≡ daemon_begun number daemon.now) }
 {
     let locals = filled(List::new(alloc), daemon.slots)?;
-    Ok(TaskState {
+    let state = TaskState {
         kind: BodyId::Daemon(number),
         at: 0,
         locals,
-    })
+    };
+    Shared::new(alloc, state)
 }
 
 /// How many locals the bodies of an activity type have.

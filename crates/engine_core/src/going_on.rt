@@ -137,7 +137,7 @@ impl IndexedTasks {
         if !self.has_come(alloc, anchor.to, anchor.edge)? {
             return Ok(None);
         }
-        Ok(Some(task.due(alloc, now)?))
+        Ok(Some(task.due(now)?))
     }
 
     /// A task as it goes on, if it does.
@@ -169,7 +169,7 @@ impl IndexedTasks {
         ensures { IfOk result (GoesOnIn self.now.tasks now (slice_get self.now.tasks number)) }
     {
         match self.entry(number) {
-            Some((path, task)) => self.task_gone_on(alloc, now, path, task),
+            Some((path, task)) => self.task_gone_on(alloc, now, path.get(), task),
             None => Ok(None),
         }
     }
@@ -307,11 +307,12 @@ impl IndexedTasks {
         ensures kept { IfOk result (KeepsWakes self) }
     {
         self.note_distinct();
-        let begun = self.go_on_by_any(alloc, now, &frame.path)?;
-        if is_open_status(&frame.status) {
+        let path = frame.path();
+        let begun = self.go_on_by_any(alloc, now, path)?;
+        if is_open_status(frame.status()) {
             return Ok(begun);
         }
-        let all = begun.go_on_by_over(alloc, now, &frame.path)?;
+        let all = begun.go_on_by_over(alloc, now, path)?;
         Ok(all)
     }
 

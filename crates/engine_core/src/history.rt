@@ -6,7 +6,7 @@ ghost use Rattle.run_data.specs.Frames.{read_from};
 ghost use Rattle.engine_core.specs.Flags.{flagged_by_numbers, KeepsState};
 
 use crate::flags::{is_set, no_flags};
-use aerie_base::{List, OutOfMemory, Time};
+use aerie_base::{List, OutOfMemory, Shared, Time};
 use effect_cells::{CellState, Cells};
 use run_data::{Frame, Instant};
 use std::alloc::Global;
@@ -14,7 +14,7 @@ use std::alloc::Global;
 /// The settled instants, the batches of the time at hand, and the cells on which they had an effect.
 #[derive(Drop)]
 pub(crate) struct History {
-    pub(crate) instants: List<Instant>,
+    pub(crate) instants: List<Shared<Instant>>,
     pub(crate) batches: List<List<Frame>>,
     pub(crate) touched: List<u16>,
 }
@@ -157,11 +157,12 @@ impl History {
             touched,
         } = self;
         let changed = changed_states(alloc, cells, count, touched.as_slice())?;
-        instants.push(Instant {
+        let instant = Instant {
             time,
             batches,
             changed,
-        })?;
+        };
+        instants.push(Shared::new(alloc, instant)?)?;
         Ok(History {
             instants,
             batches: List::new(alloc),

@@ -11,6 +11,7 @@ mod going_on;
 mod history;
 mod indexes;
 mod passing;
+mod path_keys;
 mod phases;
 mod planned_tasks;
 mod present;

@@ -1,4 +1,4 @@
-ghost use Rattle.std.specs.Prelude.{◌≡◌, ◌<◌, ◌^◌, [], ◌++◌, IfOk, true, false, None, is_some, nat_abs};
+ghost use Rattle.std.specs.Prelude.{◌≡◌, ◌<◌, ◌^◌, [], ◌++◌, IfOk, true, false, None, is_some, nat_abs, slice_set};
 ghost use Rattle.std.specs.Option.{option_copied};
 ghost use Rattle.run_data.specs.Endings.{is_open, result_of_phase, with_result};
 ghost use Rattle.run_data.specs.Tasks.{ready, children_in, after_delay, task_after, job_if_ready};
@@ -25,23 +25,23 @@ pub(crate) enum Phase {
         /// So long after it.
         start: Time,
         /// How it begins.
-        state: TaskState,
+        state: Shared<TaskState>,
     },
     /// It takes a step in the next batch.
-    Ready(TaskState),
+    Ready(Shared<TaskState>),
     /// It goes on at a time.
     Delayed {
         /// The time, in microseconds.
         until: u64,
         /// From this state.
-        state: TaskState,
+        state: Shared<TaskState>,
     },
     /// It goes on when a condition holds.
     Waiting {
         /// The condition, without locals.
-        condition: Cond,
+        condition: Shared<Cond>,
         /// From this state.
-        state: TaskState,
+        state: Shared<TaskState>,
     },
     /// It goes on when a child has ended.
     Calling {
@@ -50,7 +50,7 @@ pub(crate) enum Phase {
         /// The slot of the local that takes what the child returns.
         into: Option<u16>,
         /// From this state.
-        state: TaskState,
+        state: Shared<TaskState>,
     },
     /// Its body has ended, with this result.
     Over(Option<Value>),
@@ -101,7 +101,7 @@ fn is_child(item: &Item) -> bool
 }
 
 /// What a task does that waits so many microseconds: it is ready where it has not to wait.
-fn after_delay(now: Time, by: u64, state: TaskState) -> Phase
+fn after_delay(now: Time, by: u64, state: Shared<TaskState>) -> Phase
     requires { by < 2 ^ 62 }
     ensures { phase_of result ≡ after_delay now by state }
 {
@@ -122,22 +122,34 @@ pub(crate) fn micros(time: Time) -> u64
     time.get().unsigned_abs()
 }
 
-/// The state with what a callee returned in the local that takes it.
-fn with_result(state: TaskState, into: Option<u16>, returned: Option<Value>) -> TaskState
-    ensures { result ≡ with_result into returned state }
+/// The local in a slot, if there is one, gets a value.
+fn put_local(state: &mut TaskState, slot: u16, value: Value)
+    ensures { state.new ≡ record state.old { locals = slice_set state.old.locals slot value } }
 {
-    let Some(slot) = into else {
-        return state;
-    };
-    let Some(value) = returned else {
-        return state;
-    };
-    let mut state = state;
     let slot = usize::from(slot);
     if slot < state.locals.items.len() {
         state.locals.items[slot] = value;
     }
-    state
+}
+
+/// The state with what a callee returned in the local that takes it. It is copied only where there is something to take.
+fn with_result(
+    alloc: Global,
+    state: &Shared<TaskState>,
+    into: Option<u16>,
+    returned: Option<Value>,
+) -> Result<Shared<TaskState>, OutOfMemory>
+    ensures { IfOk result (λ after. after ≡ with_result into returned state.now) }
+{
+    let Some(slot) = into else {
+        return state.share();
+    };
+    let Some(value) = returned else {
+        return state.share();
+    };
+    let mut after = state.get().copy(alloc)?;
+    put_local(&mut after, slot, value);
+    Shared::new(alloc, after)
 }
 
 /// How far a number is from 0.
@@ -157,17 +169,12 @@ impl TrackedTask {
     }
 
     /// The task after a step that ended so, having made so many children.
-    pub(crate) fn after(
-        alloc: Global,
-        now: Time,
-        status: &Status,
-        made: u32,
-    ) -> Result<TrackedTask, OutOfMemory>
+    pub(crate) fn after(now: Time, status: &Status, made: u32) -> Result<TrackedTask, OutOfMemory>
         ensures { IfOk result (λ task. task ≡ task_after now status.now made) }
     {
         match status {
             Status::Delayed { by, next } => {
-                let state = next.copy(alloc)?;
+                let state = next.share()?;
                 let phase = after_delay(now, magnitude(*by), state);
                 Ok(TrackedTask {
                     phase,
@@ -176,8 +183,8 @@ impl TrackedTask {
                 })
             }
             Status::Waiting { condition, next } => {
-                let condition = condition.copy(alloc)?;
-                let state = next.copy(alloc)?;
+                let condition = condition.share()?;
+                let state = next.share()?;
                 Ok(TrackedTask {
                     phase: Phase::Waiting { condition, state },
                     made,
@@ -185,7 +192,7 @@ impl TrackedTask {
                 })
             }
             Status::Calling { into, next } => {
-                let state = next.copy(alloc)?;
+                let state = next.share()?;
                 let phase = Phase::Calling {
                     child: made.saturating_sub(1),
                     into: *into,
@@ -255,7 +262,7 @@ impl TrackedTask {
         ensures { option_copied result ≡ condition_in self.now.phase }
     {
         match &self.phase {
-            Phase::Waiting { condition, .. } => Some(condition),
+            Phase::Waiting { condition, .. } => Some(condition.get()),
             _ => None,
         }
     }
@@ -305,7 +312,7 @@ impl TrackedTask {
     }
 
     /// The same task, about to take a step from a state.
-    fn ready_from(&self, state: TaskState) -> TrackedTask
+    fn ready_from(&self, state: Shared<TaskState>) -> TrackedTask
         ensures { result ≡ record self.now { phase = ready state } }
     {
         TrackedTask {
@@ -316,13 +323,13 @@ impl TrackedTask {
     }
 
     /// The task, which was delayed or waited, going on.
-    pub(crate) fn resumed(&self, alloc: Global) -> Result<TrackedTask, OutOfMemory>
+    pub(crate) fn resumed(&self) -> Result<TrackedTask, OutOfMemory>
         requires { may_resume self.now.phase ≡ true }
         ensures { IfOk result (λ task. task ≡ record self.now { phase = gone_on_from self.now.phase }) }
     {
         match &self.phase {
-            Phase::Delayed { state, .. } => Ok(self.ready_from(state.copy(alloc)?)),
-            Phase::Waiting { state, .. } => Ok(self.ready_from(state.copy(alloc)?)),
+            Phase::Delayed { state, .. } => Ok(self.ready_from(state.share()?)),
+            Phase::Waiting { state, .. } => Ok(self.ready_from(state.share()?)),
             _ => unreachable!(),
         }
     }
@@ -338,7 +345,7 @@ impl TrackedTask {
     {
         match &self.phase {
             Phase::Calling { into, state, .. } => {
-                let state = with_result(state.copy(alloc)?, *into, returned);
+                let state = with_result(alloc, state, *into, returned)?;
                 Ok(self.ready_from(state))
             }
             _ => unreachable!(),
@@ -346,13 +353,13 @@ impl TrackedTask {
     }
 
     /// The task, which was anchored, at the time from which its start is counted.
-    pub(crate) fn due(&self, alloc: Global, now: Time) -> Result<TrackedTask, OutOfMemory>
+    pub(crate) fn due(&self, now: Time) -> Result<TrackedTask, OutOfMemory>
         requires { is_some (anchor_in self.now.phase) ≡ true }
         ensures { IfOk result (λ task. task ≡ record self.now { phase = due_from now self.now.phase }) }
     {
         match &self.phase {
             Phase::Anchored { start, state, .. } => Ok(TrackedTask {
-                phase: after_delay(now, micros(*start), state.copy(alloc)?),
+                phase: after_delay(now, micros(*start), state.share()?),
                 made: self.made,
                 begun: self.begun,
             }),
@@ -363,8 +370,7 @@ impl TrackedTask {
     /// Some jobs, and behind them that of this task, if it is ready.
     pub(crate) fn with_job(
         &self,
-        alloc: Global,
-        path: &Path,
+        path: &Shared<Path>,
         view: &Shared<Cells>,
         jobs: ReadyJobs,
     ) -> Result<ReadyJobs, OutOfMemory>
@@ -374,8 +380,8 @@ impl TrackedTask {
             return Ok(jobs);
         };
         let job = Job {
-            path: path.copy(alloc)?,
-            state: state.copy(alloc)?,
+            path: path.share()?,
+            state: state.share()?,
             view: view.share()?,
         };
         jobs.with(self.made, job)

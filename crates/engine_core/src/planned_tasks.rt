@@ -9,13 +9,13 @@ ghost use Rattle.engine_core.specs.TasksByNumber.{KeepsWakes, AreKeptFor, HasTab
 use crate::beginnings::{activity_state, daemon_state};
 use crate::phases::{Phase, TrackedTask, micros};
 use crate::tasks::IndexedTasks;
-use aerie_base::{Daemon, Directive, Model, OutOfMemory, Path, Plan, Time};
+use aerie_base::{Daemon, Directive, Model, OutOfMemory, Path, Plan, Shared, Time};
 use run_data::TaskState;
 use run_data::laws::tasks_stand_by_number;
 use std::alloc::Global;
 
 /// A directive before it begins, which it does from this state.
-fn planned(directive: &Directive, state: TaskState) -> TrackedTask
+fn planned(directive: &Directive, state: Shared<TaskState>) -> TrackedTask
     ensures { result ≡ record { phase = planned directive.now.anchor directive.now.start state; made = 0; begun = false } }
 {
     let phase = match &directive.anchor {
@@ -44,7 +44,8 @@ fn with_directive(
     ensures kept { IfOk result (KeepsWakes tasks) }
 {
     let state = activity_state(alloc, model, directive.kind, directive.arguments.as_slice())?;
-    let path = Path::of_directive(alloc, directive.id)?;
+    let root = Path::of_directive(alloc, directive.id)?;
+    let path = Shared::new(alloc, root)?;
     let all = tasks.put(alloc, path, planned(directive, state))?;
     Ok(all)
 }
@@ -77,7 +78,8 @@ fn with_daemon(
     ensures kept { IfOk result (KeepsWakes tasks) }
 {
     let state = daemon_state(alloc, number, daemon)?;
-    let path = Path::of_daemon(alloc, u32::from(number))?;
+    let root = Path::of_daemon(alloc, u32::from(number))?;
+    let path = Shared::new(alloc, root)?;
     let phase = Phase::Delayed { until: 0, state };
     let all = tasks.put(alloc, path, TrackedTask::new(phase, 0, false))?;
     Ok(all)

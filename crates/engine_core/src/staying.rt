@@ -66,15 +66,16 @@ impl IndexedTasks {
         ensures { result ≡ true → (now : ℕ) → GoOnOf (MayGoOnAfter (frame.now ∷ [])) now self.now.tasks self.now.tasks }
     {
         self.note_distinct();
-        if !self.stays(&frame.path) {
+        let path = frame.path();
+        if !self.stays(path) {
             return false;
         }
-        if !self.stays_begun(&frame.path) {
+        if !self.stays_begun(path) {
             return false;
         }
-        if is_open_status(&frame.status) {
+        if is_open_status(frame.status()) {
             return true;
         }
-        self.stays_over(&frame.path)
+        self.stays_over(path)
     }
 }

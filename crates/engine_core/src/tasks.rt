@@ -17,6 +17,7 @@ ghost use Rattle.engine_core.specs.TaskTables.{tracked_in, AreInStep};
 ghost use Rattle.engine_core.specs.Watching.{Drains, Watches, HasOthers, LosesOne};
 
 use crate::indexes::{IndexEntry, Indexes};
+use crate::path_keys::PathKey;
 use crate::phases::{TrackedTask, count_children, micros};
 use crate::ready_jobs::ReadyJobs;
 use crate::waits::Waits;
@@ -31,7 +32,7 @@ use std::marker::Model;
 /// The tasks by number, and what goes with them.
 #[derive(Drop)]
 struct TaskTables {
-    tasks: IndexMap<Path, TrackedTask>,
+    tasks: IndexMap<Shared<Path>, TrackedTask>,
     indexes: Indexes,
     waits: Waits,
 }
@@ -68,7 +69,11 @@ pub(crate) struct Changed {
 }
 
 /// Puts a task in the place of that of a number, and tells what the indexes say of the one that stood there.
-fn exchange(tasks: &mut IndexMap<Path, TrackedTask>, number: usize, task: TrackedTask) -> IndexEntry
+fn exchange(
+    tasks: &mut IndexMap<Shared<Path>, TrackedTask>,
+    number: usize,
+    task: TrackedTask,
+) -> IndexEntry
     requires { number < length tasks.old.entries }
     ensures stood { option_map (λ entry. index_entry_in entry.1.phase) (slice_get tasks.old.entries number) ≡ Some result }
     ensures is { tasks.new.entries ≡ set_value_at tasks.old.entries number task }
@@ -84,12 +89,12 @@ fn exchange(tasks: &mut IndexMap<Path, TrackedTask>, number: usize, task: Tracke
 }
 
 /// The path of a number.
-fn path_of(tasks: &IndexMap<Path, TrackedTask>, number: usize) -> &Path
+fn path_of(tasks: &IndexMap<Shared<Path>, TrackedTask>, number: usize) -> &Path
     requires { number < length tasks.now.entries }
     ensures { option_map (λ entry. entry.0) (slice_get tasks.now.entries number) ≡ Some result.now }
 {
     match tasks.get_index(number) {
-        Some((path, _)) => path,
+        Some((path, _)) => path.get(),
         None => unreachable!(),
     }
 }
@@ -122,7 +127,7 @@ fn replace_task(
 fn add_task(
     alloc: Global,
     tables: &mut TaskTables,
-    path: Path,
+    path: Shared<Path>,
     task: TrackedTask,
 ) -> Result<(), OutOfMemory>
     requires none { task_at (sorted_tasks tables.old.tasks.entries) path ≡ None }
@@ -139,7 +144,9 @@ fn add_task(
     let number = tables.tasks.len();
     tables.waits.put(number, waiting)?;
     let none = IndexEntry::none();
-    tables.indexes.put(alloc, &path, number, none, index_entry)?;
+    tables
+        .indexes
+        .put(alloc, path.get(), number, none, index_entry)?;
     tables.tasks.insert(path, task)?;
     Ok(())
 }
@@ -199,11 +206,11 @@ impl IndexedTasks {
         ensures within { IfSome result (λ number. number < length self.now.tasks) }
         ensures none { result ≡ None → task_at (sorted_tasks self.now.tasks) path.now ≡ None }
     {
-        self.tables().tasks.get_index_of(path)
+        self.tables().tasks.get_index_of(PathKey { path })
     }
 
     /// The path and the task of a number.
-    pub(crate) fn entry(&self, number: usize) -> Option<(&Path, &TrackedTask)>
+    pub(crate) fn entry(&self, number: usize) -> Option<(&Shared<Path>, &TrackedTask)>
         ensures { option_map deref_pair result ≡ slice_get self.now.tasks number }
     {
         self.tables().tasks.get_index(number)
@@ -240,7 +247,7 @@ impl IndexedTasks {
     pub(crate) fn add(
         self,
         alloc: Global,
-        path: Path,
+        path: Shared<Path>,
         task: TrackedTask,
     ) -> Result<IndexedTasks, OutOfMemory>
         requires { task_at (sorted_tasks self.tasks) path ≡ None }
@@ -250,7 +257,7 @@ impl IndexedTasks {
         ensures kept { IfOk result (KeepsWakes self) }
     {
         let IndexedTasks { mut tables } = self;
-        let _ = path.children();
+        let _ = path.get().children();
         add_task(alloc, &mut tables, path, task)?;
         Ok(IndexedTasks { tables })
     }
@@ -259,7 +266,7 @@ impl IndexedTasks {
     pub(crate) fn put(
         self,
         alloc: Global,
-        path: Path,
+        path: Shared<Path>,
         task: TrackedTask,
     ) -> Result<IndexedTasks, OutOfMemory>
         ensures tasks { IfOk result (λ all. all.tasks ≡ put_task self.tasks path task) }
@@ -268,7 +275,7 @@ impl IndexedTasks {
         ensures kept { IfOk result (KeepsWakes self) }
     {
         self.note_distinct();
-        match self.number(&path) {
+        match self.number(path.get()) {
             Some(number) => self.put_at(alloc, number, task),
             None => self.add(alloc, path, task),
         }
@@ -344,7 +351,6 @@ impl IndexedTasks {
     /// Some jobs, and behind them that of the task of a number, if it is ready.
     fn with_job(
         &self,
-        alloc: Global,
         number: usize,
         view: &Shared<Cells>,
         jobs: ReadyJobs,
@@ -352,7 +358,7 @@ impl IndexedTasks {
         ensures { IfOk result (λ more_. more_ ≡ jobs ++ job_of view.now (slice_get self.now.tasks number) []) }
     {
         match self.entry(number) {
-            Some((path, task)) => task.with_job(alloc, path, view, jobs),
+            Some((path, task)) => task.with_job(path, view, jobs),
             None => Ok(jobs),
         }
     }
@@ -369,7 +375,7 @@ impl IndexedTasks {
         let mut jobs = ReadyJobs::new(alloc);
         for (path, number) in &self.tables().indexes.readies {
             let _ = path;
-            jobs = self.with_job(alloc, *number, view, jobs)?;
+            jobs = self.with_job(*number, view, jobs)?;
         }
         Ok(jobs)
     }
@@ -378,7 +384,7 @@ impl IndexedTasks {
     pub(crate) fn at(&self, path: &Path) -> Option<&TrackedTask>
         ensures { option_copied result ≡ task_at (sorted_tasks self.now.tasks) path.now }
     {
-        self.tables().tasks.get(path)
+        self.tables().tasks.get(PathKey { path })
     }
 
     /// How many children the task of a number has made.
@@ -406,8 +412,8 @@ impl IndexedTasks {
         ensures kept { IfOk result (KeepsWakes self) }
     {
         self.note_distinct();
-        let made = self.made(number) + count_children(&frame.items);
-        let task = TrackedTask::after(alloc, now, &frame.status, made)?;
+        let made = self.made(number) + count_children(frame.items());
+        let task = TrackedTask::after(now, frame.status(), made)?;
         self.put_at(alloc, number, task)
     }
 
@@ -423,9 +429,10 @@ impl IndexedTasks {
         ensures table { IfOk result (HasTable (after_frame now frame.now (sorted_tasks self.tasks))) }
         ensures kept { IfOk result (KeepsWakes self) }
     {
-        let made = count_children(&frame.items);
-        let task = TrackedTask::after(alloc, now, &frame.status, made)?;
-        self.add(alloc, frame.path.copy(alloc)?, task)
+        let made = count_children(frame.items());
+        let task = TrackedTask::after(now, frame.status(), made)?;
+        let path = frame.shared_path().share()?;
+        self.add(alloc, path, task)
     }
 
     /// The tasks after a frame.
@@ -439,7 +446,7 @@ impl IndexedTasks {
         ensures table { IfOk result (HasTable (after_frame now frame.now (sorted_tasks self.tasks))) }
         ensures kept { IfOk result (KeepsWakes self) }
     {
-        match self.number(&frame.path) {
+        match self.number(frame.path()) {
             Some(number) => self.after_step(alloc, now, number, frame),
             None => self.after_first_step(alloc, now, frame),
         }
@@ -491,12 +498,12 @@ impl IndexedTasks {
     }
 
     /// The task of a number, which was delayed or waited, as it goes on.
-    fn resumed(&self, alloc: Global, number: usize) -> Result<Option<TrackedTask>, OutOfMemory>
+    fn resumed(&self, number: usize) -> Result<Option<TrackedTask>, OutOfMemory>
         requires { IfSome (slice_get self.now.tasks number) (λ entry. may_resume entry.1.phase ≡ true) }
         ensures { IfOk result (λ resumed. resumed ≡ option_map (λ entry. resumed_task entry.1) (slice_get self.now.tasks number)) }
     {
         match self.entry(number) {
-            Some((_, task)) => Ok(Some(task.resumed(alloc)?)),
+            Some((_, task)) => Ok(Some(task.resumed()?)),
             None => Ok(None),
         }
     }
@@ -511,7 +518,7 @@ impl IndexedTasks {
         ensures kept { IfOk result (KeepsWakes self) }
     {
         self.note_distinct();
-        match self.resumed(alloc, number)? {
+        match self.resumed(number)? {
             Some(task) => self.put_at(alloc, number, task),
             None => Ok(self),
         }

@@ -30,7 +30,7 @@ model tried {
 }
 ";
 
-/// The run of a plan over the plain stepper, of which a copy is answered.
+/// The run of a plan over the plain stepper.
 fn simulated<L: Ledger, K: Ledger>(
     steps: Blank,
     looks: Blank,
@@ -46,7 +46,7 @@ fn simulated<L: Ledger, K: Ledger>(
     let mut direct = Direct::new(codes.as_slice());
     let mut steps = Steps::<L>::open(steps);
     let mut looks = Steps::<K>::open(looks);
-    let run = simulate(
+    simulate(
         alloc,
         model,
         plan,
@@ -54,8 +54,7 @@ fn simulated<L: Ledger, K: Ledger>(
         &mut direct,
         &mut steps,
         &mut looks,
-    )?;
-    run.copy(alloc)
+    )
 }
 
 /// The instants of the run of a plan of a copy of the model.

@@ -50,7 +50,7 @@ fn instant(alloc: Global, instant: &Instant) -> Result<String, AllocError> {
 pub(crate) fn instants(alloc: Global, run: &Run) -> Result<String, AllocError> {
     let mut text = String::new(alloc);
     for each in run.instants.as_slice() {
-        let word = instant(alloc, each)?;
+        let word = instant(alloc, each.get())?;
         put(&mut text, word.as_str())?;
     }
     Ok(text)

@@ -20,7 +20,8 @@ use Rattle.constraints.specs.declared.types.Reading.TheVariants.{Resource}
 use Rattle.constraints.specs.declared.types.Rule.TheVariants.{Plain}
 use Rattle.constraints.specs.declared.types.Window.{Compare}
 use Rattle.profiles.specs.declared.sampling.Profile.TheVariants.{Discrete}
-use Rattle.findings.specs.Found.{all_profiles, all_violations}
+use Rattle.profiles.specs.Profiles.{all_profiles}
+use Rattle.findings.specs.Found.{all_violations}
 
 -- one resource, which shows how much was added
 abbrev bumps : Parts

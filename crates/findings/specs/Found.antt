@@ -4,15 +4,10 @@ use Rattle.aerie_base.specs.declared.models.model.Parts.{Parts}
 use Rattle.constraints.specs.Violating.{violations_of}
 use Rattle.constraints.specs.declared.types.Constraint.{Constraint}
 use Rattle.constraints.specs.declared.violation.Violation.{Violation}
-use Rattle.profiles.specs.Profiles.{profile_of}
-use Rattle.profiles.specs.declared.sampling.Profile.{Profile}
+pub use Rattle.profiles.specs.Profiles.{all_profiles}
 use Rattle.run_data.specs.declared.runs.Run.{Run}
 use Rattle.span_table.specs.SpanLaws.{AreSpansOf}
 use Rattle.findings.specs.declared.findings.Findings.{Findings}
-
--- the profiles of all resources, in the order of their declarations
-abbrev pub all_profiles : Parts → Run → List Profile
-all_profiles model run = map (λ named. profile_of model run named.1) model.resources
 
 -- the violations of all constraints, in the order of these
 abbrev pub all_violations : Parts → Run → List Constraint → List (List Violation)

@@ -1,15 +1,15 @@
 //! What a report tells of a run.
 
-ghost use Rattle.std.specs.Prelude.{◌≡◌, ◌≤◌, IsTrue, IfOk, length};
+ghost use Rattle.std.specs.Prelude.{◌≡◌, IsTrue, IfOk};
 ghost use Rattle.std.specs.List.{list_all};
 ghost use Rattle.constraints.specs.OfModel.{is_constraint};
-ghost use Rattle.findings.specs.Found.{AreFindings, all_profiles, all_violations};
+ghost use Rattle.findings.specs.Found.{AreFindings, all_violations};
 ghost use Rattle.run_data.specs.Fresh.{IsFresh};
 ghost use Rattle.span_table.specs.SpanLaws.{AreSpansOf};
 
-use aerie_base::{List, Model, Name, OutOfMemory, Resource};
+use aerie_base::{List, Model, OutOfMemory};
 use constraints::{Constraint, Violation, violations};
-use profiles::{Profile, profile};
+use profiles::{Profile, profiles};
 use run_data::Run;
 use span_table::{Span, spans};
 use std::alloc::Global;
@@ -37,32 +37,13 @@ pub fn find(
     ensures { IfOk result (AreFindings model.now run.now constraints.now) }
 {
     let spans = List::from_vec(spans(alloc, model, run)?);
-    let profiles = profiles_of(alloc, model, run, model.resources())?;
+    let profiles = profiles(alloc, model, run)?;
     let violations = violations_of(alloc, model, run, spans.as_slice(), constraints)?;
     Ok(Findings {
         spans,
         profiles,
         violations,
     })
-}
-
-/// The profile of each of these resources, which are those of the model.
-fn profiles_of(
-    alloc: Global,
-    model: &Model,
-    run: &Run,
-    resources: &[(Name, Resource)],
-) -> Result<List<Profile>, OutOfMemory>
-    requires fresh { IsFresh model.now run.now.plan run.now.bound run.now }
-    requires all { resources.now ≡ model.now.resources }
-    requires few { length resources.now ≤ 256 }
-    ensures { IfOk result (λ profiles. profiles ≡ all_profiles model.now run.now) }
-{
-    let mut profiles = List::with_capacity(alloc, resources.len())?;
-    for number in 0..resources.len() {
-        profiles.push(profile(alloc, model, run, number as u16)?)?;
-    }
-    Ok(profiles)
 }
 
 /// The violations of each constraint by a run with these spans.

@@ -16,7 +16,7 @@ none_from from cell (entry ∷ rest) rise below =
     ap (λ o. unless_later o (cond (nat_eq entry.0 cell) (Some entry.1) None)) (none_from (entry.0 + 1) cell rest rise.1 (omega (arith, rise.0)))
     ∙ ap (λ b. cond b (Some entry.1) None) (ne_eqb entry.0 cell (λ same. absurd (omega (arith, rise.0))))
 
-later_from : (from : ℕ) (changed : Changed) (k : ℕ) (d : ℕ × CellState) → RiseFrom from changed → k < length changed → from ≤ (get_or changed k d).0
+pub later_from : (from : ℕ) (changed : Changed) (k : ℕ) (d : ℕ × CellState) → RiseFrom from changed → k < length changed → from ≤ (get_or changed k d).0
 later_from from [] k d rise within = absurd (omega arith)
 later_from from (entry ∷ rest) zero d rise within = rise.0
 later_from from (entry ∷ rest) (suc k) d rise within =

@@ -4,6 +4,8 @@ pub mod FoundStates
 pub mod FreshInstants
 pub mod GivenProfiles
 pub mod LineWalks
+pub mod Noting
+pub mod Positions
 pub mod Resources
 pub mod SegmentLines
 pub mod SegmentValues
@@ -11,7 +13,9 @@ pub mod Segmenting
 pub mod StartTimes
 pub mod Sums
 pub mod SumsInRange
+pub mod TermPositions
 pub mod Terms
+pub mod Touching
 pub mod ValueWalks
 pub mod Walks
 pub mod WatchedCells

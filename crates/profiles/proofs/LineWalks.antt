@@ -10,20 +10,22 @@ use Rattle.effect_cells.specs.Cells.{initial, passed}
 use Rattle.effect_cells.specs.Reads.{value_on}
 use Rattle.run_data.specs.declared.runs.Instant.{Instant}
 use Rattle.run_data.specs.declared.runs.Run.{Run}
-use Rattle.run_data.specs.Values.{with_states, rate_at, terms_rate}
+use Rattle.run_data.specs.Values.{with_states, cells_at, rate_at, terms_rate}
 use Rattle.run_data.specs.laws.Rising.{RiseFromStart}
 use Rattle.windows.specs.declared.segments.Segment.{Segment}
 use Rattle.windows.specs.Linear.{segment_value}
 use Rattle.profiles.specs.declared.watching.Watched.{Watched}
+use Rattle.profiles.specs.Touches.{IsReadBy, IsUntouched}
 use Rattle.profiles.specs.Followed.{ChangesRise, InRangeBelow}
 use Rattle.profiles.specs.Profiles.{resource_sum}
 use Rattle.profiles.specs.Segments.{begins_line, line_segments}
 use Rattle.profiles.specs.Watching.{watched_on, advanced, values_sum, rates_sum, summed_line, IsWatchable}
-use Rattle.profiles.proofs.Following.{Settled, settled_next, until_next, IsBeforeFirst}
+use Rattle.profiles.proofs.Following.{IsBeforeFirst}
 use Rattle.profiles.proofs.Segmenting.{none_more, one_more, Runs, no_line_begins, line_begins_by}
-use Rattle.profiles.proofs.Terms.{IsFormOf, AreTermsOf, all_watchable, advanced_on, watched_few, values_are, rates_are, values_later, rates_later}
+use Rattle.profiles.proofs.Terms.{IsFormOf, AreTermsOf, all_watchable, advanced_on, reads_inside, watched_alike, watched_few, values_are, rates_are, values_later, rates_later}
+use Rattle.profiles.proofs.Touching.{AreInside, SettledOn, settled_on, settled_still, settled_then, still_here, until_then}
 use Rattle.profiles.proofs.ValueWalks.{map_count}
-use Rattle.profiles.proofs.Walks.{in_range_here, cells_here, settled_first}
+use Rattle.profiles.proofs.Walks.{settled_first}
 
 module _ (model : Parts) (run : Run) (form : Linear) where
   abbrev pub sums : ℕ → ℤ
@@ -35,7 +37,7 @@ module _ (model : Parts) (run : Run) (form : Linear) where
   -- what the walk knows at a settled time
   pub record LineWalk (rest : List Instant) (watched : List Watched) (line : Segment) (segments : List Segment) : Type 0 where
     pub cells : List CellState
-    pub at : Settled model run.instants rest line.from cells
+    pub at : SettledOn (IsReadBy form.terms) model run.instants rest line.from cells
     pub is : watched ≡ watched_on cells form.terms
     pub line_is : line ≡ summed_line line.from watched
     pub before : line.from < run.reach
@@ -49,14 +51,28 @@ module _ (model : Parts) (run : Run) (form : Linear) where
 
   module _ (known : IsFormOf model.cells form) where
     -- the terms are of cells that there are
-    terms_in : (rest : List Instant) (time : ℕ) (cells : List CellState) → Settled model run.instants rest time cells → AreTermsOf (length cells) form.terms
+    inside : AreInside (IsReadBy form.terms) model
+    inside k read = let within = reads_inside (length model.cells) form.terms known.terms k read in omega (arith, within, map_count model)
+
+    terms_in : (rest : List Instant) (time : ℕ) (cells : List CellState) → SettledOn (IsReadBy form.terms) model run.instants rest time cells → AreTermsOf (length cells) form.terms
     terms_in rest time cells at = subst (λ n. AreTermsOf n form.terms) (sym (at.count ∙ map_count model)) known.terms
+
+    -- what is watched at a settled time
+    here : (rest : List Instant) (time : ℕ) (cells : List CellState) → SettledOn (IsReadBy form.terms) model run.instants rest time cells →
+        watched_on (cells_at model run time) form.terms ≡ watched_on cells form.terms
+    here rest time cells at =
+        watched_alike (cells_at model run time) cells form.terms (λ k read. still_here (IsReadBy form.terms) model inside run.instants rest time cells at k read)
+
+    watchable_at : (rest : List Instant) (time : ℕ) (cells : List CellState) → InRangeBelow model run → time < run.reach →
+        SettledOn (IsReadBy form.terms) model run.instants rest time cells → All IsWatchable (watched_on cells form.terms)
+    watchable_at rest time cells good below at =
+        subst (λ (w : List Watched). All IsWatchable w) (here rest time cells at)
+        (all_watchable (length model.cells) (cells_at model run time) form.terms known.terms (good time below))
 
     pub walk_watchable : (rest : List Instant) (watched : List Watched) (line : Segment) (segments : List Segment) → InRangeBelow model run → LineWalk rest watched line segments →
         All IsWatchable watched
     walk_watchable rest watched line segments good walk =
-        subst (λ (w : List Watched). All IsWatchable w) (sym walk.is)
-        (all_watchable (length model.cells) walk.cells form.terms known.terms (in_range_here model run rest line.from walk.cells good walk.before walk.at))
+        subst (λ (w : List Watched). All IsWatchable w) (sym walk.is) (watchable_at rest line.from walk.cells good walk.before walk.at)
 
     pub walk_few : (rest : List Instant) (watched : List Watched) (line : Segment) (segments : List Segment) → LineWalk rest watched line segments → length watched ≤ 16
     walk_few rest watched line segments walk =
@@ -76,35 +92,49 @@ module _ (model : Parts) (run : Run) (form : Linear) where
     line_runs : (rest : List Instant) (watched : List Watched) (line : Segment) (segments : List Segment) → LineWalk rest watched line segments → (t : ℕ) → line.from ≤ t → IsBeforeFirst t rest →
         (sums t ≡ segment_value line t) × (rates t ≡ line.rate)
     line_runs rest watched line segments walk t from before =
-        let cells = until_next model run.instants rest line.from walk.cells walk.at t from before in
+        let alike : watched_on (cells_at model run t) form.terms ≡ watched_on (passed walk.cells (t - line.from)) form.terms =
+        watched_alike (cells_at model run t) (passed walk.cells (t - line.from)) form.terms
+        (λ k read. until_then (IsReadBy form.terms) model inside run.instants rest line.from walk.cells walk.at k t read from before) in
         let value : line.value ≡ values_sum (watched_on walk.cells form.terms) = ap (λ (l : Segment). l.value) walk.line_is ∙ ap values_sum walk.is in
         let rate : line.rate ≡ rates_sum (watched_on walk.cells form.terms) = ap (λ (l : Segment). l.rate) walk.line_is ∙ ap rates_sum walk.is in (
-          ap (λ (l : List CellState). linear_value (value_on l) [] form) cells
-              ∙ (sum_on (passed walk.cells (t - line.from))
+          sum_on (cells_at model run t)
+              ∙ (ap values_sum alike
               ∙ (values_later (length model.cells) walk.cells form.terms (t - line.from) known.terms
               ∙ (ap (λ (z : ℤ). z +ℤ rates_sum (watched_on walk.cells form.terms) *ℤ pos (t - line.from)) (sym value)
               ∙ ap (λ (z : ℤ). line.value +ℤ z *ℤ pos (t - line.from)) (sym rate)))),
-          ap (λ (l : List CellState). terms_rate l form.terms) cells
-              ∙ (rate_on_cells (passed walk.cells (t - line.from))
+          rate_on_cells (cells_at model run t)
+              ∙ (ap rates_sum alike
               ∙ (rates_later (length model.cells) walk.cells form.terms (t - line.from) known.terms
               ∙ sym rate)),
         )
 
+    -- an instant that touches none of the cells
+    pub walk_still : (instant : Instant) (rest : List Instant) (watched : List Watched) (line : Segment) (segments : List Segment) → IsUntouched (IsReadBy form.terms) instant →
+        LineWalk (instant ∷ rest) watched line segments → LineWalk rest watched line segments
+    walk_still instant rest watched line segments untouched walk = record {
+      cells = walk.cells;
+      at = settled_still (IsReadBy form.terms) model inside run.instants rest instant line.from walk.cells walk.at untouched;
+      is = walk.is;
+      line_is = walk.line_is;
+      before = walk.before;
+      made = walk.made;
+    }
+
     -- what it is at a settled time
-    here_is : (rest : List Instant) (time : ℕ) (cells : List CellState) → Settled model run.instants rest time cells →
+    here_is : (rest : List Instant) (time : ℕ) (cells : List CellState) → SettledOn (IsReadBy form.terms) model run.instants rest time cells →
         summed_line time (watched_on cells form.terms) ≡ record { from = time; value = sums time; rate = rates time }
     here_is rest time cells at =
-        let cells_are = cells_here model run rest time cells at in
-        let value : values_sum (watched_on cells form.terms) ≡ sums time = sym (sum_on cells) ∙ ap (λ (l : List CellState). linear_value (value_on l) [] form) (sym cells_are) in
-        let rate : rates_sum (watched_on cells form.terms) ≡ rates time = sym (rate_on_cells cells) ∙ ap (λ (l : List CellState). terms_rate l form.terms) (sym cells_are) in
+        let alike = here rest time cells at in
+        let value : values_sum (watched_on cells form.terms) ≡ sums time = ap values_sum (sym alike) ∙ sym (sum_on (cells_at model run time)) in
+        let rate : rates_sum (watched_on cells form.terms) ≡ rates time = ap rates_sum (sym alike) ∙ sym (rate_on_cells (cells_at model run time)) in
         ap (λ (z : ℤ). record { from = time; value = z; rate = rates_sum (watched_on cells form.terms) }) value
         ∙ ap (λ (z : ℤ). record { from = time; value = sums time; rate = z }) rate
 
     -- ---- the next instant
 
     module _ (instant : Instant) (rest : List Instant) (watched : List Watched) (line : Segment) (segments : List Segment) (walk : LineWalk (instant ∷ rest) watched line segments) where
-      new_at : Settled model run.instants rest instant.time (with_states (passed walk.cells (instant.time - line.from)) instant.changed)
-      new_at = settled_next model run.instants rest instant line.from walk.cells walk.at
+      new_at : SettledOn (IsReadBy form.terms) model run.instants rest instant.time (with_states (passed walk.cells (instant.time - line.from)) instant.changed)
+      new_at = settled_then (IsReadBy form.terms) model inside run.instants rest instant line.from walk.cells walk.at
 
       new_watched : map (advanced (instant.time - line.from) instant.changed) watched ≡ watched_on (with_states (passed walk.cells (instant.time - line.from)) instant.changed) form.terms
       new_watched =
@@ -114,7 +144,7 @@ module _ (model : Parts) (run : Run) (form : Linear) where
       pub next_watchable : InRangeBelow model run → instant.time < run.reach → All IsWatchable (map (advanced (instant.time - line.from) instant.changed) watched)
       next_watchable good below =
           subst (λ (w : List Watched). All IsWatchable w) (sym new_watched)
-          (all_watchable (length model.cells) _ form.terms known.terms (in_range_here model run rest instant.time _ good below new_at))
+          (watchable_at rest instant.time _ good below new_at)
 
       pub walk_next : instant.time < run.reach →
           LineWalk rest (map (advanced (instant.time - line.from) instant.changed) watched)
@@ -153,8 +183,8 @@ module _ (model : Parts) (run : Run) (form : Linear) where
     -- ---- the start
 
     module _ (first : Instant) (rest : List Instant) (is : run.instants ≡ first ∷ rest) (rise : RiseFromStart run.instants) (changes : ChangesRise run.instants) (below : first.time < run.reach) where
-      first_at : Settled model run.instants rest first.time (with_states (passed (initial model) (first.time - 0)) first.changed)
-      first_at = settled_first model run.instants rest first is rise changes
+      first_at : SettledOn (IsReadBy form.terms) model run.instants rest first.time (with_states (passed (initial model) (first.time - 0)) first.changed)
+      first_at = settled_on (IsReadBy form.terms) model inside run.instants rest first.time _ (settled_first model run.instants rest first is rise changes)
 
       first_watched : map (advanced (first.time - 0) first.changed) (watched_on (initial model) form.terms) ≡ watched_on (with_states (passed (initial model) (first.time - 0)) first.changed) form.terms
       first_watched = advanced_on (initial model) form.terms (first.time - 0) first.changed (subst (λ n. AreTermsOf n form.terms) (sym (map_count model)) known.terms)
@@ -162,7 +192,7 @@ module _ (model : Parts) (run : Run) (form : Linear) where
       pub first_watchable : InRangeBelow model run → All IsWatchable (map (advanced (first.time - 0) first.changed) (watched_on (initial model) form.terms))
       first_watchable good =
           subst (λ (w : List Watched). All IsWatchable w) (sym first_watched)
-          (all_watchable (length model.cells) _ form.terms known.terms (in_range_here model run rest first.time _ good below first_at))
+          (watchable_at rest first.time _ good below first_at)
 
       pub walk_starts : LineWalk rest (map (advanced (first.time - 0) first.changed) (watched_on (initial model) form.terms))
           (summed_line first.time (map (advanced (first.time - 0) first.changed) (watched_on (initial model) form.terms)))

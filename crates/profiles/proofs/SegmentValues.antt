@@ -1,13 +1,9 @@
 -- What segments give: the value at each time, in as few segments as can be.
-use Rattle.std.proofs.Common.{◌≡◌, ℕ, zero, suc, ◌<◌, ◌≤◌, ℤ, pos, ◌<ℤ◌, Bool, true, false, not, cond, List, [], ◌∷◌, length, map, nat_le, nat_eq, Option, Some, option_map, unwrap_or, refl, sym, ap, subst, ◌∙◌, arith}
-use Rattle.std.specs.Ordering.{int_cmp, int_eq, is_eq, MatchOrdering}
-use Rattle.std.specs.declared.cmp.Ordering.{Ordering}
-use Rattle.std.specs.declared.cmp.Ordering.TheVariants.{Less, Equal, Greater}
-use Rattle.std.proofs.lemmas.Bool.{eqb-true, false≢true}
-use Rattle.std.proofs.lemmas.Cmp.{int_ranked}
+use Rattle.std.proofs.Common.{◌≡◌, ℕ, zero, suc, ◌<◌, ◌≤◌, pos, Bool, true, false, not, cond, List, [], ◌∷◌, length, map, nat_le, Option, Some, option_map, unwrap_or, refl, sym, ap, subst, ◌∙◌, arith}
+use Rattle.std.proofs.lemmas.Bool.{false≢true}
 use Rattle.std.proofs.lemmas.List.{length-map}
 use Rattle.aerie_base.specs.declared.values.Value.{Value}
-use Rattle.aerie_base.specs.declared.values.Value.TheVariants.{Int, Truth, Variant}
+use Rattle.aerie_base.specs.declared.values.Value.TheVariants.{Int}
 use Rattle.aerie_base.specs.SameValues.{values_are}
 use Rattle.aerie_base.specs.expressions.Arithmetic.{same_value}
 use Rattle.profiles.specs.Neighbours.{DivideTime, EachNext, ChangesValue}

@@ -1,5 +1,5 @@
 -- The terms of a linear resource of a model, and the cells that they read.
-use Rattle.std.proofs.Common.{◌≡◌, ℕ, zero, suc, ◌<◌, ◌≤◌, ℤ, pos, negsuc, ◌+ℤ◌, ◌*ℤ◌, Bool, true, ◌&&◌, IsTrue, List, [], ◌∷◌, ◌++◌, length, map, Option, None, option_map, slice_get, nat_le, nat_eq, unsigned_abs, refl, sym, ap, ◌∙◌, arith, All}
+use Rattle.std.proofs.Common.{◌≡◌, inl, inr, ℕ, zero, suc, ◌<◌, ◌≤◌, ℤ, pos, negsuc, ◌+ℤ◌, ◌*ℤ◌, Bool, true, ◌&&◌, IsTrue, List, [], ◌∷◌, ◌++◌, length, map, get_or, Option, None, option_map, slice_get, nat_le, nat_eq, unsigned_abs, refl, sym, ap, ◌∙◌, arith, All}
 use Rattle.std.specs.List.{list_all}
 use Rattle.std.specs.Option.{is_some}
 use Rattle.std.proofs.lemmas.Bool.{false≢true, leb-true, eqb-true}
@@ -28,6 +28,7 @@ use Rattle.effect_cells.specs.States.{state_after}
 use Rattle.run_data.specs.Values.{with_states, terms_rate, operand_rate}
 use Rattle.profiles.specs.declared.watching.Watched.{Watched}
 use Rattle.profiles.specs.States.{state_on}
+use Rattle.profiles.specs.Touches.{IsReadBy, IsReadIn}
 use Rattle.profiles.specs.Watching.{watched_operand, watched_on, advanced, read_number, read_rate, values_sum, rates_sum, IsSummed, IsWatchable}
 use Rattle.profiles.proofs.Following.{state_next, state_later}
 use Rattle.aerie_base.specs.Products.{sum_times, times_sum, times_times}
@@ -116,6 +117,29 @@ all_watchable count cells (term ∷ rest) are good = go term.operand are.0 (all_
     go (Read one) is others =
         All-cons IsWatchable _ _ (record { summed = is.0; coefficient = are.1; in_range = in_range_there cells (cell_of one) good }) others
     go (Local slot) is others = absurd is
+
+-- cells that are alike where the terms read are watched alike
+pub watched_alike : (cells others : List CellState) (terms : List Term) → ((k : ℕ) → IsReadBy terms k → get_or cells k (Counter (pos 0)) ≡ get_or others k (Counter (pos 0))) →
+    watched_on cells terms ≡ watched_on others terms
+watched_alike cells others [] alike = refl
+watched_alike cells others (term ∷ rest) alike =
+    go term.operand (λ k is. alike k (inl is)) (watched_alike cells others rest (λ k is. alike k (inr is)))
+  where
+    go : (operand : Operand) → ((k : ℕ) → IsReadIn operand k → get_or cells k (Counter (pos 0)) ≡ get_or others k (Counter (pos 0))) → watched_on cells rest ≡ watched_on others rest →
+        watched_operand cells term.coefficient operand ++ watched_on cells rest ≡ watched_operand others term.coefficient operand ++ watched_on others rest
+    go (Read one) here further =
+        ap (λ (s : CellState). record { read = one; coefficient = term.coefficient; state = s } ∷ watched_on cells rest) (here (cell_of one) refl)
+        ∙ ap (λ (l : List Watched). record { read = one; coefficient = term.coefficient; state = state_on others one } ∷ l) further
+    go (Local slot) here further = further
+
+pub reads_inside : (count : ℕ) (terms : List Term) → AreTermsOf count terms → (k : ℕ) → IsReadBy terms k → k < count
+reads_inside count [] are k is = absurd is
+reads_inside count (term ∷ rest) are k (inl is) = go term.operand are.0 is
+  where
+    go : (operand : Operand) → IsOperandOf count operand → IsReadIn operand k → k < count
+    go (Read one) of_model same = omega (arith, of_model.1, same)
+    go (Local slot) of_model same = absurd same
+reads_inside count (term ∷ rest) are k (inr is) = reads_inside count rest are.2 k is
 
 -- from instant to instant
 pub advanced_on : (cells : List CellState) (terms : List Term) (dt : ℕ) (changed : List (ℕ × CellState)) → AreTermsOf (length cells) terms →

@@ -1,9 +1,11 @@
 pub mod Followed
 pub mod GivenValues
+pub mod InOrder
 pub mod Neighbours
 pub mod Profiles
 pub mod Samples
 pub mod Segments
 pub mod Showings
 pub mod States
+pub mod Touches
 pub mod Watching

@@ -1,5 +1,5 @@
 -- The profile of a resource of a run, and what a profile has at a time.
-use Rattle.std.specs.Prelude.{ℕ, ℤ, Option, slice_get, option_map}
+use Rattle.std.specs.Prelude.{ℕ, ℤ, List, map, Option, slice_get, option_map}
 use Rattle.aerie_base.specs.declared.linear.Linear.{Linear}
 use Rattle.aerie_base.specs.declared.models.Resource.{Resource}
 use Rattle.aerie_base.specs.declared.models.Resource.TheVariants as resource
@@ -24,3 +24,7 @@ profile_of model run (resource.Linear form) =
 -- by the number of the resource, where there is one
 abbrev pub profile_at : Parts → Run → ℕ → Option Profile
 profile_at model run number = option_map (λ named. profile_of model run named.1) (slice_get model.resources number)
+
+-- the profiles of all resources, in the order of their declarations
+abbrev pub all_profiles : Parts → Run → List Profile
+all_profiles model run = map (λ named. profile_of model run named.1) model.resources

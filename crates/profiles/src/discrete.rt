@@ -14,9 +14,11 @@ ghost use Rattle.run_data.specs.Values.{resource_value};
 ghost use Rattle.profiles.specs.Segments.{value_segments};
 ghost use Rattle.profiles.specs.States.{RiseFrom};
 ghost use Rattle.profiles.specs.Showings.{next_showing, first_showing};
+ghost use Rattle.profiles.specs.Touches.{CoversTouches};
 
-use crate::runs::can_be_followed;
+use crate::runs::{can_be_followed, instant_at};
 use crate::states::{next_state, state_at_start};
+use crate::touches::behind_first;
 use aerie_base::{CellRead, List, Model, Number, OutOfMemory, Time, Value, same_value};
 use effect_cells::CellState;
 use run_data::{Instant, Run};
@@ -103,18 +105,20 @@ fn put(
     Ok(())
 }
 
-/// The segments of a discrete resource: one pass over the instants, with a search by halves among the cells that each of them
-/// changed.
+/// The segments of a discrete resource: one pass over the instants that touch its cell, with a search by halves among the cells
+/// that each of them changed.
 pub(crate) fn value_profile(
     alloc: Global,
     model: &Model,
     run: &Run,
     read: CellRead,
+    positions: &[usize],
 ) -> Result<List<(Time, Value)>, OutOfMemory>
     requires valid { IsTrue (valid_model model.now) }
     requires fresh { IsFresh model.now run.now.plan run.now.bound run.now }
     requires shown { IsTrue (is_shown read) }
     requires there { cell_of read < length model.now.cells }
+    requires positions { CoversTouches (λ cell. cell ≡ cell_of read) 0 run.now.instants positions.now }
     ensures { IfOk result (λ segments. segments ≡ value_segments (resource_value model.now run.now (resource.Discrete read)) run.now.reach) }
 {
     can_be_followed(model, run);
@@ -123,14 +127,14 @@ pub(crate) fn value_profile(
     if instants.is_empty() {
         return Ok(segments);
     }
-    let first = &instants[0];
+    let first = instant_at(instants, 0);
     if !first.time.is_before(run.reach) {
         return Ok(segments);
     }
     let mut showing = after_instant(&at_start(model, read), read, first);
     put(&mut segments, false, &showing)?;
-    for at in 1..instants.len() {
-        let instant = &instants[at];
+    for position in behind_first(positions) {
+        let instant = instant_at(instants, *position);
         if !instant.time.is_before(run.reach) {
             return Ok(segments);
         }

@@ -7,7 +7,8 @@ mod profiling;
 mod runs;
 mod sampling;
 mod states;
+mod touches;
 mod watching;
 
-pub use profiling::profile;
+pub use profiling::{profile, profiles};
 pub use sampling::{Profile, Sample};

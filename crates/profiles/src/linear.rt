@@ -13,9 +13,11 @@ ghost use Rattle.windows.specs.Linear.{segment_value};
 ghost use Rattle.profiles.specs.Profiles.{resource_sum};
 ghost use Rattle.profiles.specs.Segments.{line_segments};
 ghost use Rattle.profiles.specs.States.{RiseFrom};
+ghost use Rattle.profiles.specs.Touches.{CoversTouches, IsReadBy};
 ghost use Rattle.profiles.specs.Watching.{IsModerate, IsWatchable, advanced, summed_line};
 
-use crate::runs::can_be_followed;
+use crate::runs::{can_be_followed, instant_at};
+use crate::touches::behind_first;
 use crate::watching::{Watched, advance_all, line_from, watched_terms};
 use aerie_base::{Linear, List, Model, OutOfMemory, Time};
 use run_data::{Instant, Run};
@@ -77,17 +79,19 @@ fn put(segments: &mut List<Segment>, continues: bool, line: Segment) -> Result<(
     Ok(())
 }
 
-/// The segments of a linear resource: one pass over the instants, with a search by halves for each term among the cells that each
-/// of them changed.
+/// The segments of a linear resource: one pass over the instants that touch one of its cells, with a search by halves for each
+/// term among the cells that each of them changed.
 pub(crate) fn line_profile(
     alloc: Global,
     model: &Model,
     run: &Run,
     form: &Linear,
+    positions: &[usize],
 ) -> Result<List<Segment>, OutOfMemory>
     requires valid { IsTrue (valid_model model.now) }
     requires fresh { IsFresh model.now run.now.plan run.now.bound run.now }
     requires form { IsTrue (is_sum model.now.cells form.now) }
+    requires positions { CoversTouches (IsReadBy form.now.terms) 0 run.now.instants positions.now }
     ensures { IfOk result (λ segments. segments ≡ line_segments (resource_sum model.now run.now form.now) (rate_at model.now run.now form.now) run.now.reach) }
 {
     can_be_followed(model, run);
@@ -96,15 +100,15 @@ pub(crate) fn line_profile(
     if instants.is_empty() {
         return Ok(segments);
     }
-    let first = &instants[0];
+    let first = instant_at(instants, 0);
     if !first.time.is_before(run.reach) {
         return Ok(segments);
     }
     let mut watched = watched_terms(alloc, model, form.terms.as_slice())?;
     let mut line = line_after(&mut watched, Time::zero(), first);
     put(&mut segments, false, line)?;
-    for at in 1..instants.len() {
-        let instant = &instants[at];
+    for position in behind_first(positions) {
+        let instant = instant_at(instants, *position);
         if !instant.time.is_before(run.reach) {
             return Ok(segments);
         }

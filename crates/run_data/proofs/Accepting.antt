@@ -1,5 +1,5 @@
 -- Each effect of a step of a valid model is accepted by the cells of the model, and so each of a making.
-use Rattle.std.proofs.Common.{◌≡◌, ℕ, zero, suc, ◌+◌, Bool, true, ◌&&◌, if◌then◌else◌, IsTrue, List, [], ◌∷◌, ◌++◌, Some, None, Ok, Err, refl, ap, ◌∙◌, subst, arith}
+use Rattle.std.proofs.Common.{◌≡◌, ℕ, zero, suc, ◌+◌, Bool, true, ◌&&◌, IsTrue, List, [], ◌∷◌, ◌++◌, Some, None, Ok, Err, refl, ap, ◌∙◌, subst, arith}
 use Rattle.std.specs.List.{All}
 use Rattle.aerie_base.specs.declared.values.Value.{Value}
 use Rattle.aerie_base.specs.declared.statements.Stmt.{Stmt, out-Stmt}
@@ -8,13 +8,13 @@ use Rattle.aerie_base.specs.declared.models.model.Parts.{Parts}
 use Rattle.aerie_base.specs.expressions.Arithmetic.{truth_in}
 use Rattle.aerie_base.specs.expressions.Evaluation.{Evaluated}
 use Rattle.aerie_base.specs.models.ValidModel.{valid_model}
-use Rattle.aerie_base.specs.statements.Places.{Placed, placed, block_size}
+use Rattle.aerie_base.specs.statements.Places.{Placed}
 use Rattle.effect_cells.specs.declared.effects.CellState.{CellState}
 use Rattle.effect_cells.specs.declared.effects.Effect.{Effect}
 use Rattle.effect_cells.specs.Cells.{accepts, emitted, fits_cells}
 use Rattle.run_data.specs.declared.tasks.BodyId.{BodyId}
 use Rattle.run_data.specs.declared.jobs.Job.{Job}
-use Rattle.run_data.specs.declared.frames.Frame.{Frame}
+use Rattle.run_data.specs.TaskFrames.{Frame}
 use Rattle.run_data.specs.declared.frames.Item.{Item}
 use Rattle.run_data.specs.declared.frames.Item.TheVariants as item
 use Rattle.run_data.specs.Batches.{tree_of}

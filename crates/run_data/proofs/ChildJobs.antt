@@ -1,22 +1,17 @@
 -- The children of a job of the model are such jobs, with views whose numbers are within bounds.
-use Rattle.std.proofs.Common.{◌≡◌, ℕ, zero, suc, ◌+◌, ◌*◌, ◌-◌, ◌<◌, ◌≤◌, List, [], ◌∷◌, ◌++◌, All, length, replicate, Option, Some, None, slice_get, slice_set, refl, ap, subst, arith}
-use Rattle.std.proofs.lemmas.Int.{ints}
+use Rattle.std.proofs.Common.{◌≡◌, ℕ, zero, suc, ◌+◌, ◌*◌, ◌-◌, ◌<◌, ◌≤◌, List, [], ◌∷◌, ◌++◌, All, length, replicate, slice_get, refl, subst, arith}
 use Rattle.std.proofs.lemmas.List.Elements.{All-nil, All-cons}
 use Rattle.aerie_base.specs.Ranges.{number_limit}
 use Rattle.aerie_base.specs.declared.values.Value.{Value}
 use Rattle.aerie_base.specs.declared.models.model.Parts.{Parts}
 use Rattle.effect_cells.specs.declared.effects.CellState.{CellState}
 use Rattle.effect_cells.specs.declared.effects.CellState.TheVariants as state
-use Rattle.effect_cells.specs.declared.effects.Effect.{Effect}
-use Rattle.effect_cells.specs.declared.effects.Effect.TheVariants.{Add, Register, Flow}
-use Rattle.effect_cells.specs.declared.registers.Change.TheVariants as change
-use Rattle.effect_cells.specs.Cells.{emitted, emitted_on}
-use Rattle.effect_cells.specs.States.{applied}
+use Rattle.effect_cells.specs.Cells.{emitted}
 use Rattle.run_data.specs.declared.frames.Item.{Item}
 use Rattle.run_data.specs.declared.frames.Item.TheVariants as item
 use Rattle.run_data.specs.Jobs.{AreCellsOf, IsModest, view_limit}
 use Rattle.run_data.specs.MagnitudeLaws.{emitted_within}
-use Rattle.run_data.specs.Magnitudes.{state_magnitude, effect_magnitude, AreWithin}
+use Rattle.run_data.specs.Magnitudes.{state_magnitude, AreWithin}
 use Rattle.run_data.specs.Numbers.{HasNumber}
 use Rattle.run_data.specs.TaskStates.{activity_slots, unset}
 use Rattle.run_data.specs.laws.Generations.{child_jobs}

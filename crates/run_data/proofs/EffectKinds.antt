@@ -21,7 +21,7 @@ use Rattle.effect_cells.specs.TreeRecursion.{part_gives}
 use Rattle.effect_cells.specs.TreeRecursionLaws.{gives-Child}
 use Rattle.effect_cells.specs.Worth.{Before, effect_in_turn, effect_beside, in_front, beside, part_worth, tree_worth, items_worth, worth_of}
 use Rattle.run_data.specs.declared.jobs.Job.{Job}
-use Rattle.run_data.specs.declared.frames.Frame.{Frame}
+use Rattle.run_data.specs.TaskFrames.{Frame}
 use Rattle.run_data.specs.declared.frames.Item.{Item}
 use Rattle.run_data.specs.declared.frames.Item.TheVariants as item
 use Rattle.run_data.specs.Batches.{tree_of}

@@ -5,11 +5,11 @@ use Rattle.std.specs.declared.cmp.Ordering.TheVariants.{Less, Equal, Greater}
 use Rattle.std.specs.Ordering.{is_eq}
 use Rattle.std.specs.BTreeMap.{is_at}
 use Rattle.aerie_base.specs.Paths.{path_cmp}
-use Rattle.run_data.specs.declared.frames.Frame.{Frame}
+use Rattle.run_data.specs.TaskFrames.{Frame}
 use Rattle.run_data.specs.Batches.{by_path, put_by_path, in_front_unless_greater}
 use Rattle.run_data.specs.Tasks.{Task, Table, task_at, after_frame, after_frames, task_after, children_made, children_in}
 use Rattle.run_data.specs.laws.BatchFrames.{AnyFrame, Among, HasPath, Differ}
-use Rattle.run_data.specs.FrameLaws.{any_put, put_any, sorted_any}
+use Rattle.run_data.specs.FrameLaws.{put_any, sorted_any}
 use Rattle.run_data.specs.TableLaws.{at_with, is_same, path_itself}
 
 pub any_weaker : (P Q : Frame → Type 0) → ((frame : Frame) → P frame → Q frame) → (frames : List Frame) → AnyFrame P frames → AnyFrame Q frames

@@ -10,7 +10,7 @@ use Rattle.effect_cells.specs.States.{state_after}
 use Rattle.effect_cells.specs.Cells.{first_state, passed, first_out, emitted, emitted_on, with_effects, committed_cells}
 use Rattle.effect_cells.specs.Worth.{worth_of}
 use Rattle.run_data.specs.declared.jobs.Job.{Job}
-use Rattle.run_data.specs.declared.frames.Frame.{Frame}
+use Rattle.run_data.specs.TaskFrames.{Frame}
 use Rattle.run_data.specs.declared.frames.Item.{Item}
 use Rattle.run_data.specs.declared.frames.Item.TheVariants as item
 use Rattle.run_data.specs.declared.runs.Instant.{Instant}

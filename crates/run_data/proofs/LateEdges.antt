@@ -12,7 +12,7 @@ use Rattle.aerie_base.specs.Paths.{root, child_path, path_cmp, is_prefix}
 use Rattle.aerie_base.specs.plans.OfModel.{IsPlanOf}
 use Rattle.effect_cells.specs.declared.effects.CellState.{CellState}
 use Rattle.effect_cells.specs.Cells.{passed, first_out}
-use Rattle.run_data.specs.declared.frames.Frame.{Frame}
+use Rattle.run_data.specs.TaskFrames.{Frame}
 use Rattle.run_data.specs.declared.jobs.Job.{Job}
 use Rattle.run_data.specs.declared.runs.Run.{Run}
 use Rattle.run_data.specs.Batches.{Batch, limit, failed, committed, batch}

@@ -11,7 +11,7 @@ use Rattle.aerie_base.specs.Paths.{root, child_path, path_cmp, is_prefix}
 use Rattle.aerie_base.specs.TimeOrder.{earlier}
 use Rattle.effect_cells.specs.declared.effects.CellState.{CellState}
 use Rattle.run_data.specs.declared.tasks.TaskState.{TaskState}
-use Rattle.run_data.specs.declared.frames.Frame.{Frame}
+use Rattle.run_data.specs.TaskFrames.{Frame}
 use Rattle.run_data.specs.Endings.{is_open, has_ended, has_begun, has_come, back, due_phase, gone_on, after_batch}
 use Rattle.run_data.specs.Fresh.{due_time, least_due, below}
 use Rattle.run_data.specs.Tasks.{TaskPhase, anchored, ready, delayed, waiting, calling, over, Task, Table, task_at, with_task, ready_jobs, after_delay, task_after, after_frame, after_frames, children_made, children_in}

@@ -13,11 +13,11 @@ mod DueJobs
 mod DueTimes
 mod EffectKinds
 mod EndedByCount
-mod EndedTasks
-mod Ending
+pub mod EndedTasks
+pub mod Ending
 mod FittingFrames
-mod FramePaths
-mod FramesByPath
+pub mod FramePaths
+pub mod FramesByPath
 mod FreshRuns
 mod Generations
 mod GoingOn
@@ -31,9 +31,9 @@ mod LateEdges
 mod LatePlaces
 mod LateTasks
 mod LiteralForms
-mod LiveAfterBatches
-mod LiveAfterFrames
-mod LiveParts
+pub mod LiveAfterBatches
+pub mod LiveAfterFrames
+pub mod LiveParts
 mod MadeByJobs
 mod MadeReads
 mod Makings
@@ -47,10 +47,10 @@ mod PathsApart
 mod Paying
 mod Performing
 mod PlacesHold
-mod PrunedStates
-mod QuietStates
-mod QuietTasks
-mod ReachedStates
+pub mod PrunedStates
+pub mod QuietStates
+pub mod QuietTasks
+pub mod ReachedStates
 mod Reading
 mod ReadyJobs
 mod ReadyTasks
@@ -71,7 +71,7 @@ mod StepEndings
 mod StepLeavings
 mod Sublists
 mod TableOfModel
-mod TableParts
+pub mod TableParts
 mod TracedTasks
 mod Trees
 mod TypedStatements

@@ -5,7 +5,7 @@ use Rattle.std.specs.BTreeMap.{is_at}
 use Rattle.aerie_base.specs.declared.plans.Edge.{Edge}
 use Rattle.aerie_base.specs.Paths.{child_path, path_cmp, is_prefix}
 use Rattle.run_data.specs.declared.tasks.TaskState.{TaskState}
-use Rattle.run_data.specs.declared.frames.Frame.{Frame}
+use Rattle.run_data.specs.TaskFrames.{Frame}
 use Rattle.run_data.specs.declared.frames.Status.{Status}
 use Rattle.run_data.specs.declared.frames.Status.TheVariants as status
 use Rattle.run_data.specs.Endings.{has_ended}

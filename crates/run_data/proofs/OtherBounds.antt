@@ -9,7 +9,7 @@ use Rattle.effect_cells.specs.declared.effects.Effect.{Effect}
 use Rattle.effect_cells.specs.declared.trees.Part.{Emit, Child}
 use Rattle.effect_cells.specs.Cells.{emitted, committed_cells, first_out}
 use Rattle.run_data.specs.declared.jobs.Job.{Job}
-use Rattle.run_data.specs.declared.frames.Frame.{Frame}
+use Rattle.run_data.specs.TaskFrames.{Frame}
 use Rattle.run_data.specs.declared.frames.Item.{Item}
 use Rattle.run_data.specs.declared.frames.Item.TheVariants as item
 use Rattle.run_data.specs.Batches.{failed, committed, batch, judged, when_within, when_no_fault, unless_out, Blame, least_fault, tree_of, cost_of, by_path}

@@ -9,7 +9,7 @@ use Rattle.aerie_base.specs.Paths.{root, child_path}
 use Rattle.aerie_base.specs.plans.OfModel.{IsPlanOf}
 use Rattle.effect_cells.specs.declared.effects.CellState.{CellState}
 use Rattle.effect_cells.specs.Cells.{passed, first_out}
-use Rattle.run_data.specs.declared.frames.Frame.{Frame}
+use Rattle.run_data.specs.TaskFrames.{Frame}
 use Rattle.run_data.specs.declared.jobs.Job.{Job}
 use Rattle.run_data.specs.Batches.{Batch, limit, failed, committed, batch, cost_of}
 use Rattle.run_data.specs.Endings.{is_open, has_begun, has_come, after_batch}
@@ -32,7 +32,7 @@ use Rattle.run_data.proofs.LiveAfterFrames.{each_of_among}
 use Rattle.run_data.proofs.LiveAfterBatches.{batch_same}
 
 module _ (table : Table) (order : IsOrderedTable table) where
-  live_order : IsOrderedTable (live table)
+  pub live_order : IsOrderedTable (live table)
   live_order = order_part (is_live table) table order
 
   pub live_same : SameLive table (live table)
@@ -62,7 +62,7 @@ module _ (table : Table) (order : IsOrderedTable table) where
   still_quiet path (waiting condition state) h = tt
   still_quiet path (over result) h = tt
 
-  part_quiet : (others : Table) → AllQuiet table others → AllQuiet (live table) (part (is_live table) others)
+  pub part_quiet : (others : Table) → AllQuiet table others → AllQuiet (live table) (part (is_live table) others)
   part_quiet [] all = tt
   part_quiet (entry ∷ rest) all = by (is_live table entry.0) (part_quiet rest all.1)
     where

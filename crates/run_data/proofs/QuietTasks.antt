@@ -5,7 +5,7 @@ use Rattle.aerie_base.specs.declared.plans.Edge.{Edge}
 use Rattle.aerie_base.specs.declared.plans.Edge.TheVariants.{Start, End}
 use Rattle.aerie_base.specs.Paths.{path_cmp, child_path, root}
 use Rattle.run_data.specs.declared.tasks.TaskState.{TaskState}
-use Rattle.run_data.specs.declared.frames.Frame.{Frame}
+use Rattle.run_data.specs.TaskFrames.{Frame}
 use Rattle.run_data.specs.Endings.{is_open, has_ended, back, due_phase, has_come, has_begun, result_of, with_result, gone_on}
 use Rattle.run_data.specs.Tasks.{TaskPhase, anchored, ready, delayed, waiting, calling, over, Task, Table, task_at, on_each, after_frame, after_frames, task_after, after_delay, children_made, children_in}
 use Rattle.run_data.specs.laws.GoingOn.{HasFrame, at_first, at_later, IsQuiet, AllQuiet, MayComeBy, MayGoOnBy, OthersStay, QuietAfter, NoneGoesOn, GoOnOnce}

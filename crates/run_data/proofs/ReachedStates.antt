@@ -11,7 +11,7 @@ use Rattle.aerie_base.specs.plans.OfModel.{IsPlanOf}
 use Rattle.effect_cells.specs.declared.effects.CellState.{CellState}
 use Rattle.effect_cells.specs.Cells.{passed, first_out, committed_cells, AreInRange}
 use Rattle.run_data.specs.declared.jobs.Job.{Job}
-use Rattle.run_data.specs.declared.frames.Frame.{Frame}
+use Rattle.run_data.specs.TaskFrames.{Frame}
 use Rattle.run_data.specs.declared.runs.Run.{Run}
 use Rattle.run_data.specs.Batches.{Batch, limit, failed, committed, batch, judged as judged_batch, when_within, when_no_fault, unless_out, Blame, fault_in, least_fault, lesser, blamed, tree_of, cost_of, by_path}
 use Rattle.run_data.specs.Endings.{after_batch, gone_on}

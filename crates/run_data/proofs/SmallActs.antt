@@ -1,5 +1,5 @@
 -- A step of a valid model gives numbers in range, effects of their cells, and no more of these than statements are run.
-use Rattle.std.proofs.Common.{◌≡◌, ℕ, zero, suc, ◌+◌, ◌≤◌, ℤ, pos, negsuc, Bool, true, if◌then◌else◌, IsTrue, List, [], ◌∷◌, ◌++◌, length, Option, Some, None, Result, Ok, Err, slice_get, slice_set, refl, ap, ◌∙◌, subst, arith, length-append}
+use Rattle.std.proofs.Common.{◌≡◌, ℕ, zero, suc, ◌+◌, ◌≤◌, ℤ, pos, negsuc, Bool, true, IsTrue, List, [], ◌∷◌, ◌++◌, length, Option, Some, None, Result, Ok, Err, slice_get, slice_set, refl, ap, ◌∙◌, subst, arith, length-append}
 use Rattle.std.specs.Int.RustNames.{unsigned_abs}
 use Rattle.aerie_base.specs.Ranges.{number_limit}
 use Rattle.aerie_base.specs.declared.values.Kind.{Kind}
@@ -19,7 +19,7 @@ use Rattle.aerie_base.specs.expressions.Evaluation.{Evaluated}
 use Rattle.aerie_base.specs.models.Cells.{read_kind}
 use Rattle.aerie_base.specs.models.Expressions.{is_kind_of}
 use Rattle.aerie_base.specs.models.ValidModel.{valid_model}
-use Rattle.aerie_base.specs.statements.Places.{Placed, placed, block_size}
+use Rattle.aerie_base.specs.statements.Places.{Placed}
 use Rattle.effect_cells.specs.declared.effects.CellState.{CellState}
 use Rattle.effect_cells.specs.declared.effects.CellState.TheVariants as state
 use Rattle.effect_cells.specs.Cells.{accepts, accepted_by}

@@ -13,7 +13,7 @@ use Rattle.effect_cells.specs.declared.effects.Effect.{Effect}
 use Rattle.effect_cells.specs.declared.trees.Part.{Part, Emit, Child}
 use Rattle.effect_cells.specs.Cells.{emitted, first_out, committed_cells}
 use Rattle.run_data.specs.declared.jobs.Job.{Job}
-use Rattle.run_data.specs.declared.frames.Frame.{Frame}
+use Rattle.run_data.specs.TaskFrames.{Frame}
 use Rattle.run_data.specs.declared.frames.Item.{Item}
 use Rattle.run_data.specs.declared.frames.Item.TheVariants as item
 use Rattle.run_data.specs.Batches.{Batch, limit, failed, committed, judged, when_within, when_no_fault, unless_out, Blame, fault_in, least_fault, in_front_unless_greater, put_by_path, by_path, touched_from, tree_of, cost_of}

@@ -1,7 +1,7 @@
 -- A generation by the frames that a wave of its jobs gives.
 use Rattle.std.proofs.Common.{◌≡◌, List, [], ◌∷◌, map, Option, Some, None, refl, ap, ◌∙◌}
 use Rattle.aerie_base.specs.declared.models.model.Parts.{Parts}
-use Rattle.run_data.specs.declared.frames.Frame.{Frame}
+use Rattle.run_data.specs.TaskFrames.{Frame}
 use Rattle.run_data.specs.Frames.{job_step}
 use Rattle.run_data.specs.Steps.{Stepped}
 use Rattle.run_data.specs.Waves.{with_step, frames_of}

@@ -9,11 +9,11 @@ use Rattle.aerie_base.specs.Paths.{path_cmp}
 use Rattle.effect_cells.specs.declared.effects.CellState.{CellState}
 use Rattle.effect_cells.specs.declared.trees.Tree.{Tree}
 use Rattle.effect_cells.specs.Cells.{committed_cells, first_out}
-use Rattle.effect_cells.specs.Worth.{worth_of}
+pub use Rattle.effect_cells.specs.Touched.{touched_from}
 use Rattle.run_data.specs.declared.jobs.Job.{Job}
 use Rattle.run_data.specs.declared.frames.Status.{Status}
 use Rattle.run_data.specs.declared.frames.Status.TheVariants.{Delayed, Waiting, Calling, Done, Faulted}
-use Rattle.run_data.specs.declared.frames.Frame.{Frame}
+use Rattle.run_data.specs.TaskFrames.{Frame}
 use Rattle.run_data.specs.declared.runs.Who.{Who}
 use Rattle.run_data.specs.declared.runs.Who.TheVariants as who
 use Rattle.run_data.specs.Frames.{Made, Making, made_by_all}
@@ -72,14 +72,6 @@ put_by_path frame (first ∷ rest) =
 abbrev pub by_path : List Frame → List Frame
 by_path [] = []
 by_path (frame ∷ rest) = put_by_path frame (by_path rest)
-
--- ---- cells
-
--- the cells from a number on on which a tree has an effect
-abbrev pub touched_from : ℕ → Tree → List CellState → List ℕ
-touched_from cell tree [] = []
-touched_from cell tree (state ∷ rest) =
-    if is_some (worth_of tree cell) then cell ∷ touched_from (cell + 1) tree rest else touched_from (cell + 1) tree rest
 
 -- ---- the batch
 

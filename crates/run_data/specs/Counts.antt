@@ -3,7 +3,7 @@
 -- Counts: what frames cost together, what of them no record fits, and how the count of a stepper rises.
 use Rattle.std.specs.Prelude.{◌≡◌, ℕ, ◌+◌, ◌-◌, ◌≤◌, min, Bool, true, false, List, [], ◌∷◌, ◌++◌, if◌then◌else◌, refl}
 use Rattle.std.proofs.Common.{ap, arith}
-use Rattle.run_data.specs.declared.frames.Frame.{Frame}
+use Rattle.run_data.specs.TaskFrames.{Frame}
 use Rattle.run_data.specs.declared.frames.Record.{Record}
 use Rattle.run_data.specs.Batches.{cost_of}
 use Rattle.run_data.specs.Records.{has_fit, unmatched}

@@ -1,11 +1,11 @@
 -- A file of lemmas: what it proves need not be read to trust a clause.
 --
 -- What frames in order of path keep of the same frames in any order.
-use Rattle.std.proofs.Common.{◌≡◌, ◌⊎◌, inl, inr, ◌+◌, List, [], ◌∷◌, refl, ap, ◌∙◌, arith}
+use Rattle.std.proofs.Common.{◌≡◌, inl, inr, ◌+◌, List, [], ◌∷◌, refl, ap, ◌∙◌, arith}
 use Rattle.std.specs.declared.cmp.Ordering.{Ordering}
 use Rattle.std.specs.declared.cmp.Ordering.TheVariants.{Less, Equal, Greater}
 use Rattle.aerie_base.specs.Paths.{path_cmp}
-use Rattle.run_data.specs.declared.frames.Frame.{Frame}
+use Rattle.run_data.specs.TaskFrames.{Frame}
 use Rattle.run_data.specs.Batches.{by_path, put_by_path, in_front_unless_greater, cost_of}
 use Rattle.run_data.specs.laws.BatchFrames.{AnyFrame}
 use Rattle.run_data.specs.laws.Orders.{EachOf}

@@ -14,7 +14,7 @@ use Rattle.run_data.specs.declared.frames.Item.{Item}
 use Rattle.run_data.specs.declared.frames.Item.TheVariants as item
 use Rattle.run_data.specs.declared.frames.Status.{Status}
 use Rattle.run_data.specs.declared.frames.Status.TheVariants.{Faulted}
-use Rattle.run_data.specs.declared.frames.Frame.{Frame}
+use Rattle.run_data.specs.TaskFrames.{Frame}
 use Rattle.run_data.specs.StepStates.{StepState}
 use Rattle.run_data.specs.Steps.{Stepped, step_of}
 use Rattle.run_data.specs.TaskStates.{body_of, activity_begun}

@@ -1,4 +1,5 @@
 pub mod TaskStates
+pub mod TaskFrames
 pub mod StepStates
 pub mod Steps
 pub mod Frames

@@ -1,14 +1,11 @@
 -- A file of lemmas: what it proves need not be read to trust a clause.
 --
 -- The tests by which stored steps are found tell exactly where two states, and what two steps read, are equal.
-use Rattle.std.proofs.Common.{◌≡◌, ℕ, ℤ, ◌<ℤ◌, Bool, true, false, ◌&&◌, IsTrue, List, [], ◌∷◌, nat_eq, refl, ap, subst, arith, eq-eqb}
-use Rattle.std.specs.Ordering.{int_cmp, int_eq, is_eq, MatchOrdering}
-use Rattle.std.specs.declared.cmp.Ordering.{Ordering}
-use Rattle.std.specs.declared.cmp.Ordering.TheVariants.{Less, Equal, Greater}
+use Rattle.std.proofs.Common.{◌≡◌, ℕ, ℤ, Bool, true, false, ◌&&◌, IsTrue, List, [], ◌∷◌, nat_eq, refl, ap, subst, arith, eq-eqb}
+use Rattle.std.specs.Ordering.{int_eq}
 use Rattle.std.specs.Cmp.{IsEquivalence, both_ways}
 use Rattle.std.specs.Hash.{HashWrites}
-use Rattle.std.proofs.lemmas.Bool.{false≢true}
-use Rattle.std.proofs.lemmas.Cmp.{int_eq_equiv, int_ranked}
+use Rattle.std.proofs.lemmas.Cmp.{int_eq_equiv}
 use Rattle.aerie_base.specs.declared.values.Value.{Value}
 use Rattle.aerie_base.specs.declared.values.Value.TheVariants.{Int, Truth, Variant}
 use Rattle.aerie_base.specs.SameValues.{numbers_are, truths_are, values_are}

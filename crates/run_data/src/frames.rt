@@ -1,11 +1,14 @@
 ghost use Rattle.std.specs.Prelude.{◌≡◌, ◌↔◌, IsTrue, IfOk};
+ghost use Rattle.run_data.specs.Records.{record_of};
+ghost use Rattle.run_data.specs.TaskFrames.{frame_with};
 
 use crate::tasks::TaskState;
 use aerie_base::{
-    Cond, Fault, List, Number, OutOfMemory, Path, PlainData, Value, copy_list, same_list,
+    Cond, Fault, List, Number, OutOfMemory, Path, PlainData, Shared, Value, copy_list, same_list,
 };
 use effect_cells::{CellState, Effect};
 use std::alloc::Global;
+use std::marker::Model;
 
 /// What a step does, in the order in which it does it.
 #[derive(Debug, Drop)]
@@ -27,28 +30,28 @@ pub enum Item {
 }
 
 /// How a step ends.
-#[derive(Debug, Drop)]
+#[derive(Drop)]
 pub enum Status {
     /// The task goes on later.
     Delayed {
         /// By so many microseconds, 0 or more.
         by: Number,
         /// From this state.
-        next: TaskState,
+        next: Shared<TaskState>,
     },
     /// The task goes on when a condition holds.
     Waiting {
         /// The condition, with the locals filled in.
-        condition: Cond,
+        condition: Shared<Cond>,
         /// From this state.
-        next: TaskState,
+        next: Shared<TaskState>,
     },
     /// The task goes on when the last child of the step has ended.
     Calling {
         /// The slot of the local that takes the child's result.
         into: Option<u16>,
         /// From this state.
-        next: TaskState,
+        next: Shared<TaskState>,
     },
     /// The body has ended, with the value that it returned.
     Done(Option<Value>),
@@ -56,13 +59,11 @@ pub enum Status {
     Faulted(Fault),
 }
 
-/// A step that was run: what it began from, what it read and what it did.
-#[derive(Debug, Drop)]
-pub struct Frame {
-    /// The task.
-    pub path: Path,
-    /// Its state before the step.
-    pub before: TaskState,
+/// A step of any task: what it gives in every view that agrees with its reads.
+#[derive(Drop)]
+pub struct Record {
+    /// The state before the step.
+    pub before: Shared<TaskState>,
     /// The cells that it read, each once and in order of number, as they were when the step began.
     pub reads: List<(u16, CellState)>,
     /// What it did.
@@ -73,19 +74,24 @@ pub struct Frame {
     pub cost: u64,
 }
 
-/// A step of any task: what it gives in every view that agrees with its reads.
-#[derive(Debug, Drop)]
-pub struct Record {
-    /// The state before the step.
-    pub before: TaskState,
-    /// The cells that it read, each once and in order of number, as they were when the step began.
-    pub reads: List<(u16, CellState)>,
-    /// What it did.
-    pub items: List<Item>,
-    /// How it ended.
-    pub status: Status,
-    /// How many statements and tests it ran.
-    pub cost: u64,
+/// A step that was run: what it began from, what it read and what it did. The frames of a task may share its path, and frames that
+/// do the same may share their step. Contracts see a frame as the path beside the parts of the step.
+#[derive(Drop)]
+pub struct Frame {
+    path: Shared<Path>,
+    step: Shared<Record>,
+}
+
+impl Model for Frame {
+    ghost use Rattle.std.specs.Coded.{codes};
+    ghost use Rattle.aerie_base.specs.contracts.conditions.Cond as cond;
+    ghost use Rattle.run_data.specs.TaskFrames.{Frame as TaskFrame, frame_with};
+
+    ghost Value = { TaskFrame };
+
+    ghost coded = { Prim.hlevel (codes, cond.the_row.coded) };
+
+    ghost view = { λ frame. frame_with frame.path frame.step };
 }
 
 impl Item {
@@ -139,25 +145,25 @@ impl PlainData for Item {
 }
 
 impl Status {
-    /// An equal status.
-    pub fn copy(&self, alloc: Global) -> Result<Status, OutOfMemory>
-        ensures { IfOk result (λ copy. copy ≡ self.now) }
+    /// An equal status, whose state and condition are shared.
+    pub fn share(&self) -> Result<Status, OutOfMemory>
+        ensures { IfOk result (λ shared. shared ≡ self.now) }
     {
         match self {
             Status::Delayed { by, next } => Ok(Status::Delayed {
                 by: *by,
-                next: next.copy(alloc)?,
+                next: next.share()?,
             }),
             Status::Waiting { condition, next } => {
-                let condition = condition.copy(alloc)?;
+                let condition = condition.share()?;
                 Ok(Status::Waiting {
                     condition,
-                    next: next.copy(alloc)?,
+                    next: next.share()?,
                 })
             }
             Status::Calling { into, next } => Ok(Status::Calling {
                 into: *into,
-                next: next.copy(alloc)?,
+                next: next.share()?,
             }),
             Status::Done(result) => Ok(Status::Done(*result)),
             Status::Faulted(fault) => Ok(Status::Faulted(*fault)),
@@ -173,21 +179,22 @@ impl Status {
                 Status::Delayed {
                     by: other_by,
                     next: other_next,
-                } => *by == *other_by && next.is_same(other_next),
+                } => *by == *other_by && next.get().is_same(other_next.get()),
                 _ => false,
             },
             Status::Waiting { condition, next } => match other {
                 Status::Waiting {
                     condition: other_condition,
                     next: other_next,
-                } => condition.is_same(other_condition) && next.is_same(other_next),
+                } => condition.get().is_same(other_condition.get())
+                    && next.get().is_same(other_next.get()),
                 _ => false,
             },
             Status::Calling { into, next } => match other {
                 Status::Calling {
                     into: other_into,
                     next: other_next,
-                } => *into == *other_into && next.is_same(other_next),
+                } => *into == *other_into && next.get().is_same(other_next.get()),
                 _ => false,
             },
             Status::Done(result) => match other {
@@ -203,47 +210,83 @@ impl Status {
 }
 
 impl Frame {
-    /// An equal frame.
-    pub fn copy(&self, alloc: Global) -> Result<Frame, OutOfMemory>
-        ensures { IfOk result (λ copy. copy ≡ self.now) }
+    /// The frame of a step of the task of this path.
+    pub fn new(path: Shared<Path>, step: Shared<Record>) -> Frame
+        ensures { result ≡ frame_with path step }
     {
-        let path = self.path.copy(alloc)?;
-        let before = self.before.copy(alloc)?;
-        let reads = copy_list(alloc, &self.reads)?;
-        let items = copy_list(alloc, &self.items)?;
-        let status = self.status.copy(alloc)?;
-        Ok(Frame {
-            path,
-            before,
-            reads,
-            items,
-            status,
-            cost: self.cost,
-        })
+        Frame { path, step }
     }
-}
 
-impl Frame {
+    /// The task.
+    pub fn path(&self) -> &Path
+        ensures { result.now ≡ self.now.path }
+    {
+        self.path.get()
+    }
+
+    /// The task, as one that may be shared.
+    pub fn shared_path(&self) -> &Shared<Path>
+        ensures { result.now ≡ self.now.path }
+    {
+        &self.path
+    }
+
+    /// The step, as one that may be shared.
+    pub fn step(&self) -> &Shared<Record>
+        ensures { result.now ≡ record_of self.now }
+    {
+        &self.step
+    }
+
+    /// The state of the task before the step.
+    pub fn before(&self) -> &TaskState
+        ensures { result.now ≡ self.now.before }
+    {
+        self.step.get().before.get()
+    }
+
+    /// The cells that the step read, each once and in order of number, as they were when it began.
+    pub fn reads(&self) -> &List<(u16, CellState)>
+        ensures { result.now ≡ self.now.reads }
+    {
+        &self.step.get().reads
+    }
+
+    /// What the step did.
+    pub fn items(&self) -> &List<Item>
+        ensures { result.now ≡ self.now.items }
+    {
+        &self.step.get().items
+    }
+
+    /// How the step ended.
+    pub fn status(&self) -> &Status
+        ensures { result.now ≡ self.now.status }
+    {
+        &self.step.get().status
+    }
+
+    /// How many statements and tests the step ran.
+    pub fn cost(&self) -> u64
+        ensures { result ≡ self.now.cost }
+    {
+        self.step.get().cost
+    }
+
+    /// One more owner of the path and of the step, which are not copied.
+    pub fn share(&self) -> Result<Frame, OutOfMemory>
+        ensures { IfOk result (λ shared. shared ≡ self.now) }
+    {
+        let path = self.path.share()?;
+        let step = self.step.share()?;
+        Ok(Frame { path, step })
+    }
+
     /// Whether the two are the same frame.
     pub fn is_same(&self, other: &Frame) -> bool
         ensures { IsTrue result ↔ (self.now ≡ other.now) }
     {
-        self.path.is_same(&other.path)
-            && self.before.is_same(&other.before)
-            && same_list(self.reads.as_slice(), other.reads.as_slice())
-            && same_list(self.items.as_slice(), other.items.as_slice())
-            && self.status.is_same(&other.status)
-            && self.cost == other.cost
-    }
-}
-
-impl PlainData for Frame {
-    fn copied(&self, alloc: Global) -> Result<Frame, OutOfMemory> {
-        self.copy(alloc)
-    }
-
-    fn equals(&self, other: &Frame) -> bool {
-        self.is_same(other)
+        self.path.get().is_same(other.path.get()) && self.step.get().is_same(other.step.get())
     }
 }
 
@@ -252,37 +295,10 @@ impl Record {
     pub fn is_same(&self, other: &Record) -> bool
         ensures { IsTrue result ↔ (self.now ≡ other.now) }
     {
-        self.before.is_same(&other.before)
+        self.before.get().is_same(other.before.get())
             && same_list(self.reads.as_slice(), other.reads.as_slice())
             && same_list(self.items.as_slice(), other.items.as_slice())
             && self.status.is_same(&other.status)
             && self.cost == other.cost
-    }
-
-    /// An equal record.
-    pub fn copy(&self, alloc: Global) -> Result<Record, OutOfMemory>
-        ensures { IfOk result (λ copy. copy ≡ self.now) }
-    {
-        let before = self.before.copy(alloc)?;
-        let reads = copy_list(alloc, &self.reads)?;
-        let items = copy_list(alloc, &self.items)?;
-        let status = self.status.copy(alloc)?;
-        Ok(Record {
-            before,
-            reads,
-            items,
-            status,
-            cost: self.cost,
-        })
-    }
-}
-
-impl PlainData for Record {
-    fn copied(&self, alloc: Global) -> Result<Record, OutOfMemory> {
-        self.copy(alloc)
-    }
-
-    fn equals(&self, other: &Record) -> bool {
-        self.is_same(other)
     }
 }

@@ -1,12 +1,12 @@
 ghost use Rattle.std.specs.Prelude.{◌≡◌, IfOk};
 
 use crate::frames::Frame;
-use aerie_base::{Fault, List, OutOfMemory, Path, Plan, Time, copy_list};
+use aerie_base::{Fault, List, OutOfMemory, Path, Plan, Shared, Time};
 use effect_cells::CellState;
 use std::alloc::Global;
 
 /// A settled time of a run.
-#[derive(Debug, Drop)]
+#[derive(Drop)]
 pub struct Instant {
     /// The time, in microseconds from the start of the plan.
     pub time: Time,
@@ -47,47 +47,18 @@ pub enum Outcome {
 }
 
 /// A simulation of a plan.
-#[derive(Debug, Drop)]
+#[derive(Drop)]
 pub struct Run {
     /// The plan.
     pub plan: Plan,
     /// What the costs of all steps together may come to.
     pub bound: u64,
     /// The settled instants, in order of time.
-    pub instants: List<Instant>,
+    pub instants: List<Shared<Instant>>,
     /// The time that it reached: everything before it is known.
     pub reach: Time,
     /// How it ended.
     pub outcome: Outcome,
-}
-
-impl Instant {
-    /// An equal instant.
-    pub fn copy(&self, alloc: Global) -> Result<Instant, OutOfMemory>
-        ensures { IfOk result (λ copy. copy ≡ self.now) }
-    {
-        let batches = copy_batches(alloc, &self.batches)?;
-        let changed = copy_list(alloc, &self.changed)?;
-        Ok(Instant {
-            time: self.time,
-            batches,
-            changed,
-        })
-    }
-}
-
-/// Equal batches.
-fn copy_batches(
-    alloc: Global,
-    batches: &List<List<Frame>>,
-) -> Result<List<List<Frame>>, OutOfMemory>
-    ensures { IfOk result (λ copies. copies ≡ batches.now) }
-{
-    let mut copies = List::new(alloc);
-    for batch in batches.as_slice() {
-        copies.push(copy_list(alloc, batch)?)?;
-    }
-    Ok(copies)
 }
 
 impl Who {
@@ -117,33 +88,4 @@ impl Outcome {
             Outcome::StepLimit { time } => Ok(Outcome::StepLimit { time: *time }),
         }
     }
-}
-
-impl Run {
-    /// An equal run.
-    pub fn copy(&self, alloc: Global) -> Result<Run, OutOfMemory>
-        ensures { IfOk result (λ copy. copy ≡ self.now) }
-    {
-        let plan = self.plan.copy(alloc)?;
-        let instants = copy_instants(alloc, &self.instants)?;
-        let outcome = self.outcome.copy(alloc)?;
-        Ok(Run {
-            plan,
-            bound: self.bound,
-            instants,
-            reach: self.reach,
-            outcome,
-        })
-    }
-}
-
-/// Equal instants.
-fn copy_instants(alloc: Global, instants: &List<Instant>) -> Result<List<Instant>, OutOfMemory>
-    ensures { IfOk result (λ copies. copies ≡ instants.now) }
-{
-    let mut copies = List::new(alloc);
-    for instant in instants.as_slice() {
-        copies.push(instant.copy(alloc)?)?;
-    }
-    Ok(copies)
 }

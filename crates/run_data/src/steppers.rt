@@ -13,7 +13,7 @@ use std::alloc::Global;
 use std::sync::ledger::Ledger;
 
 /// What a wave gives.
-#[derive(Debug, Drop)]
+#[derive(Drop)]
 pub enum Wave {
     /// The frames of the jobs, in their order, without their children.
     Frames(List<Frame>),

@@ -1,13 +1,12 @@
 -- The plan of a trial is of the model.
 use Rattle.std.proofs.Common.{◌≡◌, ℕ, zero, suc, ◌+◌, ◌<◌, Bool, true, false, not, ◌&&◌, ◌||◌, List, [], ◌∷◌, ◌++◌, length, Option, Some, None, option_and_then, option_map, IsTrue, IfSome, nat_eq, nat_lt, slice_get, Ok, refl, sym, ap, ◌∙◌, subst, arith, ltb-true, if◌then◌else◌}
-use Rattle.std.specs.List.{list_all, list_any}
+use Rattle.std.specs.List.{list_all}
 use Rattle.std.proofs.lemmas.List.{length-append}
-use Rattle.std.proofs.lemmas.List.Folds.{list_any-append}
 use Rattle.aerie_base.specs.declared.models.model.Parts.{Parts}
 use Rattle.aerie_base.specs.declared.plans.Directive.{Directive}
 use Rattle.aerie_base.specs.declared.plans.Plan.{Plan}
 use Rattle.aerie_base.specs.plans.OfModel.{directive_limit, ids_of, rise_to, takes, with_id, anchored_to, anchor_of, followed, is_there, is_directive_of, IsPlanOf, is_dangling, is_id_of}
-use Rattle.aerie_base.specs.plans.RisingIds.{all_pushed, and_too, both, ids_pushed, or_first, rise_pushed, there_more}
+use Rattle.aerie_base.specs.plans.RisingIds.{all_pushed, and_too, both, ids_pushed, rise_pushed, there_more}
 use Rattle.plan_edit.specs.declared.errors.EditError.TheVariants.{OutsidePlan, TooMany, NoAnchor}
 use Rattle.plan_edit.specs.Answers.{then_made_of, unless_refused}
 use Rattle.plan_edit.specs.Editing.{is_outside, is_full, with_added}

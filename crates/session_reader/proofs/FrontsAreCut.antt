@@ -1,15 +1,17 @@
 -- What stands in front of the first place where no token begins can be cut into tokens: of each token and each gap there, the
 -- text behind it decides nothing.
 use Rattle.std.proofs.Common.{◌≡◌, ℕ, zero, suc, ◌+◌, ◌-◌, ◌<◌, ◌≤◌, ◌∙◌, Bool, true, false, cond, List, [], ◌∷◌, ◌++◌, length, take, drop, Option, Some, None, Result, Ok, Err, refl, ap, sym, subst, arith, nat_eq, codes, take-append-drop}
-use Rattle.std.specs.Prelude.{◌==◌, nat_le}
+use Rattle.std.specs.Prelude.{◌==◌, nat_le, nat_lt}
+use Rattle.std.specs.Str.{bytes_eq}
 use Rattle.std.specs.Char.{is_ascii_digit}
-use Rattle.std.specs.List.{list_any, prefix_len, starts_with}
-use Rattle.std.proofs.lemmas.Bool.{eqb-true, false≢true}
+use Rattle.std.specs.List.{list_all, list_any, prefix_len, starts_with}
+use Rattle.std.proofs.lemmas.Bool.{and_parts, eqb-true, false≢true}
 use Rattle.std.proofs.lemmas.List.{take-append-le, drop-append-le, length-drop, length-take}
 use Rattle.std.proofs.lemmas.Slice.Eq.{bytes_eq-Decides}
 use Rattle.aerie_text.specs.Bytes.{begins_with, is_letter, is_white, is_word_byte}
 use Rattle.aerie_text.specs.Gaps.{begins_comment, gap_len, is_in_line}
-use Rattle.aerie_text.specs.Numerals.{digits_at, duration_len, fits_number, is_duration, unit_len}
+use Rattle.aerie_base.specs.Durations.{begins_part, duration_len, part_len, parts_len, unit_text, units}
+use Rattle.aerie_text.specs.Numerals.{digits_at, fits_number, is_duration}
 use Rattle.aerie_text.specs.Quotes.{backquote, enclosed_len, is_quotable, is_raw, quotation_mark}
 use Rattle.aerie_text.specs.Symbols.{begins_double_symbol, double_symbols, is_single_symbol, symbol_len}
 use Rattle.aerie_text.specs.TokenAt.{of_kind, token_at, word_len}
@@ -172,46 +174,63 @@ symbol_kept f b n e some within = go _ _ refl refl
 
 -- ---- digits
 
-unit_kept : (f b : List ℕ) (n : ℕ) → unit_len (f ++ b) ≡ n → n ≤ length f → unit_len f ≡ n
-unit_kept f b n e within = go _ _ _ _ _ _ refl refl refl refl refl refl
+-- what begins with a letter, a digit or an underscore is not nothing
+some_word : (u : List ℕ) → begins_with is_word_byte u ≡ true → 0 < length u
+some_word [] e = absurd (false≢true e)
+some_word (c ∷ cs) e = omega arith
+
+-- the bytes in front that pass, where another follows them
+run_stays : (test : ℕ → Bool) (f b : List ℕ) → prefix_len test f < length f → prefix_len test (f ++ b) ≡ prefix_len test f
+run_stays test [] b short = absurd (omega (arith, short))
+run_stays test (x ∷ xs) b short = go (test x) refl (λ less. run_stays test xs b less)
   where
-    go : (v1 v2 v3 v4 v5 v6 : Bool) → starts_with nat_eq (f ++ b) (codes "us") ≡ v1 → starts_with nat_eq (f ++ b) (codes "ms") ≡ v2 → starts_with nat_eq (f ++ b) (codes "min") ≡ v3
-        → starts_with nat_eq (f ++ b) (codes "s") ≡ v4 → starts_with nat_eq (f ++ b) (codes "h") ≡ v5 → starts_with nat_eq (f ++ b) (codes "d") ≡ v6 → unit_len f ≡ n
-    go true v2 v3 v4 v5 v6 e1 e2 e3 e4 e5 e6 =
-        let len : 2 ≡ n = rw e1 at e in
-        rw (starts_kept f b (codes "us") true (omega (arith, len, within)) e1) len
-    go false true v3 v4 v5 v6 e1 e2 e3 e4 e5 e6 =
-        let len : 2 ≡ n = rw (e1, e2) at e in
-        rw (starts_none f b (codes "us") e1, starts_kept f b (codes "ms") true (omega (arith, len, within)) e2) len
-    go false false true v4 v5 v6 e1 e2 e3 e4 e5 e6 =
-        let len : 3 ≡ n = rw (e1, e2, e3) at e in
-        rw (starts_none f b (codes "us") e1, starts_none f b (codes "ms") e2, starts_kept f b (codes "min") true (omega (arith, len, within)) e3) len
-    go false false false true v5 v6 e1 e2 e3 e4 e5 e6 =
-        let len : 1 ≡ n = rw (e1, e2, e3, e4) at e in
-        rw (starts_none f b (codes "us") e1, starts_none f b (codes "ms") e2, starts_none f b (codes "min") e3, starts_kept f b (codes "s") true (omega (arith, len, within)) e4) len
-    go false false false false true v6 e1 e2 e3 e4 e5 e6 =
-        let len : 1 ≡ n = rw (e1, e2, e3, e4, e5) at e in
-        rw (starts_none f b (codes "us") e1, starts_none f b (codes "ms") e2, starts_none f b (codes "min") e3, starts_none f b (codes "s") e4, starts_kept f b (codes "h") true (omega (arith, len, within)) e5) len
-    go false false false false false true e1 e2 e3 e4 e5 e6 =
-        let len : 1 ≡ n = rw (e1, e2, e3, e4, e5, e6) at e in
-        rw (
-          starts_none f b (codes "us") e1,
-          starts_none f b (codes "ms") e2,
-          starts_none f b (codes "min") e3,
-          starts_none f b (codes "s") e4,
-          starts_none f b (codes "h") e5,
-          starts_kept f b (codes "d") true (omega (arith, len, within)) e6,
-        ) len
-    go false false false false false false e1 e2 e3 e4 e5 e6 =
-        let len : 0 ≡ n = rw (e1, e2, e3, e4, e5, e6) at e in
-        rw (
-          starts_none f b (codes "us") e1,
-          starts_none f b (codes "ms") e2,
-          starts_none f b (codes "min") e3,
-          starts_none f b (codes "s") e4,
-          starts_none f b (codes "h") e5,
-          starts_none f b (codes "d") e6,
-        ) len
+    go : (v : Bool) → test x ≡ v → (prefix_len test xs < length xs → prefix_len test (xs ++ b) ≡ prefix_len test xs) → prefix_len test (x ∷ xs ++ b) ≡ prefix_len test (x ∷ xs)
+    go true t later =
+        let here : prefix_len test (x ∷ xs) ≡ 1 + prefix_len test xs = rw t refl in
+        let rest : prefix_len test (xs ++ b) ≡ prefix_len test xs = later (omega (arith, here, short)) in
+        rw (t, rest) refl
+    go false t later = rw t refl
+
+-- a part in front
+part_of : (unit : _) (text : List ℕ) (count : ℕ) → prefix_len is_ascii_digit text ≡ count → nat_lt 0 count ≡ true → starts_with nat_eq (drop count text) (unit_text unit) ≡ true → begins_part unit text ≡ true
+part_of unit text count digits some there = rw (digits, some, there) refl
+
+part_stays : (unit : _) (f b : List ℕ) → begins_with is_word_byte (unit_text unit) ≡ true → begins_part unit f ≡ true → begins_part unit (f ++ b) ≡ true
+part_stays unit f b word e =
+    let count = prefix_len is_ascii_digit f in
+    let both = and_parts (nat_lt 0 count) (starts_with nat_eq (drop count f) (unit_text unit)) e in
+    let room = fits (drop count f) (unit_text unit) (stands (drop count f) (unit_text unit) both.1) in
+    let short : count < length f = omega (arith, room, some_word (unit_text unit) word, length-drop count f) in
+    let cut : drop count (f ++ b) ≡ drop count f ++ b = drop-append-le count f b (omega (arith, short)) in
+    part_of unit (f ++ b) count (run_stays is_ascii_digit f b short) both.0
+    (ap (λ (text : List ℕ). starts_with nat_eq text (unit_text unit)) cut ∙ (ap (λ (text : List ℕ). bytes_eq (unit_text unit) text) (take-append-le (length (unit_text unit)) (drop count f) b room) ∙ both.1))
+
+part_kept : (unit : _) (f b : List ℕ) → begins_with is_word_byte (unit_text unit) ≡ true → part_len unit (f ++ b) ≤ length f → begins_part unit f ≡ begins_part unit (f ++ b)
+part_kept unit f b word within = go (begins_part unit (f ++ b)) (begins_part unit f) refl refl
+  where
+    go : (v w : Bool) → begins_part unit (f ++ b) ≡ v → begins_part unit f ≡ w → begins_part unit f ≡ begins_part unit (f ++ b)
+    go v true e t = t ∙ sym (part_stays unit f b word t)
+    go false false e t = t ∙ sym e
+    go true false e t =
+        let count = prefix_len is_ascii_digit (f ++ b) in
+        let both = and_parts (nat_lt 0 count) (starts_with nat_eq (drop count (f ++ b)) (unit_text unit)) e in
+        let len : part_len unit (f ++ b) ≡ count + length (unit_text unit) = rw e refl in
+        let cut : drop count (f ++ b) ≡ drop count f ++ b = drop-append-le count f b (omega (arith, len, within)) in
+        let there : starts_with nat_eq (drop count f) (unit_text unit) ≡ true =
+        starts_kept (drop count f) b (unit_text unit) true (omega (arith, len, within, length-drop count f)) (ap (λ (text : List ℕ). starts_with nat_eq text (unit_text unit)) (sym cut) ∙ both.1) in
+        part_of unit f count (run_kept is_ascii_digit f b count refl (omega (arith, len, within))) both.0 there ∙ sym e
+
+part_len_kept : (unit : _) (f b : List ℕ) → begins_with is_word_byte (unit_text unit) ≡ true → part_len unit (f ++ b) ≤ length f → part_len unit f ≡ part_len unit (f ++ b)
+part_len_kept unit f b word within = go (begins_part unit (f ++ b)) refl
+  where
+    go : (v : Bool) → begins_part unit (f ++ b) ≡ v → part_len unit f ≡ part_len unit (f ++ b)
+    go false e = let none : begins_part unit f ≡ false = part_kept unit f b word within ∙ e in rw (none, e) refl
+    go true e =
+        let some : begins_part unit f ≡ true = part_kept unit f b word within ∙ e in
+        let len : part_len unit (f ++ b) ≡ prefix_len is_ascii_digit (f ++ b) + length (unit_text unit) = rw e refl in
+        let digits : prefix_len is_ascii_digit f ≡ prefix_len is_ascii_digit (f ++ b) = run_kept is_ascii_digit f b (prefix_len is_ascii_digit (f ++ b)) refl (omega (arith, len, within)) in
+        let short : part_len unit f ≡ prefix_len is_ascii_digit f + length (unit_text unit) = rw some refl in
+        omega (arith, len, short, digits)
 
 -- what begins with no letter, digit or underscore begins with no word
 no_start : (text : List ℕ) (c : ℕ) (cs : List ℕ) → is_word_byte c ≡ true → begins_with is_word_byte text ≡ false → starts_with nat_eq text (c ∷ cs) ≡ false
@@ -222,33 +241,52 @@ no_start (x ∷ xs) c cs letter e = go (nat_eq c x) refl
     go false t = rw t refl
     go true t = absurd (false≢true (sym e ∙ (ap is_word_byte (sym (eqb-true c x t)) ∙ letter)))
 
-no_unit : (text : List ℕ) → begins_with is_word_byte text ≡ false → unit_len text ≡ 0
-no_unit text e =
-    rw (no_start text 117 (115 ∷ []) refl e, no_start text 109 (115 ∷ []) refl e, no_start text 109 (105 ∷ 110 ∷ []) refl e, no_start text 115 [] refl e, no_start text 104 [] refl e, no_start text 100 [] refl e) refl
+no_word : (text u : List ℕ) → begins_with is_word_byte u ≡ true → begins_with is_word_byte text ≡ false → starts_with nat_eq text u ≡ false
+no_word text [] word e = absurd (false≢true word)
+no_word text (c ∷ cs) word e = no_start text c cs word e
 
--- a duration in front
+-- digits behind which no letter, digit or underscore stands are no part of a duration
+no_part : (unit : _) (text : List ℕ) → begins_with is_word_byte (unit_text unit) ≡ true → begins_with is_word_byte (drop (prefix_len is_ascii_digit text) text) ≡ false → part_len unit text ≡ 0
+no_part unit text word e = go (nat_lt 0 (prefix_len is_ascii_digit text)) refl
+  where
+    go : (v : Bool) → nat_lt 0 (prefix_len is_ascii_digit text) ≡ v → part_len unit text ≡ 0
+    go true t = rw (t, no_word (drop (prefix_len is_ascii_digit text) text) (unit_text unit) word e) refl
+    go false t = rw t refl
+
+no_parts : (units : List _) (text : List ℕ) → list_all (λ unit. begins_with is_word_byte (unit_text unit)) units ≡ true → begins_with is_word_byte (drop (prefix_len is_ascii_digit text) text) ≡ false → parts_len units text ≡ 0
+no_parts [] text words e = refl
+no_parts (unit ∷ lesser) text words e =
+    let both = and_parts (begins_with is_word_byte (unit_text unit)) (list_all (λ other. begins_with is_word_byte (unit_text other)) lesser) words in
+    let none : part_len unit text ≡ 0 = no_part unit text both.0 e in
+    let later : parts_len lesser text ≡ 0 = no_parts lesser text both.1 e in
+    let same : parts_len lesser (drop (part_len unit text) text) ≡ parts_len lesser text = ap (λ (k : ℕ). parts_len lesser (drop k text)) none in
+    omega (arith, none, same, later)
+
+-- the parts in front
+parts_kept : (units : List _) (f b : List ℕ) → list_all (λ unit. begins_with is_word_byte (unit_text unit)) units ≡ true → parts_len units (f ++ b) ≤ length f → parts_len units f ≡ parts_len units (f ++ b)
+parts_kept [] f b words within = refl
+parts_kept (unit ∷ lesser) f b words within =
+    let both = and_parts (begins_with is_word_byte (unit_text unit)) (list_all (λ other. begins_with is_word_byte (unit_text other)) lesser) words in
+    let len = part_len unit (f ++ b) in
+    let here : len ≤ length f = omega (arith, within) in
+    let same : part_len unit f ≡ len = part_len_kept unit f b both.0 here in
+    let cut : drop len (f ++ b) ≡ drop len f ++ b = drop-append-le len f b here in
+    let more : parts_len lesser (drop len (f ++ b)) ≡ parts_len lesser (drop len f ++ b) = ap (parts_len lesser) cut in
+    let later : parts_len lesser (drop len f) ≡ parts_len lesser (drop len f ++ b) = parts_kept lesser (drop len f) b both.1 (omega (arith, within, more, length-drop len f)) in
+    let there : parts_len lesser (drop (part_len unit f) f) ≡ parts_len lesser (drop len f) = ap (λ (k : ℕ). parts_len lesser (drop k f)) same in
+    omega (arith, same, there, later, more)
+
 duration_kept : (f b : List ℕ) → duration_len (f ++ b) ≤ length f → duration_len f ≡ duration_len (f ++ b)
-duration_kept f b within =
-    let count = prefix_len is_ascii_digit (f ++ b) in
-    let digits : prefix_len is_ascii_digit f ≡ count = run_kept is_ascii_digit f b count refl (omega (arith, within)) in
-    let cut : drop count (f ++ b) ≡ drop count f ++ b = drop-append-le count f b (omega (arith, within)) in
-    let behind : unit_len (drop count (f ++ b)) ≡ unit_len (drop count f ++ b) = ap unit_len cut in
-    let unit : unit_len (drop count f) ≡ unit_len (drop count f ++ b) = unit_kept (drop count f) b (unit_len (drop count f ++ b)) refl (omega (arith, length-drop count f, behind, within)) in
-    let same : unit_len (drop (prefix_len is_ascii_digit f) f) ≡ unit_len (drop count f) = ap (λ (n : ℕ). unit_len (drop n f)) digits in
-    omega (arith, digits, behind, unit, same)
+duration_kept f b within = parts_kept units f b refl within
 
 -- a number in front, behind which no letter, digit or underscore stands
 number_kept : (f b : List ℕ) (n : ℕ) → prefix_len is_ascii_digit (f ++ b) ≡ n → n ≤ length f → begins_with is_word_byte (drop n (f ++ b)) ≡ false
-    → (prefix_len is_ascii_digit f ≡ n) × (begins_with is_word_byte (drop n f) ≡ false) × (duration_len f ≡ n) × (duration_len (f ++ b) ≡ n)
+    → (prefix_len is_ascii_digit f ≡ n) × (begins_with is_word_byte (drop n f) ≡ false) × (duration_len f ≡ 0)
 number_kept f b n count within stops =
     let digits : prefix_len is_ascii_digit f ≡ n = run_kept is_ascii_digit f b n count within in
     let cut : drop n (f ++ b) ≡ drop n f ++ b = drop-append-le n f b within in
     let none : begins_with is_word_byte (drop n f) ≡ false = begins_none is_word_byte (drop n f) b (ap (begins_with is_word_byte) (sym cut) ∙ stops) in
-    let short : unit_len (drop n f) ≡ 0 = no_unit (drop n f) none in
-    let long : unit_len (drop n (f ++ b)) ≡ 0 = no_unit (drop n (f ++ b)) stops in
-    let same : unit_len (drop (prefix_len is_ascii_digit f) f) ≡ unit_len (drop n f) = ap (λ (k : ℕ). unit_len (drop k f)) digits in
-    let other : unit_len (drop (prefix_len is_ascii_digit (f ++ b)) (f ++ b)) ≡ unit_len (drop n (f ++ b)) = ap (λ (k : ℕ). unit_len (drop k (f ++ b))) count in
-    (digits, none, omega (arith, digits, same, short), omega (arith, count, other, long))
+    (digits, none, no_parts units f refl (ap (λ (k : ℕ). begins_with is_word_byte (drop k f)) digits ∙ none))
 
 -- so many bytes of this kind
 abbrev some_of : TokenKind → ℕ → Option (TokenKind × ℕ)
@@ -263,10 +301,10 @@ digits_kept f b kind n e within = go _ _ _ refl refl refl
     lasts len same is pair = rw (same, is) pair
 
     -- a number of so many bytes
-    counts : (len : ℕ) → prefix_len is_ascii_digit f ≡ len → duration_len f ≡ len → is_duration (take len f) ≡ false → begins_with is_word_byte (drop len f) ≡ false → fits_number (take len f) ≡ true
+    counts : (len : ℕ) → prefix_len is_ascii_digit f ≡ len → duration_len f ≡ 0 → begins_with is_word_byte (drop len f) ≡ false → fits_number (take len f) ≡ true
         → some_of Number len ≡ Some (kind, n) → digits_at f ≡ Some (kind, n)
-    counts len same whole is ends few pair =
-        let one : is_duration (take (duration_len f) f) ≡ false = ap (λ (k : ℕ). is_duration (take k f)) whole ∙ is in
+    counts len same none ends few pair =
+        let one : is_duration (take (duration_len f) f) ≡ false = ap (λ (k : ℕ). is_duration (take k f)) none in
         let two : begins_with is_word_byte (drop (prefix_len is_ascii_digit f) f) ≡ false = ap (λ (k : ℕ). begins_with is_word_byte (drop k f)) same ∙ ends in
         let three : fits_number (take (prefix_len is_ascii_digit f) f) ≡ true = ap (λ (k : ℕ). fits_number (take k f)) same ∙ few in
         if_false _ _ _ one ∙ (if_false _ _ _ two ∙ (if_true _ _ _ three ∙ (ap (some_of Number) same ∙ pair)))
@@ -286,7 +324,7 @@ digits_kept f b kind n e within = go _ _ _ refl refl refl
         let short : count ≤ length f = omega (arith, len, within) in
         let parts = number_kept f b count refl short e2 in
         let cut : take count (f ++ b) ≡ take count f = take-append-le count f b short in
-        counts count parts.0 parts.2 (ap is_duration (sym cut) ∙ (ap (λ (k : ℕ). is_duration (take k (f ++ b))) (sym parts.3) ∙ e1)) parts.1 (ap fits_number (sym cut) ∙ e3) pair
+        counts count parts.0 parts.2 parts.1 (ap fits_number (sym cut) ∙ e3) pair
     go false false false e1 e2 e3 = absurd (let no : None ≡ Some (kind, n) = rw (e1, e2, e3) at e in cc)
 
 -- ---- any token

@@ -9,7 +9,7 @@ ghost use Rattle.session_run.specs.Ruled.{CanBePerformed};
 use crate::in_turn::take_rounds;
 use crate::missions::{hangar, mission};
 use crate::on_threads::{do_works, gather, split_works};
-use crate::texts::whole_text;
+use crate::texts::last_text;
 use aerie_base::{OutOfMemory, Steps};
 use aerie_edge::Gate;
 use client_work::Workplace;
@@ -55,7 +55,7 @@ pub fn perform_in_turn<R: Wait, G: Gate, L: Ledger, K: Ledger>(
     let clients = judged.session.clients.as_slice();
     let texts = take_rounds(alloc, &workplace, clients, &mut pass, steps, looks)?;
     let (_, journal) = lock.close(pass);
-    whole_text(alloc, &journal, texts.as_slice())
+    last_text(alloc, journal, texts.as_slice())
 }
 
 /// Performs a session, each client's commands on a thread of its own, where one can be made. Answers the text that is printed,
@@ -90,5 +90,5 @@ pub fn perform<R: Threads + Wait + Sync, G: Gate>(
     let dones = do_works(alloc, &workplace, clients, works)?;
     let texts = gather(alloc, &lock, &mut pass, dones)?;
     let (_, journal) = lock.close(pass);
-    whole_text(alloc, &journal, texts.as_slice())
+    last_text(alloc, journal, texts.as_slice())
 }

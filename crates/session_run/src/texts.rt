@@ -10,6 +10,7 @@ use aerie_base::OutOfMemory;
 use hangar_core::Journal;
 use report_text::journal_line;
 use std::alloc::Global;
+use std::mem;
 
 /// The line of the journal, and behind it the texts of all clients.
 #[tactic(auto, using(crate::proofs::Joining::goes_to_end))]
@@ -26,4 +27,20 @@ pub(crate) fn whole_text(
         whole.push_str(text.as_str())?;
     }
     Ok(whole)
+}
+
+/// The same where nothing of the session is asked for any more. The journal, which shares what the session keeps, is left where it
+/// lies: a session is performed once in a process, which ends when the text is written, and to free the frames of all runs one
+/// by one would take a twentieth of the whole time. Where there is no memory for the text it is freed.
+pub(crate) fn last_text(
+    alloc: Global,
+    journal: Journal,
+    texts: &[String],
+) -> Result<String, OutOfMemory>
+    ensures { IfOk result (λ text.
+        string_bytes text ≡ line_of (journal_data journal) ++ joined_texts (map string_bytes texts.now)) }
+{
+    let text = whole_text(alloc, &journal, texts)?;
+    mem::forget(journal);
+    Ok(text)
 }

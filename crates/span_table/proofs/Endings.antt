@@ -1,19 +1,12 @@
 -- What is known once all frames are: whether a task has ended, when, and what its body returned.
-use Rattle.std.proofs.Common.{◌≡◌, ◌↔◌, ℕ, ◌≤◌, Bool, true, false, not, ◌&&◌, ◌||◌, IsTrue, List, [], ◌∷◌, length, Option, Some, None, refl, sym, ap, ◌∙◌, arith}
+use Rattle.std.proofs.Common.{◌≡◌, ◌⊎◌, inl, inr, ℕ, ◌≤◌, Bool, true, false, not, ◌&&◌, ◌||◌, IsTrue, List, [], ◌∷◌, length, None, refl, sym, ap, ◌∙◌, arith}
 use Rattle.std.specs.List.{list_any, list_all}
-use Rattle.std.specs.BTreeSet as tree
 use Rattle.std.specs.Cmp.Lexicographic.{same_text}
 use Rattle.std.proofs.lemmas.Cmp.{nat_list_eq_equiv}
 use Rattle.std.proofs.lemmas.Bool.{false≢true, and_parts, not-true}
-use Rattle.aerie_base.specs.declared.values.Value.{Value}
-use Rattle.aerie_base.specs.Paths.{is_path, is_prefix, path_cmp}
-use Rattle.aerie_base.specs.Paths.{AnyUnder}
+use Rattle.aerie_base.specs.Paths.{is_path, is_prefix}
 use Rattle.run_data.specs.Spans.{Timed, is_done, returned, is_of_path, body_ended, task_ended, result_in, or_returned}
-use Rattle.span_table.specs.declared.body_states.BodyState.{BodyState}
-use Rattle.span_table.specs.declared.body_states.BodyState.TheVariants.{Open, Over}
-use Rattle.span_table.specs.declared.progress.BodyTable.{BodyTable}
-use Rattle.span_table.specs.BodyStates.{state_if, body_after, is_open_after}
-use Rattle.span_table.specs.Progress.{KnowsTasks}
+use Rattle.span_table.specs.BodyStates.{state_if, body_after, is_open_after, known_result}
 use Rattle.span_table.proofs.Frames.{ended_begun}
 
 -- ---- results
@@ -29,11 +22,6 @@ none_returned path (first ∷ frames) open_still =
     go true e rest = absurd (false≢true (sym e))
     go false e rest = rest e
 
-abbrev pub known_result : Option BodyState → Option Value
-known_result None = None
-known_result (Some Open) = None
-known_result (Some (Over result)) = result
-
 pub result_is : (path : List ℕ) (frames : List Timed) → result_in frames path ≡ known_result (body_after frames path)
 result_is path frames = go (list_any (is_of_path path) frames) refl (body_ended frames path) refl
   where
@@ -43,6 +31,29 @@ result_is path frames = go (list_any (is_of_path path) frames) refl (body_ended 
     go true b false e = none_returned path frames e
     go false b true e = absurd (false≢true (sym b ∙ ended_begun path frames e))
     go false b false e = none_returned path frames e
+
+-- ---- lists
+
+some_of : {A : Type 0} (l : List A) (test : A → Bool) → list_any test l ≡ true → (x : A) × (test x ≡ true)
+some_of [] test any = absurd (false≢true any)
+some_of {A} (a ∷ l) test any = by (test a) refl any (some_of l test)
+  where
+    by : (b : Bool) → test a ≡ b → (b || list_any test l) ≡ true → (list_any test l ≡ true → (x : A) × (test x ≡ true)) → (x : A) × (test x ≡ true)
+    by true e f further = (a, e)
+    by false e f further = further f
+
+abbrev pub IsIn : List (List ℕ) → List ℕ → Type 0
+IsIn [] path = ⊥
+IsIn (first ∷ rest) path = (first ≡ path) ⊎ IsIn rest path
+
+any_of : (l : List (List ℕ)) (test : List ℕ → Bool) (path : List ℕ) → IsIn l path → test path ≡ true → list_any test l ≡ true
+any_of [] test path in_it holds = absurd in_it
+any_of (first ∷ rest) test path (inl here) holds = ap (λ p. test p || list_any test rest) here ∙ ap (λ b. b || list_any test rest) holds
+any_of (first ∷ rest) test path (inr later) holds = by (test first) (any_of rest test path later holds)
+  where
+    by : (b : Bool) → list_any test rest ≡ true → (b || list_any test rest) ≡ true
+    by true e = refl
+    by false e = e
 
 -- ---- whether a task has ended
 
@@ -89,16 +100,18 @@ all_over all path (first ∷ part) among none_open =
     here true u false e =
         absurd (none_open first.1.path u (ap (λ b. b && not (body_ended all first.1.path)) begun ∙ ap not e))
 
--- a task has ended where no open path is under its own
-pub ended_by_opens : (frames : List Timed) (tasks : BodyTable) (path : List ℕ) (any : Bool) → KnowsTasks frames tasks →
-    IsTrue any ↔ AnyUnder path (λ q. IsTrue (tree.contains path_cmp tasks.opens q)) → task_ended frames path ≡ not any
-ended_by_opens frames tasks path true knows tells =
-    let found = tells.0 refl in
-    let still : is_open_after frames found.0 ≡ true = sym (knows.opens found.0) ∙ found.1 in
-    let parts = and_parts (list_any (is_of_path found.0) frames) (not (body_ended frames found.0)) still in
-    fails_at frames path frames found.0 found.2 (not-true (body_ended frames found.0) parts.1) parts.0
-ended_by_opens frames tasks path false knows tells =
-    all_over frames path frames (λ p any. any) (λ p under still. false≢true (tells.1 (p, knows.opens p ∙ still, under)))
+-- a task has ended where no open path among all that are known is under its own
+pub ended_by : (frames : List Timed) (links : List (List ℕ)) (path : List ℕ) (any : Bool) → any ≡ list_any (λ other. is_prefix path other && is_open_after frames other) links →
+    ((other : List ℕ) → is_open_after frames other ≡ true → IsIn links other) → task_ended frames path ≡ not any
+ended_by frames links path true tells among =
+    let found = some_of links (λ other. is_prefix path other && is_open_after frames other) (sym tells) in
+    let both = and_parts (is_prefix path found.0) (is_open_after frames found.0) found.1 in
+    let parts = and_parts (list_any (is_of_path found.0) frames) (not (body_ended frames found.0)) both.1 in
+    fails_at frames path frames found.0 both.0 (not-true (body_ended frames found.0) parts.1) parts.0
+ended_by frames links path false tells among =
+    all_over frames path frames (λ p any. any)
+    (λ p under still.
+    false≢true (tells ∙ any_of links (λ other. is_prefix path other && is_open_after frames other) p (among p still) (ap (λ b. b && is_open_after frames p) under ∙ still)))
 
 -- ---- paths
 

@@ -1,22 +1,21 @@
 -- Frames, and one frame more: what is then known of a body and of a path.
-use Rattle.std.proofs.Common.{◌≡◌, ℕ, ◌≤◌, Bool, true, false, not, cond, ◌&&◌, ◌||◌, List, [], ◌∷◌, ◌++◌, length, Option, Some, None, refl, sym, ap, ◌∙◌}
+use Rattle.std.proofs.Common.{◌≡◌, ℕ, ◌≤◌, Bool, true, false, not, cond, is_some, ◌&&◌, ◌||◌, List, [], ◌∷◌, ◌++◌, length, Option, Some, None, refl, sym, ap, subst, ◌∙◌}
 use Rattle.std.specs.List.{list_any}
-use Rattle.std.specs.HashMap as hash
-use Rattle.std.specs.BTreeSet as tree
-use Rattle.std.specs.BTreeMap.{is_at}
-use Rattle.std.specs.Cmp.Lexicographic.{same_text, texts_ties}
+use Rattle.std.specs.Cmp.Lexicographic.{same_text}
 use Rattle.std.proofs.lemmas.List.Folds.{list_any-append}
 use Rattle.std.proofs.lemmas.Cmp.{nat_list_eq_equiv}
 use Rattle.std.proofs.lemmas.Bool.{false≢true}
 use Rattle.aerie_base.specs.declared.values.Value.{Value}
-use Rattle.aerie_base.specs.Paths.{is_prefix, path_cmp}
+use Rattle.aerie_base.specs.Paths.{is_prefix}
 use Rattle.run_data.specs.declared.frames.Status.{Status}
 use Rattle.run_data.specs.Spans.{Timed, same_path, is_done, returned, is_of_path, body_ended, result_in, or_returned}
 use Rattle.span_table.specs.declared.body_states.BodyState.{BodyState}
 use Rattle.span_table.specs.declared.body_states.BodyState.TheVariants.{Over}
-use Rattle.span_table.specs.declared.progress.BodyTable.{BodyTable}
-use Rattle.span_table.specs.BodyStates.{is_open_body, state_if, body_after, is_open_after, state_by, noted_state}
+use Rattle.span_table.specs.BodyStates.{is_open_state, state_if, body_after, is_open_after, state_by, noted_state}
+use Rattle.span_table.specs.declared.known_tasks.Ending.{Ending}
+use Rattle.span_table.specs.declared.known_tasks.Ending.TheVariants.{After}
 use Rattle.span_table.specs.Begun.{last_after}
+use Rattle.span_table.specs.KnownTasks.{TaskList, AreLinked, EndsAbove, IsPathAt, Links, Numbers, PutsBody, body_state_in, ending_of, known_task, links_of}
 use Rattle.span_table.specs.Progress.{KnowsTasks}
 
 or_false : (b : Bool) → (b || false) ≡ b
@@ -110,10 +109,6 @@ body_more frames frame path = go (same_path path frame.1.path) refl
         ∙ (of_another (list_any (is_of_path path) frames) (body_ended frames path) (is_done frame.1.status) (result_in frames path) (returned frame.1.status)
         ∙ ap (λ b. cond b (Some (noted_state (body_after frames frame.1.path) frame.1.status)) (body_after frames path)) (swapped false e))
 
-abbrev pub is_open_state : Option BodyState → Bool
-is_open_state None = false
-is_open_state (Some state) = is_open_body state
-
 pub open_is : (frames : List Timed) (path : List ℕ) → is_open_after frames path ≡ is_open_state (body_after frames path)
 open_is frames path = go (list_any (is_of_path path) frames) (body_ended frames path)
   where
@@ -122,71 +117,70 @@ open_is frames path = go (list_any (is_of_path path) frames) (body_ended frames 
     go true false = refl
     go false ended = refl
 
+-- a body is known where a frame was of it
+pub begun_is : (frames : List Timed) (path : List ℕ) → is_some (body_after frames path) ≡ list_any (is_of_path path) frames
+begun_is frames path = go (list_any (is_of_path path) frames) (body_ended frames path)
+  where
+    go : (begun ended : Bool) → is_some (state_if begun ended (result_in frames path)) ≡ begun
+    go true true = refl
+    go true false = refl
+    go false ended = refl
+
 -- ---- all tasks
 
--- the same of all bodies and paths, where the state of the frame's body is put
-pub knows_more : (frames : List Timed) (frame : Timed) (tasks new : BodyTable) (after : BodyState) → KnowsTasks frames tasks →
-    after ≡ noted_state (hash.get same_path tasks.bodies frame.1.path) frame.1.status →
-    ((path : List ℕ) → hash.get same_path new.bodies path ≡ cond (same_path frame.1.path path) (Some after) (hash.get same_path tasks.bodies path)) →
-    ((path : List ℕ) → tree.contains path_cmp new.opens path ≡ cond (is_at (path_cmp frame.1.path) path) (is_open_body after) (tree.contains path_cmp tasks.opens path)) →
-    ((path : List ℕ) → 2 ≤ length path → hash.get same_path new.last path ≡ cond (is_prefix path frame.1.path) (Some frame.0) (hash.get same_path tasks.last path)) →
-    KnowsTasks (frames ++ frame ∷ []) new
-knows_more frames frame tasks new after knows is bodies opens last = record {
-  bodies = λ path.
-      bodies path
-      ∙ (ap (λ s. cond (same_path frame.1.path path) (Some s) (hash.get same_path tasks.bodies path)) known
-      ∙ (ap (λ s. cond (same_path frame.1.path path) (Some (noted_state (body_after frames frame.1.path) frame.1.status)) s) (knows.bodies path)
-      ∙ sym (body_more frames frame path)));
-  opens = λ path.
-      opens path
-      ∙ (ap (λ b. cond b (is_open_body after) (tree.contains path_cmp tasks.opens path)) (sym (texts_ties frame.1.path path))
-      ∙ (ap (λ b. cond (same_path frame.1.path path) (is_open_body after) b) (knows.opens path ∙ open_is frames path)
-      ∙ (ap (λ s. cond (same_path frame.1.path path) (is_open_body s) (is_open_state (body_after frames path))) known
-      ∙ (inside (same_path frame.1.path path) (noted_state (body_after frames frame.1.path) frame.1.status) (body_after frames path)
-      ∙ (ap is_open_state (sym (body_more frames frame path))
-      ∙ sym (open_is (frames ++ frame ∷ []) path))))));
-  last = λ path long.
-      last path long ∙ (ap (λ o. cond (is_prefix path frame.1.path) (Some frame.0) o) (knows.last path long) ∙ sym (last_more None path frames frame));
-}
-  where
-    known : after ≡ noted_state (body_after frames frame.1.path) frame.1.status
-    known = is ∙ ap (λ s. noted_state s frame.1.status) (knows.bodies frame.1.path)
+-- once the times of a frame are noted, and its body is not
+pub record AreTimed (frames : List Timed) (frame : Timed) (number : ℕ) (tasks : TaskList) : Type 0 where
+  pub linked : AreLinked (links_of tasks)
+  pub at : IsPathAt (links_of tasks) number frame.1.path
+  pub bodies : (path : List ℕ) → body_state_in (known_task tasks path) ≡ body_after frames path
+  pub endings : (path : List ℕ) → 2 ≤ length path → ending_of (known_task tasks path) ≡ After (last_after None (frames ++ frame ∷ []) path)
 
-    inside : (b : Bool) (state : BodyState) (other : Option BodyState) → cond b (is_open_body state) (is_open_state other) ≡ is_open_state (cond b (Some state) other)
-    inside true state other = refl
-    inside false state other = refl
+pub are_timed : (frames : List Timed) (frame : Timed) (number : ℕ) (before middle after : TaskList) → KnowsTasks frames before → Numbers frame.1.path number before middle →
+    (AreLinked (links_of middle) → EndsAbove number (After (Some frame.0)) middle after) → AreTimed frames frame number after
+are_timed frames frame number before middle after knows numbered ends =
+    let end = ends numbered.linked frame.1.path numbered.there in
+    record {
+      linked = subst AreLinked (sym end.0) numbered.linked;
+      at = subst (λ (l : Links). IsPathAt l number frame.1.path) (sym end.0) numbered.there;
+      bodies = λ path. end.1 path ∙ (numbered.same.bodies path ∙ knows.bodies path);
+      endings = λ path long.
+          end.2 path long
+          ∙ (ap (λ (e : Ending). cond (is_prefix path frame.1.path) (After (Some frame.0)) e) (numbered.same.endings path ∙ knows.endings path long)
+          ∙ (within (is_prefix path frame.1.path) (last_after None frames path)
+          ∙ ap After (sym (last_more None path frames frame))));
+    }
+  where
+    within : (b : Bool) (last : Option ℕ) → cond b (After (Some frame.0)) (After last) ≡ After (cond b (Some frame.0) last)
+    within true last = refl
+    within false last = refl
+
+-- the state of the frame's body is put
+pub knows_more : (frames : List Timed) (frame : Timed) (number : ℕ) (before after : TaskList) (state : BodyState) → AreTimed frames frame number before →
+    state ≡ noted_state (body_after frames frame.1.path) frame.1.status → PutsBody number state before after → KnowsTasks (frames ++ frame ∷ []) after
+knows_more frames frame number before after state timed is puts =
+    let put = puts frame.1.path timed.at in
+    record {
+      linked = subst AreLinked (sym put.0) timed.linked;
+      bodies = λ path.
+          put.1 path
+          ∙ (ap (λ s. cond (same_path frame.1.path path) (Some s) (body_state_in (known_task before path))) is
+          ∙ (ap (λ s. cond (same_path frame.1.path path) (Some (noted_state (body_after frames frame.1.path) frame.1.status)) s) (timed.bodies path)
+          ∙ sym (body_more frames frame path)));
+      endings = λ path long. put.2 path ∙ timed.endings path long;
+    }
 
 -- and where it stays as it was
-pub knows_same : (frames : List Timed) (frame : Timed) (tasks new : BodyTable) → KnowsTasks frames tasks →
-    hash.get same_path tasks.bodies frame.1.path ≡ Some (noted_state (hash.get same_path tasks.bodies frame.1.path) frame.1.status) →
-    new.bodies ≡ tasks.bodies → new.opens ≡ tasks.opens →
-    ((path : List ℕ) → 2 ≤ length path → hash.get same_path new.last path ≡ cond (is_prefix path frame.1.path) (Some frame.0) (hash.get same_path tasks.last path)) →
-    KnowsTasks (frames ++ frame ∷ []) new
-knows_same frames frame tasks new knows stays bodies opens last =
-    knows_more frames frame tasks new (noted_state (hash.get same_path tasks.bodies frame.1.path) frame.1.status) knows refl
-    (λ path. ap (λ m. hash.get same_path m path) bodies ∙ there (same_path frame.1.path path) path refl)
-    (λ path. ap (λ m. tree.contains path_cmp m path) opens ∙ open_there (same_path frame.1.path path) path refl)
-    last
+pub knows_same : (frames : List Timed) (frame : Timed) (number : ℕ) (tasks : TaskList) → AreTimed frames frame number tasks →
+    body_after frames frame.1.path ≡ Some (noted_state (body_after frames frame.1.path) frame.1.status) → KnowsTasks (frames ++ frame ∷ []) tasks
+knows_same frames frame number tasks timed stays = record {
+  linked = timed.linked;
+  bodies = λ path. timed.bodies path ∙ (there (same_path frame.1.path path) path refl ∙ sym (body_more frames frame path));
+  endings = timed.endings;
+}
   where
-    put : Option BodyState
-    put = Some (noted_state (hash.get same_path tasks.bodies frame.1.path) frame.1.status)
-
     there : (b : Bool) (path : List ℕ) → same_path frame.1.path path ≡ b →
-        hash.get same_path tasks.bodies path ≡ cond (same_path frame.1.path path) (Some (noted_state (hash.get same_path tasks.bodies frame.1.path) frame.1.status)) (hash.get same_path tasks.bodies path)
+        body_after frames path ≡ cond (same_path frame.1.path path) (Some (noted_state (body_after frames frame.1.path) frame.1.status)) (body_after frames path)
     there true path e =
-        ap (λ p. hash.get same_path tasks.bodies p) (sym (same_text frame.1.path path (sym e)))
-        ∙ (stays ∙ ap (λ b. cond b (Some (noted_state (hash.get same_path tasks.bodies frame.1.path) frame.1.status)) (hash.get same_path tasks.bodies path)) (sym e))
-    there false path e = ap (λ b. cond b (Some (noted_state (hash.get same_path tasks.bodies frame.1.path) frame.1.status)) (hash.get same_path tasks.bodies path)) (sym e)
-
-    open_there : (b : Bool) (path : List ℕ) → same_path frame.1.path path ≡ b →
-        tree.contains path_cmp tasks.opens path ≡
-        cond (is_at (path_cmp frame.1.path) path) (is_open_body (noted_state (hash.get same_path tasks.bodies frame.1.path) frame.1.status)) (tree.contains path_cmp tasks.opens path)
-    open_there true path e =
-        ap (λ p. tree.contains path_cmp tasks.opens p) (sym (same_text frame.1.path path (sym e)))
-        ∙ (knows.opens frame.1.path ∙ (open_is frames frame.1.path
-        ∙ (ap is_open_state (sym (knows.bodies frame.1.path) ∙ stays)
-        ∙ ap (λ b. cond b (is_open_body (noted_state (hash.get same_path tasks.bodies frame.1.path) frame.1.status)) (tree.contains path_cmp tasks.opens path))
-        (sym e ∙ texts_ties frame.1.path path))))
-    open_there false path e =
-        ap (λ b. cond b (is_open_body (noted_state (hash.get same_path tasks.bodies frame.1.path) frame.1.status)) (tree.contains path_cmp tasks.opens path))
-        (sym e ∙ texts_ties frame.1.path path)
+        ap (body_after frames) (sym (same_text frame.1.path path (sym e)))
+        ∙ (stays ∙ ap (λ b. cond b (Some (noted_state (body_after frames frame.1.path) frame.1.status)) (body_after frames path)) (sym e))
+    there false path e = ap (λ b. cond b (Some (noted_state (body_after frames frame.1.path) frame.1.status)) (body_after frames path)) (sym e)

@@ -8,7 +8,7 @@ use Rattle.aerie_base.specs.declared.models.model.Parts.{Parts}
 use Rattle.aerie_base.specs.Paths.{is_prefix}
 use Rattle.run_data.specs.declared.tasks.BodyId.{BodyId}
 use Rattle.run_data.specs.declared.tasks.BodyId.TheVariants as body
-use Rattle.run_data.specs.declared.frames.Frame.{Frame}
+use Rattle.run_data.specs.TaskFrames.{Frame}
 use Rattle.run_data.specs.declared.runs.Instant.{Instant}
 use Rattle.run_data.specs.Spans.{SpanOf, Timed, with_time, in_batches, timed, same_path, is_of_path, task_ended, last_time, span_if, span_of_body, spans_from}
 use Rattle.span_table.specs.declared.span.Span.{Span}
@@ -53,9 +53,9 @@ swapped false begun = refl
 pub begun_more : (model : Parts) (frames : List Timed) (frame : Timed) (old new : List SpanOf) (is_new : Bool) →
     old ≡ begun_from model [] frames → is_new ≡ not (list_any (is_of_path frame.1.path) frames) →
     new ≡ old ++ cond is_new (begun_by model frame.0 frame.1 frame.1.before.kind) [] → new ≡ begun_from model [] (frames ++ frame ∷ [])
-begun_more model frames frame old new is_new known tells put =
+begun_more model frames frame old new is_new known_task tells put =
     put
-    ∙ (ap (λ l. l ++ cond is_new (begun_by model frame.0 frame.1 frame.1.before.kind) []) known
+    ∙ (ap (λ l. l ++ cond is_new (begun_by model frame.0 frame.1 frame.1.before.kind) []) known_task
     ∙ (ap (λ b. begun_from model [] frames ++ cond b (begun_by model frame.0 frame.1 frame.1.before.kind) []) tells
     ∙ (ap (λ l. begun_from model [] frames ++ l) (swapped (list_any (is_of_path frame.1.path) frames) (begun_by model frame.0 frame.1 frame.1.before.kind))
     ∙ sym (begun_after model [] frames frame))))
@@ -215,4 +215,4 @@ finished_are frames (span ∷ spans) =
 
 pub all_finished : (frames : List Timed) (made spans : List Span) (begun : List SpanOf) → made ≡ map (with_end frames) spans → map defined_span spans ≡ begun →
     map defined_span made ≡ map (finished_span frames) begun
-all_finished frames made spans begun e known = ap (map defined_span) e ∙ (finished_are frames spans ∙ ap (map (finished_span frames)) known)
+all_finished frames made spans begun e known_task = ap (map defined_span) e ∙ (finished_are frames spans ∙ ap (map (finished_span frames)) known_task)

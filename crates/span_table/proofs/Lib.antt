@@ -1,8 +1,12 @@
+pub mod AreOfTasks
+pub mod ByNumber
 pub mod Endings
 pub mod Frames
 pub mod Gathering
 pub mod InstantTimes
+pub mod Marking
 pub mod Noting
+pub mod NumberedPaths
 pub mod Planned
 pub mod Sorting
 pub mod SpanOrder

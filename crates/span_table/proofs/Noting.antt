@@ -1,12 +1,8 @@
 -- The paths that a path is under, one after another: each takes the time of its step.
-use Rattle.std.proofs.Common.{◌≡◌, ℕ, ◌+◌, ◌<◌, ◌≤◌, Bool, true, false, cond, ◌&&◌, ◌||◌, List, [], ◌∷◌, ◌++◌, length, take, get_or, Option, Some, None, nat_eq, IsTrue, refl, sym, ap, ◌∙◌, arith, add-one}
-use Rattle.std.proofs.Math.Seq.{take-suc}
-use Rattle.std.proofs.lemmas.Grind.{common_steps}
+use Rattle.std.proofs.Common.{◌≡◌, ℕ, ◌+◌, ◌<◌, ◌≤◌, Bool, true, false, ◌&&◌, ◌||◌, List, [], ◌∷◌, length, get_or, nat_eq, refl, ap, ◌∙◌, arith}
 use Rattle.std.proofs.lemmas.Cmp.{nat_eq_equiv}
-use Rattle.std.proofs.lemmas.Bool.{false≢true}
-use Rattle.std.proofs.lemmas.List.{take_all, length-take-le}
 use Rattle.aerie_base.specs.PathsAbove.{next_child, so_far}
-use Rattle.aerie_base.specs.Paths.{path_of, comes_from_daemon, id_of, children_of, is_path, child_path, child_of, may_have_children, is_prefix}
+use Rattle.aerie_base.specs.Paths.{path_of, children_of, child_path, is_prefix}
 use Rattle.run_data.specs.Spans.{same_path}
 
 -- ---- prefixes
@@ -23,7 +19,7 @@ shared true b s = refl
 shared false b s = refl
 
 -- a path is at or above a child where it is the child or at or above its maker
-child_prefix : (q above : List ℕ) (number : ℕ) → is_prefix q (child_path above number) ≡ (is_prefix q above || same_path (child_path above number) q)
+pub child_prefix : (q above : List ℕ) (number : ℕ) → is_prefix q (child_path above number) ≡ (is_prefix q above || same_path (child_path above number) q)
 child_prefix [] [] number = refl
 child_prefix [] (a ∷ above) number = refl
 child_prefix (x ∷ q) [] number = swapped x number (is_prefix q []) ∙ ap (λ b. nat_eq number x && b) (alone q)
@@ -41,6 +37,12 @@ root_prefix (x ∷ y ∷ q) kind id long =
     ∙ (ap (λ b. nat_eq kind x && b) (swapped y id (is_prefix q []))
     ∙ ap (λ b. nat_eq kind x && (nat_eq id y && b)) (alone q))
 
+pub root_prefix_any : (q path : List ℕ) → 2 ≤ length q → length path ≡ 2 → is_prefix q path ≡ same_path path q
+root_prefix_any q [] long two = absurd (omega (arith, two))
+root_prefix_any q (kind ∷ []) long two = absurd (omega (arith, two))
+root_prefix_any q (kind ∷ id ∷ []) long two = root_prefix q kind id long
+root_prefix_any q (kind ∷ id ∷ other ∷ path) long two = absurd (omega (arith, two))
+
 pub root_of_any : (q : List ℕ) (daemon : Bool) (id : ℕ) → 2 ≤ length q → is_prefix q (path_of daemon id []) ≡ same_path (path_of daemon id []) q
 root_of_any q true id long = root_prefix q 1 id long
 root_of_any q false id long = root_prefix q 0 id long
@@ -50,18 +52,3 @@ root_of_any q false id long = root_prefix q 0 id long
 pub next_is_child : (path items above below : List ℕ) (i : ℕ) → items ≡ children_of path → i < length items →
     above ≡ so_far path i → below ≡ so_far path (i + 1) → below ≡ child_path above (get_or items i 0)
 next_is_child path items above below i same within at next = next ∙ next_child path items above i same within at
-
--- ---- times
-
-both : {A : Type 0} (b s : Bool) (time other : A) → cond s time (cond b time other) ≡ cond (b || s) time other
-both true true time other = refl
-both true false time other = refl
-both false s time other = refl
-
--- the time of one path more
-pub time_more : (q above below : List ℕ) (number : ℕ) (time : ℕ) (new before old : Option ℕ) → below ≡ child_path above number →
-    new ≡ cond (same_path below q) (Some time) before → before ≡ cond (is_prefix q above) (Some time) old →
-    new ≡ cond (is_prefix q below) (Some time) old
-time_more q above below number time new before old is e f = rw is (rw is at e ∙ (ap (λ o. cond (same_path (child_path above number) q) (Some time) o) f
-    ∙ (both (is_prefix q above) (same_path (child_path above number) q) (Some time) old
-    ∙ ap (λ b. cond b (Some time) old) (sym (child_prefix q above number)))))

@@ -1,6 +1,6 @@
 -- The frames of a fresh run are in order of time, by the time that it reached.
 use Rattle.std.proofs.Common.{ℕ, ◌≤◌, List, [], ◌∷◌, arith}
-use Rattle.run_data.specs.declared.frames.Frame.{Frame}
+use Rattle.run_data.specs.TaskFrames.{Frame}
 use Rattle.run_data.specs.declared.runs.Instant.{Instant}
 use Rattle.run_data.specs.laws.Rising.{RiseAbove, RiseFromStart}
 use Rattle.run_data.specs.Spans.{Timed, with_time, in_batches, timed}

@@ -5,7 +5,7 @@ use Rattle.aerie_base.specs.declared.models.model.Parts.{Parts}
 use Rattle.aerie_base.specs.Paths.{is_prefix}
 use Rattle.run_data.specs.declared.tasks.BodyId.{BodyId}
 use Rattle.run_data.specs.declared.tasks.BodyId.TheVariants as body
-use Rattle.run_data.specs.declared.frames.Frame.{Frame}
+use Rattle.run_data.specs.TaskFrames.{Frame}
 use Rattle.span_table.specs.declared.span.Span.{Span}
 use Rattle.run_data.specs.Spans.{SpanOf, Timed, is_of_path, task_ended, result_in, span_if}
 

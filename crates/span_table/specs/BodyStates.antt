@@ -11,6 +11,10 @@ abbrev pub is_open_body : BodyState → Bool
 is_open_body Open = true
 is_open_body (Over result) = false
 
+abbrev pub is_open_state : Option BodyState → Bool
+is_open_state None = false
+is_open_state (Some state) = is_open_body state
+
 -- ---- by frames
 
 abbrev pub state_if : Bool → Bool → Option Value → Option BodyState
@@ -37,3 +41,9 @@ abbrev pub noted_state : Option BodyState → Status → BodyState
 noted_state (Some (Over result)) status = Over result
 noted_state (Some Open) status = state_by (is_done status) (returned status)
 noted_state None status = state_by (is_done status) (returned status)
+
+-- what a body is known to have returned
+abbrev pub known_result : Option BodyState → Option Value
+known_result None = None
+known_result (Some Open) = None
+known_result (Some (Over result)) = result

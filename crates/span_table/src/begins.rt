@@ -1,8 +1,10 @@
-//! The spans that begin.
+//! The spans that begin, each with the number of its task.
 
-ghost use Rattle.std.specs.Prelude.{◌≡◌, ◌++◌, [], map, take, OnOk, IfOk, if◌then◌else◌, slice_get};
+ghost use Rattle.std.specs.Prelude.{◌≡◌, ◌++◌, [], ◌∷◌, map, take, OnOk, IfOk, if◌then◌else◌, slice_get};
 ghost use Rattle.run_data.specs.Spans.{parameters_of};
 ghost use Rattle.span_table.specs.Begun.{begun_by, unfinished};
+ghost use Rattle.span_table.specs.KnownTasks.{Links, IsPathAt};
+ghost use Rattle.span_table.specs.Progress.{AreNumbersOf};
 ghost use Rattle.span_table.specs.AsDefined.{defined_span};
 
 use crate::span::Span;
@@ -43,11 +45,12 @@ fn unfinished(
     frame: &Frame,
     kind: u16,
 ) -> Result<Span, OutOfMemory>
-    ensures { IfOk result (λ span. defined_span span ≡ unfinished model.now time frame.now kind) }
+    ensures defined { IfOk result (λ span. defined_span span ≡ unfinished model.now time frame.now kind) }
+    ensures path { IfOk result (λ span. span.path ≡ frame.now.path) }
 {
-    let path = frame.path.copy(alloc)?;
+    let path = frame.path().copy(alloc)?;
     let count = parameter_count(model, kind);
-    let arguments = first_values(alloc, &frame.before.locals, count)?;
+    let arguments = first_values(alloc, &frame.before().locals, count)?;
     Ok(Span {
         path,
         kind,
@@ -58,26 +61,60 @@ fn unfinished(
     })
 }
 
-/// Puts the span that begins with the frame behind the others, if its body is new and no daemon's.
-pub(crate) fn note_begin(
-    alloc: Global,
-    begun: &mut Vec<Span>,
-    model: &Model,
-    time: Time,
-    frame: &Frame,
-    is_new: bool,
-) -> Result<(), OutOfMemory>
-    ensures { OnOk result (map defined_span begun.new.items ≡ map defined_span begun.old.items ++ (if is_new then begun_by model.now time frame.now frame.now.before.kind else [])) }
-{
-    if !is_new {
-        return Ok(());
-    }
-    match frame.before.kind {
-        BodyId::Activity(kind) => {
-            let span = unfinished(alloc, model, time, frame, kind)?;
-            begun.push(span)?;
-            Ok(())
+/// The spans that have begun, none of them with an end.
+#[derive(Drop)]
+pub(crate) struct BegunSpans {
+    /// In the order in which they did.
+    pub(crate) spans: Vec<Span>,
+    /// The number of the task of each.
+    pub(crate) numbers: Vec<usize>,
+}
+
+impl BegunSpans {
+    /// None.
+    pub(crate) fn new(alloc: Global) -> BegunSpans
+        ensures spans { result.spans.items ≡ [] }
+        ensures numbers { result.numbers.items ≡ [] }
+    {
+        BegunSpans {
+            spans: Vec::new(alloc),
+            numbers: Vec::new(alloc),
         }
-        BodyId::Daemon(_) => Ok(()),
+    }
+
+    /// Puts a span of the task of a number behind the others.
+    fn push(&mut self, span: Span, number: usize) -> Result<(), OutOfMemory>
+        ensures spans { OnOk result (self.new.spans.items ≡ self.old.spans.items ++ span ∷ []) }
+        ensures numbers { OnOk result (self.new.numbers.items ≡ self.old.numbers.items ++ number ∷ []) }
+    {
+        self.spans.push(span)?;
+        self.numbers.push(number)?;
+        Ok(())
+    }
+
+    /// Puts the span that begins with the frame of the task of a number behind the others, if its body is new and no daemon's.
+    pub(crate) fn note(
+        &mut self,
+        alloc: Global,
+        model: &Model,
+        time: Time,
+        frame: &Frame,
+        number: usize,
+        is_new: bool,
+    ) -> Result<(), OutOfMemory>
+        ensures spans { OnOk result (map defined_span self.new.spans.items ≡ map defined_span self.old.spans.items ++ (if is_new then begun_by model.now time frame.now frame.now.before.kind else [])) }
+        ensures numbers { OnOk result ((links : Links) → IsPathAt links number frame.now.path → AreNumbersOf links self.old.spans.items self.old.numbers.items → AreNumbersOf links self.new.spans.items self.new.numbers.items) }
+    {
+        if !is_new {
+            return Ok(());
+        }
+        match frame.before().kind {
+            BodyId::Activity(kind) => {
+                let span = unfinished(alloc, model, time, frame, kind)?;
+                self.push(span, number)?;
+                Ok(())
+            }
+            BodyId::Daemon(_) => Ok(()),
+        }
     }
 }

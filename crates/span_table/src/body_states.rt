@@ -1,17 +1,10 @@
 //! What is known of each body: whether it has ended, and what it returned.
 
-ghost use Rattle.std.specs.Prelude.{◌≡◌, ℕ, List, Some, cond, IsTrue, OnOk};
-ghost use Rattle.std.specs.HashMap as hash;
-ghost use Rattle.std.specs.BTreeSet as tree;
-ghost use Rattle.std.specs.BTreeMap.{is_at};
-ghost use Rattle.aerie_base.specs.Paths.{path_cmp};
-ghost use Rattle.run_data.specs.Spans.{same_path};
+ghost use Rattle.std.specs.Prelude.{◌≡◌, Some, IsTrue};
 ghost use Rattle.span_table.specs.BodyStates.{is_open_body, noted_state};
 
-use aerie_base::{OutOfMemory, Path, Value};
+use aerie_base::Value;
 use run_data::Status;
-use std::alloc::Global;
-use std::collections::{BTreeSet, HashMap};
 
 /// How far a body has come.
 #[derive(Clone, Copy)]
@@ -56,36 +49,4 @@ pub(crate) fn stays(before: &Option<BodyState>, status: &Status) -> bool
         Some(BodyState::Open) => !matches!(status, Status::Done(_)),
         Some(BodyState::Over(_)) => true,
     }
-}
-
-/// Puts the state of a body.
-pub(crate) fn put_state(
-    alloc: Global,
-    bodies: &mut HashMap<Path, BodyState>,
-    path: &Path,
-    state: BodyState,
-) -> Result<(), OutOfMemory>
-    ensures { OnOk result ((other : List ℕ) → hash.get same_path bodies.new other ≡ cond (same_path path.now other) (Some state) (hash.get same_path bodies.old other)) }
-{
-    let path = path.copy(alloc)?;
-    bodies.insert(path, state)?;
-    Ok(())
-}
-
-/// Puts whether the body of a path is open.
-pub(crate) fn put_open(
-    alloc: Global,
-    opens: &mut BTreeSet<Path>,
-    path: &Path,
-    is_open: bool,
-) -> Result<(), OutOfMemory>
-    ensures { OnOk result ((other : List ℕ) → tree.contains path_cmp opens.new other ≡ cond (is_at (path_cmp path.now) other) is_open (tree.contains path_cmp opens.old other)) }
-{
-    if is_open {
-        let path = path.copy(alloc)?;
-        opens.insert(path)?;
-        return Ok(());
-    }
-    opens.remove(path);
-    Ok(())
 }

@@ -3,8 +3,9 @@
 
 mod begins;
 mod body_states;
-mod last_times;
+mod known_tasks;
 pub mod laws;
+mod numbering;
 mod ordering;
 mod progress;
 mod span;

@@ -1,114 +1,31 @@
 //! What the frames of a run tell, one after another.
 
-ghost use Rattle.std.specs.Prelude.{◌≡◌, ◌++◌, [], ◌∷◌, List, None, OnOk, is_some, map};
-ghost use Rattle.std.specs.HashMap as hash;
-ghost use Rattle.std.specs.List.{list_any};
+ghost use Rattle.std.specs.Prelude.{◌≡◌, ◌++◌, ℕ, [], ◌∷◌, List, Some, OnOk, map, slice_get};
 ghost use Rattle.aerie_base.specs.declared.models.model.Parts.{Parts};
-ghost use Rattle.run_data.specs.Spans.{Timed, with_time, in_batches, timed, is_of_path, result_in, same_path};
+ghost use Rattle.run_data.specs.Spans.{Timed, with_time, in_batches, timed};
+ghost use Rattle.span_table.specs.BodyStates.{known_result};
 ghost use Rattle.span_table.specs.AsDefined.{defined_span};
-ghost use Rattle.span_table.specs.Begun.{begun_from, finished_span, last_after, with_end};
-ghost use Rattle.span_table.specs.Progress.{KnowsFrames, KnowsTasks};
+ghost use Rattle.span_table.specs.Begun.{begun_from, finished_span, with_end};
+ghost use Rattle.span_table.specs.KnownTasks.{IsPathAt, links_of};
+ghost use Rattle.span_table.specs.Progress.{AreNumbersOf, KnowsEnds, KnowsFrames};
 
-use crate::begins::note_begin;
-use crate::body_states::{BodyState, put_open, put_state, state_with, stays};
-use crate::last_times::note_time;
+use crate::begins::BegunSpans;
+use crate::body_states::{BodyState, state_with, stays};
+use crate::known_tasks::{Ending, KnownTasks, body_at, mark_unfinished, put_body, put_ending};
+use crate::numbering::number_of;
 use crate::span::Span;
-use aerie_base::{List, Model, OutOfMemory, Path, Time, Value};
+use aerie_base::{List, Model, OutOfMemory, Shared, Time, Value};
+use indexmap::IndexMap;
 use run_data::{Frame, Instant};
 use std::alloc::Global;
-use std::collections::{BTreeSet, HashMap};
-
-/// What the frames so far tell of each body and of each path.
-#[derive(Drop)]
-pub(crate) struct BodyTable {
-    /// How far each body has come.
-    pub(crate) bodies: HashMap<Path, BodyState>,
-    /// The paths of the bodies that have not ended.
-    pub(crate) opens: BTreeSet<Path>,
-    /// When the last step at or under each path was.
-    pub(crate) last: HashMap<Path, Time>,
-}
 
 /// What the frames so far tell.
 #[derive(Drop)]
 pub(crate) struct Progress {
-    /// The spans that have begun, in the order in which they did, none of them with an end.
-    pub(crate) begun: Vec<Span>,
-    /// The bodies and the paths.
-    pub(crate) tasks: BodyTable,
-}
-
-impl BodyTable {
-    /// Before any frame.
-    fn new(alloc: Global) -> BodyTable
-        ensures { KnowsTasks [] result }
-    {
-        BodyTable {
-            bodies: HashMap::new(alloc),
-            opens: BTreeSet::new(alloc),
-            last: HashMap::new(alloc),
-        }
-    }
-
-    /// How far the body of a path has come; none where no frame was of the path.
-    fn state(&self, path: &Path) -> Option<BodyState>
-        ensures is { result ≡ hash.get same_path self.now.bodies path.now }
-        ensures came { (frames : List Timed) → KnowsTasks frames self.now → is_some result ≡ list_any (is_of_path path.now) frames }
-    {
-        self.bodies.get(path).copied()
-    }
-
-    /// Takes in the next frame, of a path whose body has come so far.
-    fn note(
-        &mut self,
-        alloc: Global,
-        time: Time,
-        frame: &Frame,
-        before: Option<BodyState>,
-    ) -> Result<(), OutOfMemory>
-        requires { before ≡ hash.get same_path self.old.bodies frame.now.path }
-        ensures { OnOk result ((frames : List Timed) → KnowsTasks frames self.old → KnowsTasks (frames ++ (time, frame.now) ∷ []) self.new) }
-    {
-        note_time(alloc, &mut self.last, &frame.path, time)?;
-        if stays(&before, &frame.status) {
-            return Ok(());
-        }
-        let after = state_with(&before, &frame.status);
-        put_state(alloc, &mut self.bodies, &frame.path, after)?;
-        put_open(alloc, &mut self.opens, &frame.path, after.is_open())?;
-        Ok(())
-    }
-
-    /// What a body returned, if it has ended.
-    fn result_of(&self, path: &Path) -> Option<Value>
-        ensures { (frames : List Timed) → KnowsTasks frames self.now → result ≡ result_in frames path.now }
-    {
-        match self.bodies.get(path) {
-            Some(BodyState::Over(result)) => *result,
-            Some(BodyState::Open) => None,
-            None => None,
-        }
-    }
-
-    /// The time of the last step at or under a path.
-    fn last_of(&self, path: &Path) -> Option<Time>
-        ensures { (frames : List Timed) → KnowsTasks frames self.now → result ≡ last_after None frames path.now }
-    {
-        // what is a path has the numbers of one
-        let _numbers = path.children();
-        self.last.get(path).copied()
-    }
-
-    /// Gives the span its end and its result, if its task has ended.
-    fn finish(&self, span: &mut Span)
-        ensures { (frames : List Timed) → KnowsTasks frames self.now → span.new ≡ with_end frames span.old }
-    {
-        if span.path.has_any_under(&self.opens) {
-            return;
-        }
-        span.end = self.last_of(&span.path);
-        span.result = self.result_of(&span.path);
-    }
+    /// The spans that have begun.
+    pub(crate) begun: BegunSpans,
+    /// The tasks.
+    pub(crate) tasks: KnownTasks,
 }
 
 impl Progress {
@@ -117,25 +34,32 @@ impl Progress {
         ensures { (model : Parts) → KnowsFrames model [] result }
     {
         Progress {
-            begun: Vec::new(alloc),
-            tasks: BodyTable::new(alloc),
+            begun: BegunSpans::new(alloc),
+            tasks: IndexMap::new(alloc),
         }
     }
 
-    /// Takes in the next frame.
+    /// Takes in the next frame, and says which number its task has. The number that is near is that of the frame before it in the
+    /// batch.
     fn note(
         &mut self,
         alloc: Global,
         model: &Model,
         time: Time,
         frame: &Frame,
-    ) -> Result<(), OutOfMemory>
+        near: Option<usize>,
+    ) -> Result<usize, OutOfMemory>
         ensures { OnOk result ((frames : List Timed) → KnowsFrames model.now frames self.old → KnowsFrames model.now (frames ++ (time, frame.now) ∷ []) self.new) }
     {
-        let before = self.tasks.state(&frame.path);
-        note_begin(alloc, &mut self.begun, model, time, frame, before.is_none())?;
-        self.tasks.note(alloc, time, frame, before)?;
-        Ok(())
+        let number = number_of(alloc, &mut self.tasks, frame.shared_path(), near)?;
+        let before = body_at(&self.tasks, number);
+        let is_new = before.is_none();
+        self.begun.note(alloc, model, time, frame, number, is_new)?;
+        put_ending(&mut self.tasks, number, &Ending::After(Some(time)));
+        if !stays(&before, frame.status()) {
+            put_body(&mut self.tasks, number, state_with(&before, frame.status()));
+        }
+        Ok(number)
     }
 
     /// Takes in the frames of a batch.
@@ -148,8 +72,9 @@ impl Progress {
     ) -> Result<(), OutOfMemory>
         ensures { OnOk result ((frames : List Timed) → KnowsFrames model.now frames self.old → KnowsFrames model.now (frames ++ with_time time batch.now []) self.new) }
     {
+        let mut near = None;
         for frame in batch {
-            self.note(alloc, model, time, frame)?;
+            near = Some(self.note(alloc, model, time, frame, near)?);
         }
         Ok(())
     }
@@ -175,11 +100,12 @@ impl Progress {
         &mut self,
         alloc: Global,
         model: &Model,
-        instants: &[Instant],
+        instants: &[Shared<Instant>],
     ) -> Result<(), OutOfMemory>
         ensures { OnOk result ((frames : List Timed) → KnowsFrames model.now frames self.old → KnowsFrames model.now (frames ++ timed instants.now) self.new) }
     {
         for instant in instants {
+            let instant = instant.get();
             self.note_batches(alloc, model, instant.time, instant.batches.as_slice())?;
         }
         Ok(())
@@ -189,18 +115,60 @@ impl Progress {
     pub(crate) fn into_spans(self) -> Vec<Span>
         ensures { (model : Parts) (frames : List Timed) → KnowsFrames model frames self → map defined_span result.items ≡ map (finished_span frames) (begun_from model [] frames) }
     {
-        let Progress { begun, tasks } = self;
-        let mut spans = begun;
-        finish_all(&tasks, spans.as_mut_slice());
+        let Progress { begun, mut tasks } = self;
+        mark_unfinished(&mut tasks);
+        let BegunSpans { mut spans, numbers } = begun;
+        finish_all(&tasks, spans.as_mut_slice(), numbers.as_slice());
         spans
     }
 }
 
-/// Gives each span its end and its result, if its task has ended.
-fn finish_all(tasks: &BodyTable, spans: &mut [Span])
-    ensures { (frames : List Timed) → KnowsTasks frames tasks.now → spans.new ≡ map (with_end frames) spans.old }
+/// What a body returned, if it has ended.
+fn result_of(body: Option<BodyState>) -> Option<Value>
+    ensures { result ≡ known_result body }
 {
-    for span in spans.iter_mut() {
-        tasks.finish(span);
+    match body {
+        Some(BodyState::Over(result)) => result,
+        Some(BodyState::Open) => None,
+        None => None,
+    }
+}
+
+/// Gives the span of the task of a number its end and its result, if the task has ended.
+fn finish(tasks: &KnownTasks, span: &mut Span, number: usize)
+    ensures { (frames : List Timed) → KnowsEnds frames tasks.now.entries → IsPathAt (links_of tasks.now.entries) number span.old.path → span.new ≡ with_end frames span.old }
+{
+    // what is a path has the numbers of one
+    let _numbers = span.path.children();
+    if let Some((_, task)) = tasks.get_index(number) {
+        if let Ending::After(end) = task.ending {
+            span.end = end;
+            span.result = result_of(task.body);
+        }
+    }
+}
+
+/// The same, where there is such a number.
+fn finish_with(tasks: &KnownTasks, span: &mut Span, number: Option<usize>)
+    ensures { (frames : List Timed) (of : ℕ) → KnowsEnds frames tasks.now.entries → number ≡ Some of → IsPathAt (links_of tasks.now.entries) of span.old.path → span.new ≡ with_end frames span.old }
+{
+    if let Some(number) = number {
+        finish(tasks, span, number);
+    }
+}
+
+/// The number at a place, if there is one.
+fn number_at(numbers: &[usize], at: usize) -> Option<usize>
+    ensures { result ≡ slice_get numbers.now at }
+{
+    numbers.get(at).copied()
+}
+
+/// Gives each span its end and its result, if its task has ended.
+fn finish_all(tasks: &KnownTasks, spans: &mut [Span], numbers: &[usize])
+    ensures { (frames : List Timed) → KnowsEnds frames tasks.now.entries → AreNumbersOf (links_of tasks.now.entries) spans.old numbers.now → spans.new ≡ map (with_end frames) spans.old }
+{
+    for at in 0..spans.len() {
+        finish_with(tasks, &mut spans[at], number_at(numbers, at));
     }
 }

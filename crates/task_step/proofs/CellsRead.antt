@@ -1,5 +1,5 @@
 -- The list of the cells that were read, from the front.
-use Rattle.std.proofs.Common.{◌≡◌, get_or, ◌-◌, ◌*◌, ◌≤◌, min, append-nil, add-zero, if◌then◌else◌, ℕ, zero, suc, ◌+◌, ◌<◌, List, [], ◌∷◌, ◌++◌, Bool, true, false, Some, refl, sym, ap, ◌∙◌, arith, length, append_assoc, drop, drop-cons, add-one}
+use Rattle.std.proofs.Common.{◌≡◌, get_or, ◌-◌, ◌≤◌, append-nil, add-zero, if◌then◌else◌, ℕ, zero, suc, ◌+◌, ◌<◌, List, [], ◌∷◌, ◌++◌, Bool, true, false, Some, refl, sym, ap, ◌∙◌, arith, length, append_assoc, drop, drop-cons, add-one}
 use Rattle.std.specs.Prelude.{slice_get}
 use Rattle.std.proofs.lemmas.List.{drop_all}
 use Rattle.effect_cells.specs.declared.effects.CellState.{CellState}
@@ -68,33 +68,17 @@ skip from end read_flags view same le within none =
     let count : from + (end - from) ≡ end = omega arith in
     skip_by (end - from) from read_flags view same (omega arith) (λ cell a b. none cell a (omega (arith, b, count))) ∙ ap (rest_from read_flags view) count
 
--- ---- group by group
+-- ---- from a cell that was read to the next
 
--- where a group of 16 cells begins, or the end of the cells
-abbrev pub group_at : ℕ → List Bool → ℕ
-group_at group read_flags = min (group * 16) (length read_flags)
+-- behind a cell come those that were not read
+pub then_next : (read_flags : List Bool) (view : List CellState) (from to : ℕ) (before all : List (ℕ × CellState)) → length read_flags ≡ length view → from ≤ to → to ≤ length read_flags →
+    ((cell : ℕ) → from ≤ cell → cell < to → get_or read_flags cell false ≡ false) →
+    before ++ rest_from read_flags view from ≡ all → before ++ rest_from read_flags view to ≡ all
+then_next read_flags view from to before all same le within none h = sym (ap (λ l. before ++ l) (skip from to read_flags view same le within none)) ∙ h
 
--- a group of which some cells were read
-pub group_read : (read_flags : List Bool) (view : List CellState) (group from end : ℕ) (before after all : List (ℕ × CellState)) →
-    from ≡ group_at group read_flags → end ≡ group_at (group + 1) read_flags → after ++ rest_from read_flags view end ≡ before ++ rest_from read_flags view from →
-    before ++ rest_from read_flags view (group_at group read_flags) ≡ all → after ++ rest_from read_flags view (group_at (group + 1) read_flags) ≡ all
-group_read read_flags view group from end before after all f e h k =
-    ap (λ i. after ++ rest_from read_flags view i) (sym e) ∙ h ∙ ap (λ i. before ++ rest_from read_flags view i) f ∙ k
-
--- a group of which none was read
-pub group_skipped : (read_flags : List Bool) (view : List CellState) (group : ℕ) (before after all : List (ℕ × CellState)) → length read_flags ≡ length view → after ≡ before →
-    ((cell : ℕ) → group * 16 ≤ cell → cell < group * 16 + 16 → get_or read_flags cell false ≡ false) →
-    before ++ rest_from read_flags view (group_at group read_flags) ≡ all → after ++ rest_from read_flags view (group_at (group + 1) read_flags) ≡ all
-group_skipped read_flags view group before after all same e none h =
-    ap (λ l. l ++ rest_from read_flags view (group_at (group + 1) read_flags)) e
-    ∙ sym (ap (λ l. before ++ l) (skip (group_at group read_flags) (group_at (group + 1) read_flags) read_flags view same (omega arith) (omega arith) (λ cell a b. none cell (omega arith) (omega arith))))
-    ∙ h
-
--- behind the last group
-pub all_groups_read : (read_flags : List Bool) (view : List CellState) (reads all : List (ℕ × CellState)) → length read_flags ≤ 256 →
-    reads ++ rest_from read_flags view (group_at 16 read_flags) ≡ all → reads ≡ all
-all_groups_read read_flags view reads all few h =
-    let end : group_at 16 read_flags ≡ length read_flags = omega arith in
-    let nothing : rest_from read_flags view (group_at 16 read_flags) ≡ [] =
-    ap (rest_from read_flags view) end ∙ ap (λ l. read_from (length read_flags) l (drop (length read_flags) view)) (drop_all (length read_flags) read_flags (omega arith)) in
+-- behind the last cell
+pub none_left : (read_flags : List Bool) (view : List CellState) (end : ℕ) (reads all : List (ℕ × CellState)) → length read_flags ≤ end →
+    reads ++ rest_from read_flags view end ≡ all → reads ≡ all
+none_left read_flags view end reads all le h =
+    let nothing : rest_from read_flags view end ≡ [] = ap (λ l. read_from end l (drop end view)) (drop_all end read_flags le) in
     sym (append-nil reads) ∙ sym (ap (λ l. reads ++ l) nothing) ∙ h

@@ -9,7 +9,7 @@ use Rattle.body_code.specs.Denoting.{IsCodeOf, Denotes, Tests, chooses, repeats,
 use Rattle.body_code.specs.declared.instructions.Instruction.{Instruction}
 use Rattle.body_code.specs.declared.instructions.Instruction.TheVariants.{Do, Test, Jump, End}
 use Rattle.run_data.specs.declared.jobs.Job.{Job}
-use Rattle.run_data.specs.declared.frames.Frame.{Frame}
+use Rattle.run_data.specs.TaskFrames.{Frame}
 use Rattle.run_data.specs.declared.frames.Status.{Status}
 use Rattle.run_data.specs.declared.frames.Status.TheVariants.{Done}
 use Rattle.run_data.specs.StepStates.{StepState, starting}

@@ -2,7 +2,7 @@ pub mod CellsRead
 pub mod Doing
 pub mod FillableFolds
 pub mod Fillings
-pub mod Grouping
+pub mod FlagWords
 pub mod Landing
 pub mod OneByOne
 pub mod Overlays

@@ -14,17 +14,17 @@ use Rattle.run_data.specs.declared.tasks.BodyId.{BodyId}
 use Rattle.run_data.specs.declared.tasks.BodyId.TheVariants as body
 use Rattle.run_data.specs.declared.tasks.TaskState.{TaskState}
 use Rattle.run_data.specs.declared.jobs.Job.{Job}
-use Rattle.run_data.specs.declared.frames.Frame.{Frame}
+use Rattle.run_data.specs.TaskFrames.{Frame}
 use Rattle.run_data.specs.declared.frames.Status.{Status}
 use Rattle.run_data.specs.declared.steppers.Wave.TheVariants.{Frames, Spent}
 use Rattle.run_data.specs.Batches.{cost_of}
 use Rattle.run_data.specs.StepStates.{StepState}
 use Rattle.run_data.specs.Frames.{frame_of, job_step, framed, job_frame}
 use Rattle.run_data.specs.Jobs.{is_activity_state, is_daemon_state, is_state_in, is_state_of}
-use Rattle.run_data.specs.Records.{unmatched}
 use Rattle.run_data.specs.Steps.{Stepped}
 use Rattle.run_data.specs.TaskStates.{activity_body, daemon_body, body_of}
-use Rattle.run_data.specs.Waves.{with_step, frames_of, unless_spent, wave_of, last_count, RoseAlike}
+use Rattle.run_data.specs.Counts.{cost_append}
+use Rattle.run_data.specs.Waves.{with_step, frames_of, unless_spent, wave_of}
 use Rattle.run_data.specs.laws.Budgets.{CostIsWithin, SameWithinCost}
 use Rattle.task_step.specs.Directs.{code_place, PutsFrame}
 
@@ -67,30 +67,6 @@ module _ (model : Parts) (codes : List (List Instruction)) (stands : AreCodesOf 
       let has = has_code state h in
       subst (IsCodeOf (body_of model state.kind)) (value_is has.0 code (sym has.1 ∙ ap (slice_get codes) (sym here) ∙ is)) has.2
 
--- ---- counts
-
-pub rose_stays : (count steps : ℕ) → count ≤ last_count → RoseAlike count steps count steps
-rose_stays count steps within = (omega arith, λ rise is. omega (arith, is))
-
-pub rose_by : (count steps cost count_after steps_after : ℕ) → count_after ≡ min (count + cost) last_count → steps_after ≡ steps + cost →
-    RoseAlike count steps count_after steps_after
-rose_by count steps cost count_after steps_after c s = (omega (arith, s), λ rise is. omega (arith, c, s, is))
-
-pub rose_on : (count steps count_then steps_then count_after steps_after : ℕ) → RoseAlike count steps count_then steps_then →
-    RoseAlike count_then steps_then count_after steps_after → RoseAlike count steps count_after steps_after
-rose_on count steps count_then steps_then count_after steps_after first second = (
-  omega (arith, first.0, second.0),
-  λ rise is.
-      let one = first.1 (steps_then - steps) (omega (arith, first.0)) in
-      let other = second.1 (steps_after - steps_then) (omega (arith, second.0)) in
-      omega (arith, one, other, is, first.0, second.0),
-)
-
-pub rose_within : (count steps count_after steps_after : ℕ) → RoseAlike count steps count_after steps_after → count_after ≤ last_count
-rose_within count steps count_after steps_after rose =
-    let is = rose.1 (steps_after - steps) (omega (arith, rose.0)) in
-    omega (arith, is)
-
 -- ---- one frame more behind others
 
 -- where a cost is told there is a frame, which has it
@@ -106,17 +82,8 @@ none_added (Some its) told before after adds is = nothing its.cost (sym is ∙ a
 
 -- ---- costs
 
-pub unmatched_is : (frames : List Frame) → unmatched frames [] ≡ cost_of frames
-unmatched_is [] = refl
-unmatched_is (frame ∷ rest) = ap (λ cost. frame.cost + cost) (unmatched_is rest)
-
 pub cost_more : (frames : List Frame) (frame : Frame) → cost_of (frames ++ frame ∷ []) ≡ cost_of frames + frame.cost
-cost_more [] frame = omega arith
-cost_more (first ∷ rest) frame = omega (arith, cost_more rest frame)
-
-cost_both : (frames others : List Frame) → cost_of (frames ++ others) ≡ cost_of frames + cost_of others
-cost_both [] others = omega arith
-cost_both (first ∷ rest) others = omega (arith, cost_both rest others)
+cost_more frames frame = omega (arith, cost_append frames (frame ∷ []))
 
 -- ---- frames
 
@@ -196,7 +163,7 @@ module _ (least : CostIsWithin) (same : SameWithinCost) (model : Parts) (fuel : 
   passes left job frames (Some (status, so_far)) (Some rest) jobs e costs is before =
       let all = frames ++ frame_of job status so_far ∷ rest in
       let more = dearer left job status so_far e is (nat_le so_far.cost left) refl in
-      let total = cost_both frames (frame_of job status so_far ∷ rest) in
+      let total = cost_append frames (frame_of job status so_far ∷ rest) in
       let too_much : nat_lt fuel (cost_of all) ≡ true = grind (arith, more, total, costs) in
       sym (ap (unless_spent fuel) (sym before) ∙ rw too_much refl)
 

@@ -1,17 +1,14 @@
 -- The state of a step stays sound: the cells that are seen are those of the view with the effects of the items, and numbers stay small.
-use Rattle.std.proofs.Common.{◌≡◌, ℕ, zero, suc, ◌+◌, ◌^◌, ◌<◌, ◌≤◌, Bool, List, [], ◌∷◌, ◌++◌, Option, Some, None, refl, sym, ap, ◌∙◌, subst, arith, length, length-append, All, false, replicate}
-use Rattle.std.proofs.lemmas.Int.{ints}
-use Rattle.std.specs.Prelude.{slice_get, slice_set}
+use Rattle.std.proofs.Common.{◌≡◌, ℕ, ◌+◌, ◌^◌, ◌<◌, ◌≤◌, Bool, List, [], ◌∷◌, ◌++◌, Option, Some, None, refl, sym, ap, ◌∙◌, subst, arith, length, length-append, All, false, replicate}
+use Rattle.std.specs.Prelude.{slice_get}
 use Rattle.std.proofs.lemmas.List.{length-replicate}
 use Rattle.std.proofs.lemmas.Option.{slice_get_within, get_or_from_slice_get}
 use Rattle.aerie_base.specs.declared.values.Value.{Value}
-use Rattle.effect_cells.specs.Cells.{emitted, emitted_on, IsSmallOn}
-use Rattle.effect_cells.specs.States.{applied, IsSmallState}
+use Rattle.effect_cells.specs.Cells.{emitted, IsSmallOn}
+use Rattle.effect_cells.specs.States.{applied}
 use Rattle.effect_cells.specs.declared.effects.CellState.{CellState}
 use Rattle.effect_cells.specs.declared.effects.CellState.TheVariants as state
 use Rattle.effect_cells.specs.declared.effects.Effect.{Effect}
-use Rattle.effect_cells.specs.declared.effects.Effect.TheVariants.{Add, Register, Flow}
-use Rattle.effect_cells.specs.declared.registers.Change.TheVariants as change
 use Rattle.run_data.specs.declared.frames.Item.{Item}
 use Rattle.run_data.specs.declared.frames.Item.TheVariants as item
 use Rattle.run_data.specs.StepStates.{after_item, after_items}

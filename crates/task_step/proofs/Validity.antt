@@ -2,7 +2,7 @@
 use Rattle.std.proofs.Common.{◌≡◌, ℕ, Option, Some, None, refl, ap, subst}
 use Rattle.aerie_base.specs.declared.models.model.Parts.{Parts}
 use Rattle.run_data.specs.declared.jobs.Job.{Job}
-use Rattle.run_data.specs.declared.frames.Frame.{Frame}
+use Rattle.run_data.specs.TaskFrames.{Frame}
 use Rattle.run_data.specs.Frames.{job_step, framed, job_frame}
 use Rattle.run_data.specs.Jobs.{AreCellsOf}
 use Rattle.run_data.specs.Records.{IsValid, record_of}

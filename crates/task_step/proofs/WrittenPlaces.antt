@@ -1,14 +1,16 @@
 -- The cells that a step wrote, each at its place.
-use Rattle.std.proofs.Common.{◌≡◌, ◌≢◌, ℕ, zero, suc, ◌<◌, ◌≤◌, Bool, true, false, cond, List, [], ◌∷◌, ◌++◌, Option, Some, None, refl, sym, ap, ◌∙◌, subst, arith, length, get_or, set, nat_eq, if◌then◌else◌, length-append, rules}
+use Rattle.std.proofs.Common.{◌≡◌, ◌≢◌, ℕ, zero, suc, ◌+◌, ◌<◌, ◌≤◌, ⊎_elim, drop, Bool, true, false, cond, List, [], ◌∷◌, ◌++◌, Option, Some, None, refl, sym, ap, ◌∙◌, subst, arith, length, get_or, set, nat_eq, replicate, if◌then◌else◌, length-append, rules}
 use Rattle.std.specs.Prelude.{slice_get, slice_set}
 use Rattle.std.specs.List.{list_any}
 use Rattle.std.specs.Map.{keys_of}
 use Rattle.std.proofs.lemmas.Grind.{common_steps}
+use Rattle.std.proofs.lemmas.Bool.{cases_eq}
+use Rattle.std.proofs.lemmas.List.{drop_all, length-replicate}
 use Rattle.std.proofs.lemmas.Option.{slice_get-get_or, slice_get_within, get_or_from_slice_get}
 use Rattle.std.proofs.lemmas.Map.Entries.{place_from_lookup}
 use Rattle.std.proofs.lemmas.Map.Keys.{IsDistinct-from_apart}
 use Rattle.std.proofs.lemmas.Map.Steps.{length-le_from_distinct_below}
-use Rattle.task_step.specs.Overlays.{written_state, ArePlaced, Puts}
+use Rattle.task_step.specs.Overlays.{written_state, ArePlaced, AreOnce, HavePlaces, IsWrittenAt, Puts}
 
 -- ---- numbers that are the same
 
@@ -274,3 +276,89 @@ push_state (first ∷ own) cell other state new = by_first (nat_eq other first.0
 
 pub add_puts : {A : Type 0} (cell : ℕ) (state : A) (own : List (ℕ × A)) → written_state cell own ≡ None → Puts cell state own (own ++ (cell, state) ∷ [])
 add_puts cell state own new other = push_state own cell other state new
+
+-- ---- a table of the places
+
+-- the cells before a place have their places in the table
+pub record PlacedBefore {A : Type 0} (end : ℕ) (own : List (ℕ × A)) (table : List ℕ) : Type 0 where
+  pub count : length table ≡ 256
+  pub placed : (place : ℕ) (one : ℕ × A) → place < end → slice_get own place ≡ Some one → slice_get table one.0 ≡ Some place
+
+pub none_placed : {A : Type 0} (own : List (ℕ × A)) (table : List ℕ) → length table ≡ 256 → PlacedBefore 0 own table
+none_placed own table count = record { count = count; placed = λ place one lt e. absurd (omega (arith, lt)) }
+
+pub one_placed : {A : Type 0} (end : ℕ) (own : List (ℕ × A)) (table : List ℕ) (one : ℕ × A) → AreOnce own → end < length own → one ≡ get_or own end one → PlacedBefore end own table →
+    PlacedBefore (end + 1) own (slice_set table one.0 end)
+one_placed {A} end own table one once lt is before = record {
+  count = let z : length (set table one.0 end) ≡ length table = search rules in z ∙ before.count;
+  placed = λ place other le e. ⊎_elim
+      (λ (same : place ≡ end).
+      let k : other ≡ one = sym (get_or_from_slice_get own place other one e) ∙ ap (λ i. get_or own i one) same ∙ sym is in
+      ap (λ p. slice_get (slice_set table one.0 end) p.0) k ∙ get_set_same table one.0 end within ∙ ap Some (sym same))
+      (λ apart. get_set_other table one.0 other.0 end (λ k. apart (only_there own once.0 one.0 end one.1 once.1 here place other e k)) ∙ before.placed place other (omega (arith, le, apart)) e)
+      (cases_eq place end);
+} where
+  here : slice_get own end ≡ Some one
+  here = slice_get-get_or own end one lt ∙ ap Some (sym is)
+
+  within : one.0 < length table
+  within = let z = slice_get_within once.0 one.0 end (once.1.placed end one here) in omega (arith, z, once.1.count, before.count)
+
+pub all_placed : {A : Type 0} (end : ℕ) (own : List (ℕ × A)) (table : List ℕ) → length own ≤ end → PlacedBefore end own table → ArePlaced own table
+all_placed end own table le before = record {
+  count = before.count;
+  placed = λ place one e. before.placed place one (let z = slice_get_within own place one e in omega (arith, z, le)) e;
+}
+
+-- ---- a search
+
+rest_at : {A : Type 0} (own : List (ℕ × A)) (cell place : ℕ) (one : ℕ × A) → place < length own → one ≡ get_or own place one → one.0 ≢ cell →
+    written_state cell (drop place own) ≡ written_state cell (drop (suc place) own)
+rest_at [] cell place one lt is ne = absurd (omega arith)
+rest_at (first ∷ own) cell zero one lt is ne = ap (λ c. cond c (Some first.1) (written_state cell own)) (other_false cell first.0 (λ k. ne (ap (λ p. p.0) is ∙ sym k)))
+rest_at (first ∷ own) cell (suc place) one lt is ne = rest_at own cell place one (omega arith) is ne
+
+pub passed_by : {A : Type 0} (own : List (ℕ × A)) (cell place : ℕ) (one : ℕ × A) (found : Option A) → place < length own → one ≡ get_or own place one → one.0 ≢ cell →
+    found ≡ written_state cell (drop place own) → found ≡ written_state cell (drop (place + 1) own)
+passed_by own cell place one found lt is ne e = let next : suc place ≡ place + 1 = omega arith in e ∙ rest_at own cell place one lt is ne ∙ ap (λ i. written_state cell (drop i own)) next
+
+pub none_found : {A : Type 0} (own : List (ℕ × A)) (cell end : ℕ) → length own ≤ end → written_state cell own ≡ written_state cell (drop end own) → written_state cell own ≡ None
+none_found own cell end le e = e ∙ ap (written_state cell) (drop_all end own le)
+
+-- ---- what the code keeps
+
+no_places : {A : Type 0} → ArePlaced {A = A} [] (replicate 256 0)
+no_places {A} = record { count = length-replicate {A = ℕ} 256 0; placed = λ place one e. absurd (cc) }
+
+pub none_written : {A : Type 0} (own : List (ℕ × A)) (table : List ℕ) → own ≡ [] → table ≡ [] → HavePlaces own table
+none_written {A} own table e f =
+    subst (λ o. HavePlaces o table) (sym e) (record { once = (replicate 256 0, no_places); placed = λ some. absurd (omega (arith, some, ap length f)) })
+
+-- another state at the place of a cell
+pub set_found : {A : Type 0} (own : List (ℕ × A)) (table : List ℕ) (cell place : ℕ) (state new : A) (one : ℕ × A) → HavePlaces own table → slice_get own place ≡ Some (cell, state) →
+    one ≡ get_or own place one → HavePlaces (slice_set own place (one.0, new)) table
+set_found own table cell place state new one are e k = record {
+  once = (are.once.0, placed_set own are.once.0 cell place state new one are.once.1 e k);
+  placed = λ some. placed_set own table cell place state new one (are.placed some) e k;
+}
+
+-- a cell more
+pub add_found : {A : Type 0} (own own' : List (ℕ × A)) (table table' : List ℕ) (cell place : ℕ) (state : A) → cell < 256 → HavePlaces own table → written_state cell own ≡ None →
+    own' ≡ own ++ (cell, state) ∷ [] → place ≡ length own → table' ≡ slice_set table cell place → HavePlaces own' table'
+add_found {A} own own' table table' cell place state lt are new e p t =
+    subst (λ o. HavePlaces o table') (sym e) (subst (HavePlaces (own ++ (cell, state) ∷ [])) (sym t) (record {
+      once = (slice_set are.once.0 cell (length own), add_placed own are.once.0 cell state lt are.once.1 new);
+      placed = λ some. subst (λ i. ArePlaced (own ++ (cell, state) ∷ []) (slice_set table cell i)) (sym p)
+          (add_placed own table cell state lt (are.placed (let z : length (set table cell place) ≡ length table = search rules in omega (arith, z, some))) new);
+    }))
+
+-- there is room for the number of a place
+pub place_small : {A : Type 0} (own : List (ℕ × A)) (table : List ℕ) (cell : ℕ) (state : A) → cell < 256 → HavePlaces own table → written_state cell own ≡ None → length own < 256
+place_small own table cell state lt are new = room own are.once.0 cell state lt are.once.1 new
+
+-- a cell that was just added stands at the last place
+pub stands_last : {A : Type 0} (own own' : List (ℕ × A)) (cell place : ℕ) (state : A) → own' ≡ own ++ (cell, state) ∷ [] → place ≡ length own → IsWrittenAt own' place cell
+stands_last own own' cell place state e p = (state, (λ i. slice_get (e i) (p i)) ∙ get_push_last own (cell, state))
+
+pub stands : {A : Type 0} (own : List (ℕ × A)) (place : ℕ) (one : ℕ × A) → place < length own → one ≡ get_or own place one → slice_get own place ≡ Some one
+stands own place one lt is = slice_get-get_or own place one lt ∙ ap Some (sym is)

@@ -4,7 +4,7 @@ use Rattle.aerie_base.specs.declared.models.model.Parts.{Parts}
 use Rattle.body_code.specs.declared.instructions.Instruction.{Instruction}
 use Rattle.run_data.specs.declared.tasks.BodyId.{BodyId}
 use Rattle.run_data.specs.declared.tasks.BodyId.TheVariants as body
-use Rattle.run_data.specs.declared.frames.Frame.{Frame}
+use Rattle.run_data.specs.TaskFrames.{Frame}
 
 -- its codes, how many statements and tests it ran, and where its codes lie
 pub record DirectStepper : Type 0 where

@@ -3,7 +3,7 @@ pub mod Directs
 pub mod Doable
 pub mod Ends
 pub mod Fillable
-pub mod GroupedFlags
+pub mod FlagWords
 pub mod Moves
 pub mod Overlays
 pub mod OwnCells

@@ -1,5 +1,5 @@
 -- The cells that a step wrote, each once with its state, laid over those of its view.
-use Rattle.std.specs.Prelude.{◌≡◌, ℕ, ◌+◌, List, [], ◌∷◌, Option, Some, length, nat_eq, slice_get, unwrap_or, if◌then◌else◌}
+use Rattle.std.specs.Prelude.{◌≡◌, ◌<◌, ℕ, ◌+◌, List, [], ◌∷◌, Option, Some, length, nat_eq, slice_get, unwrap_or, if◌then◌else◌}
 use Rattle.std.specs.Map.{lookup}
 
 -- the state of a cell that was written
@@ -23,3 +23,16 @@ Puts cell state before after = (other : ℕ) → written_state other after ≡ (
 pub record ArePlaced {A : Type 0} (written : List (ℕ × A)) (places : List ℕ) : Type 0 where
   pub count : length places ≡ 256
   pub placed : (place : ℕ) (one : ℕ × A) → slice_get written place ≡ Some one → slice_get places one.0 ≡ Some place
+
+-- this cell was written, and stands at this place among those that were
+abbrev pub IsWrittenAt : {A : Type 0} → List (ℕ × A) → ℕ → ℕ → Type 0
+IsWrittenAt {A} written place cell = (state : A) × (slice_get written place ≡ Some (cell, state))
+
+-- each cell stands once among those that were written
+abbrev pub AreOnce : {A : Type 0} → List (ℕ × A) → Type 0
+AreOnce written = (places : List ℕ) × ArePlaced written places
+
+-- each cell stands once, and a table that is not empty has their places
+pub record HavePlaces {A : Type 0} (written : List (ℕ × A)) (table : List ℕ) : Type 0 where
+  pub once : AreOnce written
+  pub placed : 0 < length table → ArePlaced written table

@@ -20,7 +20,7 @@ use crate::ends::{End, delay_of};
 use crate::filling::fill;
 use crate::statement_parts::{effect_of, emission_expr};
 use crate::step_state::StepState;
-use aerie_base::{Boxed, Cond, Emission, Expr, OutOfMemory, Stmt};
+use aerie_base::{Cond, Emission, Expr, OutOfMemory, Shared, Stmt};
 use std::alloc::Global;
 
 /// `let` and `=`.
@@ -39,7 +39,12 @@ fn act_set(slot: u16, expr: &Expr, so_far: &mut StepState) -> Option<End>
 }
 
 /// `+=` and `:=`.
-fn act_emit(cell: u16, what: &Emission, so_far: &mut StepState) -> Result<Option<End>, OutOfMemory>
+fn act_emit(
+    alloc: Global,
+    cell: u16,
+    what: &Emission,
+    so_far: &mut StepState,
+) -> Result<Option<End>, OutOfMemory>
     requires cell { cell < length (cells_of so_far.old) }
     requires typed { HasType so_far.old (emission_expr what.now) }
     requires few { length so_far.old.items < most_items }
@@ -48,7 +53,7 @@ fn act_emit(cell: u16, what: &Emission, so_far: &mut StepState) -> Result<Option
     match so_far.value(emission_expr(what)) {
         Err(fault) => Ok(Some(End::Faulted(fault))),
         Ok(value) => {
-            so_far.emit(cell, effect_of(what, &value))?;
+            so_far.emit(alloc, cell, effect_of(what, &value))?;
             Ok(None)
         }
     }
@@ -71,7 +76,7 @@ fn act_wait(alloc: Global, condition: &Cond, so_far: &StepState) -> Result<End, 
     ensures { IfOk result (λ end. (body : Body) (at : ℕ) → acted_of (Some end) body at so_far.now ≡ ended (status.Waiting (filled condition.now so_far.now.locals) (state_behind body at so_far.now)) so_far.now) }
 {
     let condition = fill(alloc, condition, so_far.locals())?;
-    Ok(End::Waiting(Boxed::new(alloc, condition)?))
+    Ok(End::Waiting(Shared::new(alloc, condition)?))
 }
 
 /// `spawn`
@@ -141,7 +146,7 @@ pub(crate) fn act(
     match stmt {
         Stmt::Let { slot, value } => Ok(act_set(*slot, value, so_far)),
         Stmt::Assign { slot, value } => Ok(act_set(*slot, value, so_far)),
-        Stmt::Emit { cell, what } => act_emit(*cell, what, so_far),
+        Stmt::Emit { cell, what } => act_emit(alloc, *cell, what, so_far),
         Stmt::Delay(value) => Ok(Some(act_delay(value, so_far))),
         Stmt::WaitUntil(condition) => Ok(Some(act_wait(alloc, condition, so_far)?)),
         Stmt::Spawn { kind, arguments } => act_spawn(alloc, *kind, arguments.as_slice(), so_far),

@@ -20,7 +20,7 @@ pub(crate) fn values(
     ensures so_far { OnOk result (so_far.new ≡ (valued_all exprs.now so_far.old).1) }
     ensures with_flags { so_far.new ≡ with_flags so_far.old so_far.new.read_flags }
 {
-    let mut values = List::new(alloc);
+    let mut values = List::with_capacity(alloc, exprs.len())?;
     for expr in exprs {
         match so_far.value(expr) {
             Err(fault) => return Ok(Err(fault)),

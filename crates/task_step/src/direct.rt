@@ -3,6 +3,7 @@
 ghost use Rattle.std.specs.Prelude.{◌≡◌};
 
 use crate::one_by_one::run_jobs;
+use crate::room::Room;
 use aerie_base::{Model, OutOfMemory, Steps};
 use body_code::Code;
 use run_data::{Job, Stepper, Wave};
@@ -15,6 +16,8 @@ use std::sync::ledger::Ledger;
 pub struct Direct<'a> {
     codes: &'a [Code],
     opened: u64,
+    /// What the steps of one wave leave for the next, once there was one.
+    room: Option<Room>,
 }
 
 impl<'a> std::marker::Model for Direct<'a> {
@@ -39,7 +42,11 @@ impl<'a> Direct<'a> {
         ensures opened { result.opened ≡ 0 }
         ensures address { result.codes_at ≡ codes.entry.ref_ptr.0 }
     {
-        Direct { codes, opened: 0 }
+        Direct {
+            codes,
+            opened: 0,
+            room: None,
+        }
     }
 
     /// How many statements and tests it ran, or 2^64 - 1 where there were more. It takes no memory.
@@ -83,8 +90,22 @@ impl<'a> Stepper for Direct<'a> {
     ) -> Result<Wave, OutOfMemory> {
         let _ = looks;
         let mut opened = self.opened;
-        let wave = run_jobs(alloc, model, self.codes, jobs, fuel, steps, &mut opened);
+        let mut room = match self.room.take() {
+            Some(room) => room,
+            None => Room::new(alloc),
+        };
+        let wave = run_jobs(
+            alloc,
+            model,
+            self.codes,
+            jobs,
+            fuel,
+            steps,
+            &mut opened,
+            &mut room,
+        );
         self.opened = opened;
+        self.room = Some(room);
         wave
     }
 }

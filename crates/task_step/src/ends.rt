@@ -1,14 +1,15 @@
 //! How a step ends.
 
-ghost use Rattle.std.specs.Prelude.{◌≡◌, ◌+◌, ◌^◌, ◌<◌, ℕ};
+ghost use Rattle.std.specs.Prelude.{◌≡◌, ◌+◌, ◌^◌, ◌<◌, ℕ, IfOk};
 ghost use Rattle.aerie_base.specs.expressions.Arithmetic.{number_in};
 ghost use Rattle.run_data.specs.Steps.{delay_of, state_behind};
 ghost use Rattle.run_data.specs.StepStates.{StepState};
 ghost use Rattle.run_data.specs.declared.tasks.BodyId.{BodyId as Body};
 ghost use Rattle.task_step.specs.Ends.{status_from, status_of};
 
-use aerie_base::{Boxed, Cond, Fault, List, Number, Value, number_in};
+use aerie_base::{Cond, Fault, List, Number, OutOfMemory, Shared, Value, number_in};
 use run_data::{BodyId, Status, TaskState};
+use std::alloc::Global;
 
 /// How a statement ends a step, without the state from which the task goes on. It is small, since each statement is asked
 /// for one; the step's status is made of it once.
@@ -17,7 +18,7 @@ pub(crate) enum End {
     /// The task goes on later, by so many microseconds.
     Delayed(Number),
     /// The task goes on when the condition holds, with the locals filled in.
-    Waiting(Boxed<Cond>),
+    Waiting(Shared<Cond>),
     /// The task goes on when the last child of the step has ended, whose result the local in this slot takes.
     Calling(Option<u16>),
     /// The body has ended, with this result.
@@ -42,24 +43,50 @@ pub(crate) fn delay_of(value: &Value) -> End
     }
 }
 
-/// The status of a step that ends so at a place of a body, with these locals.
-pub(crate) fn status_of(end: End, kind: BodyId, at: u32, locals: List<Value>) -> Status
+/// The state from which a task goes on behind a place of a body, with these locals.
+fn state_behind(
+    alloc: Global,
+    kind: BodyId,
+    at: u32,
+    locals: List<Value>,
+) -> Result<Shared<TaskState>, OutOfMemory>
     requires { at + 1 < 2 ^ 32 }
-    ensures { result ≡ status_from end (record { kind = kind; at = at + 1; locals = locals }) }
+    ensures { IfOk result (λ state. state ≡ record { kind = kind; at = at + 1; locals = locals }) }
 {
-    let next = TaskState {
+    let state = TaskState {
         kind,
         at: at + 1,
         locals,
     };
+    Shared::new(alloc, state)
+}
+
+/// The status of a step that ends so at a place of a body, with these locals. Where the task goes on, its state is made once, for
+/// all who have it.
+pub(crate) fn status_of(
+    alloc: Global,
+    end: End,
+    kind: BodyId,
+    at: u32,
+    locals: List<Value>,
+) -> Result<Status, OutOfMemory>
+    requires { at + 1 < 2 ^ 32 }
+    ensures { IfOk result (λ status. status ≡ status_from end (record { kind = kind; at = at + 1; locals = locals })) }
+{
     match end {
-        End::Delayed(by) => Status::Delayed { by, next },
-        End::Waiting(condition) => Status::Waiting {
-            condition: condition.into_inner(),
-            next,
-        },
-        End::Calling(into) => Status::Calling { into, next },
-        End::Done(result) => Status::Done(result),
-        End::Faulted(fault) => Status::Faulted(fault),
+        End::Delayed(by) => {
+            let next = state_behind(alloc, kind, at, locals)?;
+            Ok(Status::Delayed { by, next })
+        }
+        End::Waiting(condition) => {
+            let next = state_behind(alloc, kind, at, locals)?;
+            Ok(Status::Waiting { condition, next })
+        }
+        End::Calling(into) => {
+            let next = state_behind(alloc, kind, at, locals)?;
+            Ok(Status::Calling { into, next })
+        }
+        End::Done(result) => Ok(Status::Done(result)),
+        End::Faulted(fault) => Ok(Status::Faulted(fault)),
     }
 }

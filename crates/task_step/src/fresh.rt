@@ -14,7 +14,7 @@ pub struct Fresh {
 impl Model for Fresh {
     ghost use Rattle.std.specs.Coded.{codes};
     ghost use Rattle.aerie_base.specs.contracts.conditions.Cond as cond;
-    ghost use Rattle.run_data.specs.declared.frames.Frame.{Frame as Seen};
+    ghost use Rattle.run_data.specs.TaskFrames.{Frame as Seen};
 
     ghost Value = { Seen };
 
@@ -36,7 +36,7 @@ impl Fresh {
         ensures frame { result ≡ self }
         ensures steps { steps.new ≡ steps.old + self.cost }
     {
-        steps.rise(self.frame.cost);
+        steps.rise(self.frame.cost());
         self.frame
     }
 }

@@ -10,6 +10,7 @@ mod filling;
 mod fresh;
 mod one_by_one;
 mod read_flags;
+mod room;
 mod running;
 mod sight;
 mod statement_parts;

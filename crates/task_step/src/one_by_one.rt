@@ -11,7 +11,8 @@ ghost use Rattle.run_data.specs.TaskStates.{body_of};
 ghost use Rattle.run_data.specs.Waves.{wave_of, last_count, IsFrugal, RoseAlike};
 ghost use Rattle.task_step.specs.Directs.{code_place, cost_in, PutsFrame};
 
-use crate::running::run_step;
+use crate::room::Room;
+use crate::running::step;
 use crate::step_end::StepEnd;
 use aerie_base::{List, Model, OutOfMemory, Steps};
 use body_code::Code;
@@ -67,6 +68,7 @@ fn run_job<L: Ledger>(
     frames: &mut List<Frame>,
     steps: &mut Steps<L>,
     opened: &mut u64,
+    room: &mut Room,
 ) -> Result<Option<u64>, OutOfMemory>
     requires codes { AreCodesOf model.now codes.now }
     requires job { IsJobOf model.now job.now }
@@ -76,11 +78,11 @@ fn run_job<L: Ledger>(
     ensures steps { OnOk result (steps.new ≡ steps.old + cost_in (job_frame model.now fuel job.now)) }
     ensures opened { RoseAlike opened.old steps.old opened.new steps.new }
 {
-    let code = code_of(model, codes, &job.state);
-    match run_step(alloc, model, code, job, fuel) {
+    let code = code_of(model, codes, job.state.get());
+    match step(alloc, model, code, job, fuel, room) {
         Ok(fresh) => {
             let frame = fresh.open(steps);
-            let cost = frame.cost;
+            let cost = frame.cost();
             *opened = risen(*opened, cost);
             frames.push(frame)?;
             Ok(Some(cost))
@@ -92,6 +94,7 @@ fn run_job<L: Ledger>(
 
 /// The frames of the jobs, in their order, or `Spent` exactly where their costs together pass the fuel: each job may cost
 /// what those before it left. `opened` rises as `steps` does.
+#[allow(clippy::too_many_arguments)]
 pub(crate) fn run_jobs<L: Ledger>(
     alloc: Global,
     model: &Model,
@@ -100,6 +103,7 @@ pub(crate) fn run_jobs<L: Ledger>(
     fuel: u64,
     steps: &mut Steps<L>,
     opened: &mut u64,
+    room: &mut Room,
 ) -> Result<Wave, OutOfMemory>
     requires codes { AreCodesOf model.now codes.now }
     requires jobs { All (IsJobOf model.now) jobs.now }
@@ -113,7 +117,17 @@ pub(crate) fn run_jobs<L: Ledger>(
     let mut frames = List::with_capacity(alloc, jobs.len())?;
     let mut left = fuel;
     for job in jobs {
-        match run_job(alloc, model, codes, job, left, &mut frames, steps, opened)? {
+        match run_job(
+            alloc,
+            model,
+            codes,
+            job,
+            left,
+            &mut frames,
+            steps,
+            opened,
+            room,
+        )? {
             Some(cost) => left -= cost,
             None => return Ok(Wave::Spent),
         }

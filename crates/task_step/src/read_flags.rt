@@ -1,38 +1,37 @@
 //! Which cells a step read.
 
-ghost use Rattle.std.specs.Prelude.{◌≡◌, ◌+◌, ◌*◌, ◌<◌, ◌≤◌, ℕ, length, replicate, true, false, not, IsTrue, slice_index_or};
-ghost use Rattle.std.specs.List.{list_all};
+ghost use Rattle.std.specs.Prelude.{◌≡◌, ◌+◌, ◌<◌, ◌≤◌, ℕ, length, replicate, true, false, slice_index_or};
 ghost use Rattle.aerie_base.specs.expressions.Readings.{also};
 
 use std::marker::Model;
 
-/// Which of at most 256 cells were read. Contracts see a flag for each cell. It takes no memory of its own.
+/// Which of at most 256 cells were read, a bit for each cell. Contracts see a flag for each cell. It takes no memory of its
+/// own.
 #[derive(Drop)]
 pub(crate) struct ReadFlags {
     cells: usize,
-    /// For each cell, whether it was read.
-    flags: [bool; 256],
-    /// For each group of 16 cells, whether one of them was read, so that the others need not be looked at.
-    groups: [bool; 16],
+    /// A word for each 64 cells, whose lowest bit is of the first of them.
+    words: [u64; 4],
 }
 
 impl Model for ReadFlags {
-    ghost use Rattle.std.specs.Prelude.{List, Bool, take};
-    ghost use Rattle.task_step.specs.GroupedFlags.{AreGrouped};
+    ghost use Rattle.std.specs.Prelude.{List, Bool};
+    ghost use Rattle.std.specs.Prelude.{◌≤◌};
+    ghost use Rattle.task_step.specs.FlagWords.{flags_of};
 
     ghost Value = { List Bool };
 
-    ghost view = { λ read. take read.cells read.flags };
+    ghost view = { λ read. flags_of read.cells read.words };
 
-    ghost invariant = { λ read. AreGrouped read.cells read.flags read.groups };
+    ghost invariant = { λ read. read.cells ≤ 256 };
 }
 
-/// No flag is set.
-fn no_flags() -> [bool; 256]
-    ensures length { length result ≡ 256 }
-    ensures none { IsTrue (list_all not result) }
+/// The word of a group of 64 cells.
+fn word_of(words: &[u64; 4], group: usize) -> u64
+    requires { group < 4 }
+    ensures { result ≡ slice_index_or words.now group 0 }
 {
-    [false; 256]
+    words[group]
 }
 
 impl ReadFlags {
@@ -43,8 +42,7 @@ impl ReadFlags {
     {
         ReadFlags {
             cells,
-            flags: no_flags(),
-            groups: [false; 16],
+            words: [0; 4],
         }
     }
 
@@ -62,24 +60,35 @@ impl ReadFlags {
     {
         let at = usize::from(cell);
         if at < self.cells {
-            self.flags[at] = true;
-            self.groups[at / 16] = true;
+            self.words[at / 64] |= 1u64 << (at % 64);
         }
     }
 
-    /// Whether a cell was read.
-    pub(crate) fn is_read(&self, cell: usize) -> bool
-        requires { cell < length self.now }
-        ensures { result ≡ slice_index_or self.now cell false }
-    {
-        self.flags[cell]
+    /// How many cells were read: the room that their list takes.
+    pub(crate) fn count(&self) -> usize {
+        let mut count: usize = 0;
+        for word in &self.words[..self.cells.div_ceil(64)] {
+            count += word.count_ones() as usize;
+        }
+        count
     }
 
-    /// Whether one of the 16 cells of a group was read.
-    pub(crate) fn is_any_read(&self, group: usize) -> bool
-        requires { group < 16 }
-        ensures { result ≡ false → (cell : ℕ) → group * 16 ≤ cell → cell < group * 16 + 16 → slice_index_or self.now cell false ≡ false }
+    /// The first cell from one on that was read, or the number of cells where none was.
+    pub(crate) fn next(&self, from: usize) -> usize
+        requires { from ≤ length self.now }
+        ensures from { from ≤ result }
+        ensures within { result ≤ length self.now }
+        ensures read { result < length self.now → slice_index_or self.now result false ≡ true }
+        ensures none { (cell : ℕ) → from ≤ cell → cell < result → slice_index_or self.now cell false ≡ false }
     {
-        self.groups[group]
+        let mut at = from;
+        while at < self.cells {
+            let rest = word_of(&self.words, at / 64) >> (at % 64);
+            if rest != 0 {
+                return (at + rest.trailing_zeros() as usize).min(self.cells);
+            }
+            at = (at / 64 + 1) * 64;
+        }
+        self.cells
     }
 }

@@ -20,6 +20,7 @@ ghost use Rattle.task_step.specs.declared.step_end.StepEnd.TheVariants.{Fuel};
 use crate::acting::act;
 use crate::ends::End;
 use crate::fresh::Fresh;
+use crate::room::Room;
 use crate::step_end::StepEnd;
 use crate::step_state::StepState;
 use aerie_base::{Model, OutOfMemory, copy_list, truth_in};
@@ -103,7 +104,14 @@ fn take(
 }
 
 /// The frame of a job's step, or that it costs more than the fuel.
-fn step(alloc: Global, model: &Model, code: &Code, job: &Job, fuel: u64) -> Result<Fresh, StepEnd>
+pub(crate) fn step(
+    alloc: Global,
+    model: &Model,
+    code: &Code,
+    job: &Job,
+    fuel: u64,
+    room: &mut Room,
+) -> Result<Fresh, StepEnd>
     requires job { IsJobOf model.now job.now }
     requires code { IsCodeOf (body_of model.now job.now.state.kind) code.now }
     requires fuel { fuel ≤ step_limit }
@@ -112,22 +120,23 @@ fn step(alloc: Global, model: &Model, code: &Code, job: &Job, fuel: u64) -> Resu
 {
     statements_are_typed();
     states_stand_in_bodies();
-    let kind = job.state.kind;
+    let state = job.state.get();
+    let kind = state.kind;
     let cells = model.cells().len();
-    let locals = copy_list(alloc, &job.state.locals)?;
-    let mut so_far = StepState::start(alloc, job.view.get(), cells, locals);
-    let mut at = job.state.at;
+    let locals = copy_list(alloc, &state.locals)?;
+    let mut so_far = StepState::start(alloc, job.view.get(), cells, locals, room);
+    let mut at = state.at;
     'places: loop {
         let here = land(model, code, kind, at);
         if is_end(code, here) {
-            return so_far.finish(alloc, job, here, End::Done(None));
+            return so_far.finish(alloc, job, here, End::Done(None), room);
         }
         if so_far.cost() == fuel {
             return Err(StepEnd::Fuel);
         }
         match take(alloc, model, code, kind, here, &mut so_far)? {
             Way::Onward(to) => at = to,
-            Way::Ended(end) => return so_far.finish(alloc, job, here, end),
+            Way::Ended(end) => return so_far.finish(alloc, job, here, end, room),
         }
     }
 }
@@ -151,5 +160,6 @@ pub fn run_step(
     ensures valid { IfOk result (λ fresh. IsValid model.now (record_of fresh)) }
 {
     steps_are_valid_records();
-    step(alloc, model, code, job, fuel)
+    let mut room = Room::new(alloc);
+    step(alloc, model, code, job, fuel, &mut room)
 }

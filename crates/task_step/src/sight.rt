@@ -1,8 +1,8 @@
 //! The cells as a step sees them: those of its view with its own effects, and which of them it read.
 
-ghost use Rattle.std.specs.Prelude.{◌≡◌, ◌<◌, ◌≤◌, [], length, replicate, false, slice_get, IsSome, OnOk, Some};
+ghost use Rattle.std.specs.Prelude.{◌≡◌, ◌<◌, ◌≤◌, [], length, replicate, false, slice_get, IfOk, Some};
 ghost use Rattle.effect_cells.specs.Cells.{emitted, IsSmallOn};
-ghost use Rattle.task_step.specs.Overlays.{overlaid, written_state};
+ghost use Rattle.task_step.specs.Overlays.{overlaid, IsWrittenAt};
 
 use crate::read_flags::ReadFlags;
 use crate::written_cells::WrittenCells;
@@ -23,15 +23,16 @@ pub(crate) struct Sight<'a> {
 
 impl<'a> Sight<'a> {
     /// A view of so many cells, none of which was written or read yet.
-    pub(crate) fn new(alloc: Global, view: &'a Cells, cells: usize) -> Sight<'a>
-        requires { cells ≤ 256 }
+    pub(crate) fn new(view: &'a Cells, cells: usize, written: WrittenCells) -> Sight<'a>
+        requires cells { cells ≤ 256 }
+        requires written { written ≡ [] }
         ensures view { result.view.now ≡ view.now }
         ensures written { result.written ≡ [] }
         ensures read_flags { result.read_flags ≡ replicate cells false }
     {
         Sight {
             view,
-            written: WrittenCells::none(alloc),
+            written,
             read_flags: ReadFlags::none(cells),
         }
     }
@@ -47,34 +48,37 @@ impl<'a> Sight<'a> {
         }
     }
 
-    /// The cell is the step's own from here on. Its state is copied at its first effect only, and no other cell's.
-    pub(crate) fn split(&mut self, cell: u16) -> Result<(), OutOfMemory>
+    /// The cell is the step's own from here on: its place among those that the step wrote. Its state is copied at its first
+    /// effect only, and no other cell's.
+    pub(crate) fn own(&mut self, alloc: Global, cell: u16) -> Result<usize, OutOfMemory>
         requires cell { cell < length (overlaid self.old.view.now self.old.written) }
         requires few { length self.old.view.now ≤ 256 }
         ensures view { self.new.view.now ≡ self.old.view.now }
         ensures read_flags { self.new.read_flags ≡ self.old.read_flags }
         ensures cells { overlaid self.new.view.now self.new.written ≡ overlaid self.old.view.now self.old.written }
-        ensures written { OnOk result (IsSome (written_state cell self.new.written)) }
+        ensures place { IfOk result (λ place. IsWrittenAt self.new.written place cell) }
     {
-        if self.written.has(cell) {
-            return Ok(());
+        match self.written.place(cell) {
+            Some(place) => Ok(place),
+            None => {
+                let state = self.view.state(cell);
+                let place = self.written.add(alloc, cell, state)?;
+                Ok(place)
+            }
         }
-        let state = self.view.state(cell);
-        self.written.add(cell, state)?;
-        Ok(())
     }
 
-    /// An effect on a cell that is the step's own.
-    pub(crate) fn change(&mut self, cell: u16, effect: &Effect)
-        requires written { IsSome (written_state cell self.old.written) }
+    /// An effect on a cell that is the step's own, at its place.
+    pub(crate) fn change(&mut self, place: usize, cell: u16, effect: &Effect)
+        requires place { IsWrittenAt self.old.written place cell }
         requires cell { cell < length (overlaid self.old.view.now self.old.written) }
         requires small { IsSmallOn (slice_get (overlaid self.old.view.now self.old.written) cell) effect.now }
         ensures view { self.new.view.now ≡ self.old.view.now }
         ensures read_flags { self.new.read_flags ≡ self.old.read_flags }
         ensures cells { overlaid self.new.view.now self.new.written ≡ emitted (overlaid self.old.view.now self.old.written) cell effect.now }
     {
-        let state = self.state(cell).after(effect);
-        self.written.set(cell, state);
+        let state = self.written.at(place, cell).after(effect);
+        self.written.set(place, cell, state);
     }
 }
 

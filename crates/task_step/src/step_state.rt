@@ -15,11 +15,12 @@ ghost use Rattle.task_step.specs.declared.step_end.StepEnd.TheVariants.{Fuel};
 use crate::cells_read::cells_read;
 use crate::ends::{End, status_of};
 use crate::fresh::Fresh;
+use crate::room::{Room, exact};
 use crate::sight::Sight;
 use crate::step_end::StepEnd;
-use aerie_base::{Expr, Fault, List, OutOfMemory, Value, eval};
+use aerie_base::{Expr, Fault, List, OutOfMemory, Shared, Value, eval};
 use effect_cells::{Cells, Effect};
-use run_data::{Frame, Item, Job};
+use run_data::{Frame, Item, Job, Record};
 use std::alloc::Global;
 use std::marker::Model;
 
@@ -48,12 +49,13 @@ impl<'a> Model for StepState<'a> {
 }
 
 impl<'a> StepState<'a> {
-    /// A step begins, from these locals, in a view of so many cells.
+    /// A step begins, from these locals, in a view of so many cells, with lists that are to be given back.
     pub(crate) fn start(
         alloc: Global,
         view: &'a Cells,
         cells: usize,
         locals: List<Value>,
+        room: &mut Room,
     ) -> StepState<'a>
         requires cells { cells ≡ length view.now }
         requires few { cells ≤ 256 }
@@ -61,9 +63,9 @@ impl<'a> StepState<'a> {
         ensures { result ≡ starting view.now locals }
     {
         StepState {
-            sight: Sight::new(alloc, view, cells),
+            sight: Sight::new(view, cells, room.take_written(alloc)),
             locals,
-            items: List::new(alloc),
+            items: room.take_items(alloc),
             cost: 0,
         }
     }
@@ -107,15 +109,20 @@ impl<'a> StepState<'a> {
     }
 
     /// A cell gets an effect, which later reads see.
-    pub(crate) fn emit(&mut self, cell: u16, effect: Effect) -> Result<(), OutOfMemory>
+    pub(crate) fn emit(
+        &mut self,
+        alloc: Global,
+        cell: u16,
+        effect: Effect,
+    ) -> Result<(), OutOfMemory>
         requires cell { cell < length (cells_of self.old) }
         requires few { length self.old.items < most_items }
         requires small { effect_magnitude effect ≤ number_limit }
         ensures { OnOk result (self.new ≡ giving self.old (Emit cell effect)) }
     {
-        self.sight.split(cell)?;
+        let place = self.sight.own(alloc, cell)?;
         self.items.push(Item::Emit { cell, effect })?;
-        self.sight.change(cell, &effect);
+        self.sight.change(place, cell, &effect);
         Ok(())
     }
 
@@ -133,35 +140,38 @@ impl<'a> StepState<'a> {
         self.cost
     }
 
-    /// The frame of the job whose step ends so at a place. The locals become those from which the task goes on.
+    /// The frame of the job whose step ends so at a place. The locals become those from which the task goes on, and the frame has
+    /// the path and the state of the job in common with it.
     pub(crate) fn finish(
         self,
         alloc: Global,
         job: &Job,
         at: u32,
         end: End,
+        room: &mut Room,
     ) -> Result<Fresh, StepEnd>
         requires { at + 1 < 2 ^ 32 }
         ensures frame { IfOk result (λ fresh. fresh ≡ frame_of job.now (status_of end job.now.state.kind at self.entry) self.entry) }
         ensures paid { result ≡ Err Fuel → ⊥ }
     {
         let reads = cells_read(alloc, &self.sight)?;
-        let path = job.path.copy(alloc)?;
-        let before = job.state.copy(alloc)?;
         let StepState {
-            sight: _,
+            sight,
             locals,
-            items,
+            mut items,
             cost,
         } = self;
-        let status = status_of(end, job.state.kind, at, locals);
-        Ok(Fresh::new(Frame {
-            path,
-            before,
+        let own = exact(alloc, &mut items)?;
+        room.put_back(sight.written, items);
+        let status = status_of(alloc, end, job.state.get().kind, at, locals)?;
+        let step = Record {
+            before: job.state.share()?,
             reads,
-            items,
+            items: own,
             status,
             cost,
-        }))
+        };
+        let step = Shared::new(alloc, step)?;
+        Ok(Fresh::new(Frame::new(job.path.share()?, step)))
     }
 }

@@ -5,6 +5,8 @@
 #[cfg(test)]
 mod copied_models;
 #[cfg(test)]
+mod durations_as_tokens;
+#[cfg(test)]
 mod edges;
 #[cfg(test)]
 mod lines_of_json;

@@ -12,7 +12,7 @@ use crate::beginnings::activity_state;
 use crate::ready_jobs::ReadyJobs;
 use aerie_base::{Fault, List, Model, OutOfMemory, Path, Shared, Value};
 use effect_cells::Cells;
-use run_data::{Frame, Item, Job, Status};
+use run_data::{Frame, Item, Job, Record, Status};
 use std::alloc::Global;
 
 /// Applies the effect that an item is; a child is none.
@@ -59,7 +59,7 @@ fn child(
     ensures { IfOk result (λ job. job ≡ child_job model.now maker.now number view.now kind arguments.now) }
 {
     let path = match maker.child(alloc, number)? {
-        Some(path) => path,
+        Some(path) => Shared::new(alloc, path)?,
         None => unreachable!(),
     };
     let state = activity_state(alloc, model, kind, arguments)?;
@@ -95,7 +95,7 @@ pub(super) fn with_children(
         let job = child(
             alloc,
             model,
-            &job.path,
+            job.path.get(),
             next,
             &view,
             *kind,
@@ -111,29 +111,29 @@ pub(super) fn with_children(
 fn deep_frame(
     alloc: Global,
     model: &Model,
-    maker: &Path,
+    maker: &Shared<Path>,
     kind: u16,
     arguments: &[Value],
 ) -> Result<Frame, OutOfMemory>
     ensures { IfOk result (λ frame. frame ≡ deep_frame maker.now (child_job model.now maker.now 0 [] kind arguments.now)) }
 {
-    let path = maker.copy(alloc)?;
     let before = activity_state(alloc, model, kind, arguments)?;
-    Ok(Frame {
-        path,
+    let step = Record {
         before,
         reads: List::new(alloc),
         items: List::new(alloc),
         status: Status::Faulted(Fault::TooDeep),
         cost: 0,
-    })
+    };
+    let step = Shared::new(alloc, step)?;
+    Ok(Frame::new(maker.share()?, step))
 }
 
 /// The frames of the children that items make, each under the path of its maker, which has no room for theirs.
 pub(super) fn deep_frames(
     alloc: Global,
     model: &Model,
-    maker: &Path,
+    maker: &Shared<Path>,
     items: &[Item],
 ) -> Result<Vec<Frame>, OutOfMemory>
     ensures { IfOk result (λ deep. deep.items ≡ deep_children model.now maker.now items.now) }

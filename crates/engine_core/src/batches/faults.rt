@@ -29,10 +29,10 @@ pub(super) fn first_fault(
     ensures { IfOk result (λ blame. blame ≡ first_fault frames.now) }
 {
     for frame in frames {
-        let Some(fault) = fault_in(&frame.status) else {
+        let Some(fault) = fault_in(frame.status()) else {
             continue;
         };
-        let path = frame.path.copy(alloc)?;
+        let path = frame.path().copy(alloc)?;
         return Ok(Some((path, fault)));
     }
     Ok(None)

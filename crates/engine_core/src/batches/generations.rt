@@ -26,7 +26,7 @@ pub(super) fn cost(frames: &[Frame]) -> u64
 {
     let mut sum: u64 = 0;
     for frame in frames {
-        sum = sum.saturating_add(frame.cost);
+        sum = sum.saturating_add(frame.cost());
     }
     sum
 }
@@ -45,12 +45,12 @@ fn add_frame(
     requires { IsSeenStep (number, job.now) frame }
     ensures { IfOk result (AddsFrame model.now (number, job.now) frame made.old.items made.new.items dues) }
 {
-    if job.path.children().len() < CHILD_LIMIT {
-        let all = with_children(alloc, model, job, number, frame.items.as_slice(), dues)?;
+    if job.path.get().children().len() < CHILD_LIMIT {
+        let all = with_children(alloc, model, job, number, frame.items().as_slice(), dues)?;
         made.push(frame)?;
         return Ok(all);
     }
-    let mut deep = deep_frames(alloc, model, &job.path, frame.items.as_slice())?;
+    let mut deep = deep_frames(alloc, model, &job.path, frame.items().as_slice())?;
     made.push(frame)?;
     made.append(&mut deep)?;
     Ok(dues)
@@ -84,7 +84,7 @@ fn have_room(jobs: &[Job]) -> bool
     ensures full { result ≡ false → HaveRoomForChildren jobs.now → ⊥ }
 {
     for job in jobs {
-        if job.path.children().len() >= CHILD_LIMIT {
+        if job.path.get().children().len() >= CHILD_LIMIT {
             return false;
         }
     }
@@ -120,7 +120,7 @@ fn add_all(
     let mut dues = ReadyJobs::new(alloc);
     for at in 0..jobs.len() {
         let job = &jobs.jobs()[at];
-        let items = frames.as_slice()[at].items.as_slice();
+        let items = frames.as_slice()[at].items().as_slice();
         dues = with_children(alloc, model, job, jobs.made(at), items, dues)?;
     }
     put_behind(made, frames)?;

@@ -11,7 +11,7 @@ use run_data::Frame;
 fn is_before(frame: &Frame, other: &Frame) -> bool
     ensures { result ≡ is_before frame.now other.now }
 {
-    frame.path < other.path
+    *frame.path() < *other.path()
 }
 
 /// Whether the frames stand in order of path.
@@ -35,6 +35,6 @@ pub(super) fn in_order(frames: Vec<Frame>) -> Result<Vec<Frame>, OutOfMemory>
         return Ok(frames);
     }
     let mut sorted = frames;
-    sorted.sort_by(|frame, other| frame.path.cmp(&other.path))?;
+    sorted.sort_by(|frame, other| frame.path().cmp(other.path()))?;
     Ok(sorted)
 }

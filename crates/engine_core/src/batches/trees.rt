@@ -22,7 +22,7 @@ use std::alloc::Global;
 fn is_before(frame: &Frame, path: &Path) -> bool
     ensures { result ≡ is_lt (path_cmp frame.now.path path.now) }
 {
-    frame.path < *path
+    *frame.path() < *path
 }
 
 /// The frame of a path, at a cost of as many comparisons as the number of frames has digits.
@@ -34,7 +34,7 @@ fn find<'a>(frames: &'a [Frame], path: &Path) -> Option<&'a Frame>
     let Some(frame) = frames.get(at) else {
         return None;
     };
-    if frame.path.is_same(path) {
+    if frame.path().is_same(path) {
         Some(frame)
     } else {
         None
@@ -57,7 +57,7 @@ fn parts(
     let Some(frame) = find(frames, path) else {
         return Ok(List::new(alloc));
     };
-    let items = frame.items.as_slice();
+    let items = frame.items().as_slice();
     let mut parts = List::with_capacity(alloc, items.len())?;
     let mut next = number;
     for item in items {
@@ -135,7 +135,7 @@ pub(super) fn tree(alloc: Global, frames: &[Frame], jobs: &ReadyJobs) -> Result<
 {
     let mut items = List::with_capacity(alloc, jobs.len())?;
     for at in 0..jobs.len() {
-        let path = &jobs.jobs()[at].path;
+        let path = jobs.jobs()[at].path.get();
         let parts = parts(alloc, frames, path, jobs.made(at))?;
         items.push(Part::Child(Tree { items: parts }))?;
     }

@@ -1,8 +1,7 @@
 -- What the marks of a text's tokens count are numbers.
-use Rattle.std.proofs.Common.{◌≡◌, ℕ, ◌*◌, ◌≤◌, Bool, true, false, List, [], ◌∷◌, take, drop, Option, Some, None, option_and_then, if◌then◌else◌, nat_eq, nat_le, refl, arith}
+use Rattle.std.proofs.Common.{◌≡◌, ℕ, ◌≤◌, ◌&&◌, Bool, true, false, List, [], ◌∷◌, length, drop, Some, None, if◌then◌else◌, nat_eq, nat_le, nat_lt, refl, arith}
 use Rattle.std.proofs.lemmas.Bool.{leb-true}
-use Rattle.std.specs.Str.Parse.{digits_value}
-use Rattle.aerie_base.specs.Durations.{duration_of, of_unit, unit_micros, digit_count}
+use Rattle.aerie_base.specs.Durations.{duration_len, duration_of, parts_micros, units}
 use Rattle.aerie_base.specs.Ranges.{number_limit, time_limit, time_of}
 use Rattle.aerie_text.specs.Cut.{IsTokenOf}
 use Rattle.aerie_text.specs.Marks.{AreTokensWithin, count_of, or_nothing, slice_of}
@@ -25,16 +24,12 @@ time_within micros = go (nat_le micros time_limit) refl
     go true e = leb-true micros time_limit e
     go false e = omega arith
 
-unit_within : (count : ℕ) (unit : Option ℕ) → or_nothing (option_and_then (λ micros. time_of (count * micros)) unit) ≤ time_limit
-unit_within count None = omega arith
-unit_within count (Some micros) = time_within (count * micros)
-
 duration_within : (text : List ℕ) → or_nothing (duration_of text) ≤ time_limit
-duration_within text = go (nat_eq (digit_count text) 0) (of_unit (digits_value 10 (take (digit_count text) text)) (drop (digit_count text) text)) (unit_within _ (unit_micros (drop (digit_count text) text)))
+duration_within text = go (nat_lt 0 (length text) && nat_eq (duration_len text) (length text)) (parts_micros units text)
   where
-    go : (b : Bool) (value : Option ℕ) → or_nothing value ≤ time_limit → or_nothing (if b then None else value) ≤ time_limit
-    go true value is = omega arith
-    go false value is = is
+    go : (b : Bool) (micros : ℕ) → or_nothing (if b then time_of micros else None) ≤ time_limit
+    go true micros = time_within micros
+    go false micros = omega arith
 
 -- ---- tokens
 

@@ -24,7 +24,7 @@ use Rattle.effect_cells.specs.declared.effects.Effect.TheVariants.{Add}
 use Rattle.run_data.specs.declared.tasks.BodyId.TheVariants as body
 use Rattle.run_data.specs.declared.tasks.TaskState.{TaskState}
 use Rattle.run_data.specs.declared.jobs.Job.{Job}
-use Rattle.run_data.specs.declared.frames.Frame.{Frame}
+use Rattle.run_data.specs.TaskFrames.{Frame}
 use Rattle.run_data.specs.declared.frames.Item.TheVariants as item
 use Rattle.run_data.specs.declared.frames.Status.TheVariants.{Delayed}
 use Rattle.run_data.specs.declared.steppers.Wave.TheVariants.{Frames, Spent}

@@ -16,7 +16,7 @@ use Rattle.aerie_base.specs.statements.Places.{left, lefts, size}
 use Rattle.effect_cells.specs.declared.effects.CellState.TheVariants as state
 use Rattle.effect_cells.specs.declared.trees.Part.TheBlock.{hidden-the_row-Part-0, shape-the_row-Part-0}
 use denote.Hole.Carrier.{hidden, shown, out}
-use Rattle.run_data.specs.declared.frames.Frame.{Frame}
+use Rattle.run_data.specs.TaskFrames.{Frame}
 use Rattle.run_data.specs.declared.runs.Instant.{Instant}
 use Rattle.run_data.specs.declared.runs.Run.{Run}
 use Rattle.run_data.specs.Frames.{made_by_all}

@@ -1,7 +1,7 @@
 -- When tasks have ended: by the paths of the open bodies, and by the frames of a batch.
 use Rattle.std.specs.Prelude.{◌≡◌, ◌↔◌, ℕ, Bool, true, false, IsTrue, List, ◌∷◌, Option, Some, None}
 use Rattle.aerie_base.specs.Paths.{is_prefix, AnyUnder}
-use Rattle.run_data.specs.declared.frames.Frame.{Frame}
+use Rattle.run_data.specs.TaskFrames.{Frame}
 use Rattle.run_data.specs.declared.frames.Status.{Status}
 use Rattle.run_data.specs.declared.frames.Status.TheVariants as status
 use Rattle.run_data.specs.Endings.{is_open, has_ended}

@@ -9,7 +9,7 @@ use Rattle.effect_cells.specs.declared.trees.Part.{Part, Emit, Child}
 use Rattle.effect_cells.specs.declared.trees.Tree.{Tree}
 use Rattle.effect_cells.specs.Cells.{committed_cells}
 use Rattle.run_data.specs.declared.jobs.Job.{Job}
-use Rattle.run_data.specs.declared.frames.Frame.{Frame}
+use Rattle.run_data.specs.TaskFrames.{Frame}
 use Rattle.run_data.specs.declared.frames.Item.{Item}
 use Rattle.run_data.specs.declared.frames.Item.TheVariants as item
 use Rattle.run_data.specs.Batches.{batch, committed, by_path, least_fault, touched_from, tree_of}

@@ -4,7 +4,7 @@ use Rattle.std.specs.Prelude.{◌≡◌, ℕ, suc, ◌+◌, ◌≤◌, List, map
 use Rattle.aerie_base.specs.Paths.{child_limit}
 use Rattle.aerie_base.specs.declared.models.model.Parts.{Parts}
 use Rattle.effect_cells.specs.declared.effects.CellState.{CellState}
-use Rattle.run_data.specs.declared.frames.Frame.{Frame}
+use Rattle.run_data.specs.TaskFrames.{Frame}
 use Rattle.run_data.specs.declared.jobs.Job.{Job}
 use Rattle.run_data.specs.declared.steppers.Wave.TheVariants.{Frames, Spent}
 use Rattle.run_data.specs.Batches.{limit, batch, cost_of}

@@ -1,7 +1,7 @@
 -- A generation by the frames that a wave of its jobs gives.
 use Rattle.std.specs.Prelude.{◌≡◌, ℕ, List, [], ◌∷◌, map, Option, Some, None}
 use Rattle.aerie_base.specs.declared.models.model.Parts.{Parts}
-use Rattle.run_data.specs.declared.frames.Frame.{Frame}
+use Rattle.run_data.specs.TaskFrames.{Frame}
 use Rattle.run_data.specs.Waves.{frames_of}
 use Rattle.run_data.specs.laws.Generations.{PendingStep, Generation, child_jobs, with_children, beside_generation, generation}
 

@@ -1,14 +1,11 @@
 -- Each job of a committed batch has its frame.
 use Rattle.std.proofs.Common.{◌≡◌, inl, inr, ℕ, zero, suc, ◌+◌, Bool, true, false, List, [], ◌∷◌, ◌++◌, Option, Some, None, nat_lt, if◌then◌else◌, refl, sym, ap, subst}
-use Rattle.std.specs.declared.cmp.Ordering.{Ordering}
-use Rattle.std.specs.declared.cmp.Ordering.TheVariants.{Less, Equal, Greater}
-use Rattle.aerie_base.specs.Paths.{path_cmp}
 use Rattle.aerie_base.specs.declared.models.model.Parts.{Parts}
 use Rattle.effect_cells.specs.declared.effects.CellState.{CellState}
 use Rattle.effect_cells.specs.Cells.{committed_cells, first_out}
-use Rattle.run_data.specs.declared.frames.Frame.{Frame}
+use Rattle.run_data.specs.TaskFrames.{Frame}
 use Rattle.run_data.specs.declared.jobs.Job.{Job}
-use Rattle.run_data.specs.Batches.{Batch, limit, failed, committed, Blame, unless_out, when_no_fault, when_within, judged, batch, by_path, put_by_path, in_front_unless_greater, cost_of, least_fault, tree_of}
+use Rattle.run_data.specs.Batches.{Batch, limit, failed, committed, Blame, unless_out, when_no_fault, when_within, judged, batch, by_path, cost_of, least_fault, tree_of}
 use Rattle.run_data.specs.Frames.{Made, Making, with_child, with_frame, frame_of, job_step, of_items, of_step, too_deep, made_within, made_by, made_by_all, room_of}
 use Rattle.run_data.specs.Steps.{Stepped}
 use Rattle.run_data.specs.laws.BatchFrames.{AnyFrame, HasPath}

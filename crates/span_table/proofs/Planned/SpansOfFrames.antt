@@ -11,7 +11,7 @@ use Rattle.aerie_base.specs.declared.models.model.Parts.{Parts}
 use Rattle.aerie_base.specs.models.Signatures.{parameter_kinds}
 use Rattle.aerie_base.specs.models.Values.{is_value_of}
 use Rattle.aerie_base.specs.plans.OfModel.{are_values_of, takes}
-use Rattle.run_data.specs.declared.frames.Frame.{Frame}
+use Rattle.run_data.specs.TaskFrames.{Frame}
 use Rattle.run_data.specs.declared.tasks.BodyId.{BodyId}
 use Rattle.run_data.specs.declared.tasks.BodyId.TheVariants as body
 use Rattle.run_data.specs.declared.runs.Run.{Run}

@@ -1,6 +1,6 @@
 -- All frames of the batch are judged.
 use Rattle.std.proofs.Common.{Vec, Global}
-use Rattle.run_data.specs.declared.frames.Frame.{Frame}
+use Rattle.run_data.specs.TaskFrames.{Frame}
 use Rattle.engine_core.proofs.BatchJudging.{due_jobs, all_made, no_frames, end_frugal, end_few_looks}
 use Rattle.engine_core.proofs.batches.run_batch.Goals as goal
 

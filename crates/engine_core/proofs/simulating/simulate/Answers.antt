@@ -3,7 +3,8 @@ use Rattle.std.proofs.lemmas.Bool.{eqb-false}
 use Rattle.engine_core.specs.EngineStates.{jobs_in}
 use Rattle.engine_core.proofs.BatchRuns.{ran_on}
 use Rattle.engine_core.proofs.CountedRuns.{counted_first, counted_on, counted_less, some_job}
-use Rattle.engine_core.proofs.RunCounts.{rose_not, ran_not}
+use Rattle.run_data.specs.Counts.{rose_not}
+use Rattle.engine_core.proofs.RunCounts.{ran_not}
 use Rattle.engine_core.proofs.simulating.simulate.Goals as goal
 
 pub returns-in_err-engine-clause-opened : goal.returns-in_err-engine-clause-opened

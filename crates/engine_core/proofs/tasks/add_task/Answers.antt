@@ -1,4 +1,4 @@
-use Rattle.std.proofs.Common.{◌∙◌, ◌&&◌, ◌||◌, ℕ, None, ap, sym, subst, nat_eq, arith}
+use Rattle.std.proofs.Common.{◌∙◌, ◌&&◌, ◌||◌, ℕ, List, None, ap, sym, subst, nat_eq, arith}
 use Rattle.engine_core.specs.Indexes.{SayOf, SayChanged}
 use Rattle.engine_core.specs.TasksByNumber.{has_number}
 use Rattle.engine_core.specs.Times.{put_at}
@@ -15,7 +15,8 @@ put-requires c =
 pub put-requires-2 : goal.put-requires-2
 put-requires-2 c =
     let old = c.args.tables.now in
-    subst (λ (s : IndexEntry). SayOf c.args.path c.len-number.result s old.indexes) (sym c.none-none.ensures) (says_none old c.requires.before c.args.path c.len-number.result c.requires.none c.len-number.ensures.len)
+    subst (λ (p : List ℕ). SayOf p c.len-number.result c.none-none.result old.indexes) (sym c.get.ensures)
+    (subst (λ (s : IndexEntry). SayOf c.args.path c.len-number.result s old.indexes) (sym c.none-none.ensures) (says_none old c.requires.before c.args.path c.len-number.result c.requires.none c.len-number.ensures.len))
 
 pub returns-clause-wakes : goal.returns-clause-wakes
 returns-clause-wakes c =
@@ -28,7 +29,7 @@ returns-clause-after c =
     in_step old (record { tasks = c.insert.new.self; indexes = c.put-2.new.self; waits = c.put.new.self }) c.args.path c.args.task c.len-number.result c.requires.before
     (c.len-number.ensures.len ∙ sym (number_of_none old.tasks.entries c.args.path c.requires.none))
     c.in_ok-insert.ensures.entries c.in_ok-put.ensures.wakes c.requires.path
-    (subst (λ (s : IndexEntry). SayChanged c.args.path c.len-number.result s old.indexes c.put-2.new.self) c.of-index_entry.ensures c.in_ok-put-2.ensures)
+    (subst (λ (s : IndexEntry). SayChanged c.args.path c.len-number.result s old.indexes c.put-2.new.self) c.of-index_entry.ensures (rw c.get.ensures at c.in_ok-put-2.ensures))
 
 pub returns-clause-kept : goal.returns-clause-kept
 returns-clause-kept c =

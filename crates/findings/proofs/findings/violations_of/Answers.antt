@@ -1,6 +1,6 @@
 -- The violations are found in order.
 use Rattle.constraints.specs.Violating.{violations_of}
-use Rattle.findings.proofs.InOrder.{made_of}
+use Rattle.profiles.specs.InOrder.{made_of}
 use Rattle.findings.proofs.findings.violations_of.Goals as goal
 
 pub loop-constraint-preserved : goal.loop-constraint-preserved

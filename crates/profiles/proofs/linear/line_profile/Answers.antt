@@ -1,5 +1,6 @@
-use Rattle.std.proofs.Common.{◌≡◌, ℕ, ◌-◌, ◌<◌, ◌≤◌, Bool, cond, ◌&&◌, List, [], ◌∷◌, ◌++◌, length, map, sym, ap, subst, ◌∙◌, arith, All}
+use Rattle.std.proofs.Common.{◌≡◌, ℕ, ◌+◌, ◌-◌, ◌<◌, ◌≤◌, Bool, cond, ◌&&◌, List, [], ◌∷◌, ◌++◌, length, map, drop, get_or, refl, sym, ap, subst, ◌∙◌, arith, All}
 use Rattle.std.specs.Ordering.{int_eq}
+use Rattle.std.proofs.lemmas.List.{drop_all}
 use Rattle.std.proofs.lemmas.Bool.{ltb-true, ltb-false, eqb-true}
 use Rattle.effect_cells.specs.Cells.{initial}
 use Rattle.run_data.specs.declared.runs.Instant.{Instant}
@@ -11,8 +12,10 @@ use Rattle.profiles.specs.Followed.{ChangesRise}
 use Rattle.profiles.specs.Segments.{line_segments}
 use Rattle.profiles.specs.Watching.{advanced, summed_line, watched_on, IsWatchable}
 use Rattle.profiles.proofs.Terms.{form_of, all_watchable, watched_few}
-use Rattle.profiles.proofs.Walks.{cut_at, first_cut, nothing_reached, none_below, past_reach, no_more_left, some_there, initial_in_range}
-use Rattle.profiles.proofs.LineWalks.{LineWalk, sums, rates, same_walk, walk_watchable, walk_few, next_watchable, walk_next, walk_ends, first_watchable, walk_starts}
+use Rattle.profiles.specs.Touches.{CoversTouches, IsReadBy}
+use Rattle.profiles.proofs.Positions.{StandsBefore, at_end, covered_there, covers_behind_first, got, walk_there, within_all}
+use Rattle.profiles.proofs.Walks.{first_cut, nothing_reached, none_below, past_reach, some_there, initial_in_range}
+use Rattle.profiles.proofs.LineWalks.{LineWalk, sums, rates, same_walk, walk_watchable, walk_few, walk_still, next_watchable, walk_next, walk_ends, first_watchable, walk_starts}
 use Rattle.profiles.proofs.linear.line_profile.Goals as goal
 
 pub returns-then-is_empty : goal.returns-then-is_empty
@@ -26,9 +29,9 @@ pub returns-then-not-is_before : goal.returns-then-not-is_before
 returns-then-not-is_before c =
     let run = c.args.run.now in
     let some : 0 < length c.as_slice-instants.result.now = some_there _ (sym c.is_empty.ensures ∙ c.if-is_empty.false) in
-    let is = first_cut run.instants c.as_slice-instants.result.now c.index-instants-0.result c.as_slice-instants.ensures some c.index-instants-0.is in
-    let past : run.reach ≤ c.index-instants-0.result.time = ltb-false _ _ (sym c.is_before.ensures ∙ c.if-not-is_before.true) in
-    let reach : run.reach ≡ 0 = none_below run.instants _ c.index-instants-0.result run.reach is c.can_be_followed.ensures.rise past in
+    let is = first_cut run.instants c.as_slice-instants.result.now c.instant_at-first.result.now c.as_slice-instants.ensures some (got _ 0 _ c.instant_at-first.ensures) in
+    let past : run.reach ≤ c.instant_at-first.result.now.time = ltb-false _ _ (sym c.is_before.ensures ∙ c.if-not-is_before.true) in
+    let reach : run.reach ≡ 0 = none_below run.instants _ c.instant_at-first.result.now run.reach is c.can_be_followed.ensures.rise past in
     c.new-segments.ensures ∙ ap (line_segments (sums c.args.model.now run c.args.form.now) (rates c.args.model.now run c.args.form.now)) (sym reach)
 
 pub line_after-line-requires-clause-watched : goal.line_after-line-requires-clause-watched
@@ -48,30 +51,31 @@ line_after-line-requires-clause-few c =
 pub line_after-line-requires-clause-rise : goal.line_after-line-requires-clause-rise
 line_after-line-requires-clause-rise c =
     let some : 0 < length c.as_slice-instants.result.now = some_there _ (sym c.is_empty.ensures ∙ c.if-is_empty.false) in
-    let is = first_cut c.args.run.now.instants c.as_slice-instants.result.now c.index-instants-0.result c.as_slice-instants.ensures some c.index-instants-0.is in
+    let is = first_cut c.args.run.now.instants c.as_slice-instants.result.now c.instant_at-first.result.now c.as_slice-instants.ensures some (got _ 0 _ c.instant_at-first.ensures) in
     (subst ChangesRise is c.can_be_followed.ensures.instants.changes).0
 
 pub line_after-line-requires-clause-settled : goal.line_after-line-requires-clause-settled
 line_after-line-requires-clause-settled c =
     let model = c.args.model.now in
-    let first = c.index-instants-0.result in
+    let first = c.instant_at-first.result.now in
     let items : c.in_ok-watched.watched.items ≡ watched_on (initial model) c.args.form.now.terms = c.in_ok-watched.ensures ∙ ap (watched_on (initial model)) c.as_slice.ensures in
     let some : 0 < length c.as_slice-instants.result.now = some_there _ (sym c.is_empty.ensures ∙ c.if-is_empty.false) in
-    let is = first_cut c.args.run.now.instants c.as_slice-instants.result.now first c.as_slice-instants.ensures some c.index-instants-0.is in
-    let below : c.index-instants-0.result.time < c.args.run.now.reach = ltb-true _ _ (sym c.is_before.ensures ∙ c.if-not-is_before.false) in
-    subst (λ (n : ℕ). All IsWatchable (map (advanced (c.index-instants-0.result.time - n) c.index-instants-0.result.changed) c.in_ok-watched.watched.items)) (sym c.zero.ensures)
-    (subst (λ (w : List Watched). All IsWatchable (map (advanced (c.index-instants-0.result.time - 0) c.index-instants-0.result.changed) w)) (sym items)
+    let is = first_cut c.args.run.now.instants c.as_slice-instants.result.now first c.as_slice-instants.ensures some (got _ 0 _ c.instant_at-first.ensures) in
+    let below : c.instant_at-first.result.now.time < c.args.run.now.reach = ltb-true _ _ (sym c.is_before.ensures ∙ c.if-not-is_before.false) in
+    subst (λ (n : ℕ). All IsWatchable (map (advanced (c.instant_at-first.result.now.time - n) c.instant_at-first.result.now.changed) c.in_ok-watched.watched.items)) (sym c.zero.ensures)
+    (subst (λ (w : List Watched). All IsWatchable (map (advanced (c.instant_at-first.result.now.time - 0) c.instant_at-first.result.now.changed) w)) (sym items)
     (first_watchable model c.args.run.now c.args.form.now (form_of model.cells c.args.form.now c.requires.form) first _ is c.can_be_followed.ensures.rise
     c.can_be_followed.ensures.instants.changes below c.can_be_followed.ensures.in_range))
 
-pub loop-at-init : goal.loop-at-init
-loop-at-init c =
+pub loop-position-init : goal.loop-position-init
+loop-position-init c =
     let model = c.args.model.now in
-    let first : Instant = c.index-instants-0.result in
+    let first : Instant = c.instant_at-first.result.now in
     let terms : List Term = c.args.form.now.terms in
+    let instants = c.as_slice-instants.result.now in
     let items : c.in_ok-watched.watched.items ≡ watched_on (initial model) terms = c.in_ok-watched.ensures ∙ ap (watched_on (initial model)) c.as_slice.ensures in
     let some : 0 < length c.as_slice-instants.result.now = some_there _ (sym c.is_empty.ensures ∙ c.if-is_empty.false) in
-    let is = first_cut c.args.run.now.instants c.as_slice-instants.result.now first c.as_slice-instants.ensures some c.index-instants-0.is in
+    let is = first_cut c.args.run.now.instants c.as_slice-instants.result.now first c.as_slice-instants.ensures some (got _ 0 _ c.instant_at-first.ensures) in
     let below : first.time < c.args.run.now.reach = ltb-true _ _ (sym c.is_before.ensures ∙ c.if-not-is_before.false) in
     let moved : c.line_after-line.new.watched.items ≡ map (advanced (first.time - 0) first.changed) (watched_on (initial model) terms) =
     c.line_after-line.ensures.watched
@@ -84,78 +88,203 @@ loop-at-init c =
     let segments : c.put.new.segments ≡ summed_line first.time (map (advanced (first.time - 0) first.changed) (watched_on (initial model) terms)) ∷ [] =
     c.in_ok-put.ensures ∙ (ap (λ (l : List Segment). l ++ c.line_after-line.result ∷ []) c.new-segments.ensures ∙ ap (λ (l : Segment). l ∷ []) line) in
     record {
-      walk =
-          same_walk model c.args.run.now c.args.form.now _ _ _ _ _ _ _ moved line segments
-          (walk_starts model c.args.run.now c.args.form.now (form_of model.cells c.args.form.now c.requires.form) first _ is c.can_be_followed.ensures.rise
-          c.can_be_followed.ensures.instants.changes below);
+      walk = record {
+        at = 1;
+        walk =
+            same_walk model c.args.run.now c.args.form.now _ _ _ _ _ _ _ moved line segments
+            (walk_starts model c.args.run.now c.args.form.now (form_of model.cells c.args.form.now c.requires.form) first _ is c.can_be_followed.ensures.rise
+            c.can_be_followed.ensures.instants.changes below);
+        covered =
+            subst (CoversTouches (IsReadBy terms) 1 (drop 1 instants)) (sym c.behind_first-position-items.ensures)
+            (covers_behind_first (IsReadBy terms) first (drop 1 instants) c.args.positions.now
+            (subst (λ (l : List Instant). CoversTouches (IsReadBy terms) 0 l c.args.positions.now) is c.requires.positions));
+      };
       small = c.line_after-line.ensures.small;
     }
 
+pub instant_at-instant-requires : goal.instant_at-instant-requires
+instant_at-instant-requires c =
+    let known = form_of c.args.model.now.cells c.args.form.now c.requires.form in
+    within_all (λ rest. LineWalk c.args.model.now c.args.run.now c.args.form.now rest c.loop-position.watched.items c.loop-position.line c.loop-position.segments) (IsReadBy c.args.form.now.terms)
+    (λ instant rest. walk_still c.args.model.now c.args.run.now c.args.form.now known instant rest c.loop-position.watched.items c.loop-position.line c.loop-position.segments)
+    c.as_slice-instants.result.now c.behind_first-position-items.result.now c.loop-position.position-index c.loop-position-test.true
+    c.loop-position.invariant.walk
+
 pub returns-then-not-is_before-2 : goal.returns-then-not-is_before-2
 returns-then-not-is_before-2 c =
-    walk_ends c.args.model.now c.args.run.now c.args.form.now (form_of c.args.model.now.cells c.args.form.now c.requires.form) _ _ c.loop-at.line c.loop-at.segments
-    (past_reach c.args.run.now.reach c.index-instants-at.result _ _ (cut_at c.as_slice-instants.result.now c.loop-at.at c.index-instants-at.result c.loop-at-test.true c.index-instants-at.is)
-    (ltb-false _ _ (sym c.is_before-in-loop-at.ensures ∙ c.if-not-is_before-2.true)))
-    c.loop-at.invariant.walk
-
-pub line_after-next-requires-clause-watched : goal.line_after-next-requires-clause-watched
-line_after-next-requires-clause-watched c =
-    walk_watchable c.args.model.now c.args.run.now c.args.form.now (form_of c.args.model.now.cells c.args.form.now c.requires.form) _ _ c.loop-at.line c.loop-at.segments
-    c.can_be_followed.ensures.in_range c.loop-at.invariant.walk
-
-pub line_after-next-requires-clause-few : goal.line_after-next-requires-clause-few
-line_after-next-requires-clause-few c =
-    walk_few c.args.model.now c.args.run.now c.args.form.now (form_of c.args.model.now.cells c.args.form.now c.requires.form) _ _ c.loop-at.line c.loop-at.segments c.loop-at.invariant.walk
+    let model = c.args.model.now in
+    let run = c.args.run.now in
+    let form = c.args.form.now in
+    let known = form_of model.cells form c.requires.form in
+    let instants = c.as_slice-instants.result.now in
+    let items = c.behind_first-position-items.result.now in
+    let i = c.loop-position.position-index in
+    let position = get_or items i 0 in
+    let instant : Instant = c.instant_at-instant.result.now in
+    let old : Segment = c.loop-position.line in
+    let walk : LineWalk model run form (instant ∷ drop (position + 1) instants) c.loop-position.watched.items old c.loop-position.segments =
+    walk_there (λ rest. LineWalk model run form rest c.loop-position.watched.items old c.loop-position.segments) (IsReadBy form.terms)
+    (λ instant rest. walk_still model run form known instant rest c.loop-position.watched.items old c.loop-position.segments) instants items i
+    c.loop-position-test.true c.loop-position.invariant.walk instant c.instant_at-instant.ensures in
+    walk_ends model run form known _ _ old c.loop-position.segments
+    (past_reach run.reach instant (drop (position + 1) instants) (instant ∷ drop (position + 1) instants) refl (ltb-false _ _ (sym c.is_before-in-loop-position.ensures ∙ c.if-not-is_before-2.true)))
+    walk
 
 pub line_after-next-requires-clause-time : goal.line_after-next-requires-clause-time
 line_after-next-requires-clause-time c =
-    let cut = cut_at c.as_slice-instants.result.now c.loop-at.at c.index-instants-at.result c.loop-at-test.true c.index-instants-at.is in
-    let walk = subst (λ (l : List Instant). LineWalk c.args.model.now c.args.run.now c.args.form.now l c.loop-at.watched.items c.loop-at.line c.loop-at.segments) cut c.loop-at.invariant.walk in
+    let model = c.args.model.now in
+    let run = c.args.run.now in
+    let form = c.args.form.now in
+    let known = form_of model.cells form c.requires.form in
+    let instants = c.as_slice-instants.result.now in
+    let items = c.behind_first-position-items.result.now in
+    let i = c.loop-position.position-index in
+    let position = get_or items i 0 in
+    let instant : Instant = c.instant_at-instant.result.now in
+    let old : Segment = c.loop-position.line in
+    let walk : LineWalk model run form (instant ∷ drop (position + 1) instants) c.loop-position.watched.items old c.loop-position.segments =
+    walk_there (λ rest. LineWalk model run form rest c.loop-position.watched.items old c.loop-position.segments) (IsReadBy form.terms)
+    (λ instant rest. walk_still model run form known instant rest c.loop-position.watched.items old c.loop-position.segments) instants items i
+    c.loop-position-test.true c.loop-position.invariant.walk instant c.instant_at-instant.ensures in
     omega (arith, walk.at.rise.0)
+
+pub line_after-next-requires-clause-watched : goal.line_after-next-requires-clause-watched
+line_after-next-requires-clause-watched c =
+    let model = c.args.model.now in
+    let run = c.args.run.now in
+    let form = c.args.form.now in
+    let known = form_of model.cells form c.requires.form in
+    let instants = c.as_slice-instants.result.now in
+    let items = c.behind_first-position-items.result.now in
+    let i = c.loop-position.position-index in
+    let position = get_or items i 0 in
+    let instant : Instant = c.instant_at-instant.result.now in
+    let old : Segment = c.loop-position.line in
+    let walk : LineWalk model run form (instant ∷ drop (position + 1) instants) c.loop-position.watched.items old c.loop-position.segments =
+    walk_there (λ rest. LineWalk model run form rest c.loop-position.watched.items old c.loop-position.segments) (IsReadBy form.terms)
+    (λ instant rest. walk_still model run form known instant rest c.loop-position.watched.items old c.loop-position.segments) instants items i
+    c.loop-position-test.true c.loop-position.invariant.walk instant c.instant_at-instant.ensures in
+    walk_watchable model run form known _ _ old c.loop-position.segments c.can_be_followed.ensures.in_range walk
+
+pub line_after-next-requires-clause-few : goal.line_after-next-requires-clause-few
+line_after-next-requires-clause-few c =
+    let model = c.args.model.now in
+    let run = c.args.run.now in
+    let form = c.args.form.now in
+    let known = form_of model.cells form c.requires.form in
+    let instants = c.as_slice-instants.result.now in
+    let items = c.behind_first-position-items.result.now in
+    let i = c.loop-position.position-index in
+    let position = get_or items i 0 in
+    let instant : Instant = c.instant_at-instant.result.now in
+    let old : Segment = c.loop-position.line in
+    let walk : LineWalk model run form (instant ∷ drop (position + 1) instants) c.loop-position.watched.items old c.loop-position.segments =
+    walk_there (λ rest. LineWalk model run form rest c.loop-position.watched.items old c.loop-position.segments) (IsReadBy form.terms)
+    (λ instant rest. walk_still model run form known instant rest c.loop-position.watched.items old c.loop-position.segments) instants items i
+    c.loop-position-test.true c.loop-position.invariant.walk instant c.instant_at-instant.ensures in
+    walk_few model run form known _ _ old c.loop-position.segments walk
 
 pub line_after-next-requires-clause-rise : goal.line_after-next-requires-clause-rise
 line_after-next-requires-clause-rise c =
-    let cut = cut_at c.as_slice-instants.result.now c.loop-at.at c.index-instants-at.result c.loop-at-test.true c.index-instants-at.is in
-    let walk = subst (λ (l : List Instant). LineWalk c.args.model.now c.args.run.now c.args.form.now l c.loop-at.watched.items c.loop-at.line c.loop-at.segments) cut c.loop-at.invariant.walk in
+    let model = c.args.model.now in
+    let run = c.args.run.now in
+    let form = c.args.form.now in
+    let known = form_of model.cells form c.requires.form in
+    let instants = c.as_slice-instants.result.now in
+    let items = c.behind_first-position-items.result.now in
+    let i = c.loop-position.position-index in
+    let position = get_or items i 0 in
+    let instant : Instant = c.instant_at-instant.result.now in
+    let old : Segment = c.loop-position.line in
+    let walk : LineWalk model run form (instant ∷ drop (position + 1) instants) c.loop-position.watched.items old c.loop-position.segments =
+    walk_there (λ rest. LineWalk model run form rest c.loop-position.watched.items old c.loop-position.segments) (IsReadBy form.terms)
+    (λ instant rest. walk_still model run form known instant rest c.loop-position.watched.items old c.loop-position.segments) instants items i
+    c.loop-position-test.true c.loop-position.invariant.walk instant c.instant_at-instant.ensures in
     walk.at.changes.0
 
 pub line_after-next-requires-clause-settled : goal.line_after-next-requires-clause-settled
 line_after-next-requires-clause-settled c =
-    let cut = cut_at c.as_slice-instants.result.now c.loop-at.at c.index-instants-at.result c.loop-at-test.true c.index-instants-at.is in
-    let walk = subst (λ (l : List Instant). LineWalk c.args.model.now c.args.run.now c.args.form.now l c.loop-at.watched.items c.loop-at.line c.loop-at.segments) cut c.loop-at.invariant.walk in
-    let below : c.index-instants-at.result.time < c.args.run.now.reach = ltb-true _ _ (sym c.is_before-in-loop-at.ensures ∙ c.if-not-is_before-2.false) in
-    next_watchable c.args.model.now c.args.run.now c.args.form.now (form_of c.args.model.now.cells c.args.form.now c.requires.form) c.index-instants-at.result _ c.loop-at.watched.items c.loop-at.line
-    c.loop-at.segments walk c.can_be_followed.ensures.in_range below
+    let model = c.args.model.now in
+    let run = c.args.run.now in
+    let form = c.args.form.now in
+    let known = form_of model.cells form c.requires.form in
+    let instants = c.as_slice-instants.result.now in
+    let items = c.behind_first-position-items.result.now in
+    let i = c.loop-position.position-index in
+    let position = get_or items i 0 in
+    let instant : Instant = c.instant_at-instant.result.now in
+    let old : Segment = c.loop-position.line in
+    let walk : LineWalk model run form (instant ∷ drop (position + 1) instants) c.loop-position.watched.items old c.loop-position.segments =
+    walk_there (λ rest. LineWalk model run form rest c.loop-position.watched.items old c.loop-position.segments) (IsReadBy form.terms)
+    (λ instant rest. walk_still model run form known instant rest c.loop-position.watched.items old c.loop-position.segments) instants items i
+    c.loop-position-test.true c.loop-position.invariant.walk instant c.instant_at-instant.ensures in
+    let below : instant.time < run.reach = ltb-true _ _ (sym c.is_before-in-loop-position.ensures ∙ c.if-not-is_before-2.false) in
+    next_watchable model run form known instant _ c.loop-position.watched.items old c.loop-position.segments walk c.can_be_followed.ensures.in_range below
 
 pub continues-requires-clause-time : goal.continues-requires-clause-time
 continues-requires-clause-time c =
-    let cut = cut_at c.as_slice-instants.result.now c.loop-at.at c.index-instants-at.result c.loop-at-test.true c.index-instants-at.is in
-    let walk = subst (λ (l : List Instant). LineWalk c.args.model.now c.args.run.now c.args.form.now l c.loop-at.watched.items c.loop-at.line c.loop-at.segments) cut c.loop-at.invariant.walk in
-    let from : c.line_after-next.result.from ≡ c.index-instants-at.result.time = ap (λ (l : Segment). l.from) c.line_after-next.ensures.line in
+    let model = c.args.model.now in
+    let run = c.args.run.now in
+    let form = c.args.form.now in
+    let known = form_of model.cells form c.requires.form in
+    let instants = c.as_slice-instants.result.now in
+    let items = c.behind_first-position-items.result.now in
+    let i = c.loop-position.position-index in
+    let position = get_or items i 0 in
+    let instant : Instant = c.instant_at-instant.result.now in
+    let old : Segment = c.loop-position.line in
+    let walk : LineWalk model run form (instant ∷ drop (position + 1) instants) c.loop-position.watched.items old c.loop-position.segments =
+    walk_there (λ rest. LineWalk model run form rest c.loop-position.watched.items old c.loop-position.segments) (IsReadBy form.terms)
+    (λ instant rest. walk_still model run form known instant rest c.loop-position.watched.items old c.loop-position.segments) instants items i
+    c.loop-position-test.true c.loop-position.invariant.walk instant c.instant_at-instant.ensures in
+    let from : c.line_after-next.result.from ≡ instant.time = ap (λ (l : Segment). l.from) c.line_after-next.ensures.line in
     omega (arith, walk.at.rise.0, from)
 
-pub loop-at-preserved : goal.loop-at-preserved
-loop-at-preserved c =
-    let instant : Instant = c.index-instants-at.result in
-    let old : Segment = c.loop-at.line in
-    let cut = cut_at c.as_slice-instants.result.now c.loop-at.at c.index-instants-at.result c.loop-at-test.true c.index-instants-at.is in
-    let walk = subst (λ (l : List Instant). LineWalk c.args.model.now c.args.run.now c.args.form.now l c.loop-at.watched.items c.loop-at.line c.loop-at.segments) cut c.loop-at.invariant.walk in
-    let below : instant.time < c.args.run.now.reach = ltb-true _ _ (sym c.is_before-in-loop-at.ensures ∙ c.if-not-is_before-2.false) in
-    let next : Segment = summed_line instant.time (map (advanced (instant.time - old.from) instant.changed) c.loop-at.watched.items) in
-    let segments : c.put-in-loop-at.new.segments ≡ c.loop-at.segments ++ cond (int_eq (segment_value old instant.time) next.value && int_eq old.rate next.rate) [] (next ∷ []) =
+pub loop-position-preserved : goal.loop-position-preserved
+loop-position-preserved c =
+    let model = c.args.model.now in
+    let run = c.args.run.now in
+    let form = c.args.form.now in
+    let known = form_of model.cells form c.requires.form in
+    let instants = c.as_slice-instants.result.now in
+    let items = c.behind_first-position-items.result.now in
+    let i = c.loop-position.position-index in
+    let position = get_or items i 0 in
+    let instant : Instant = c.instant_at-instant.result.now in
+    let old : Segment = c.loop-position.line in
+    let walk : LineWalk model run form (instant ∷ drop (position + 1) instants) c.loop-position.watched.items old c.loop-position.segments =
+    walk_there (λ rest. LineWalk model run form rest c.loop-position.watched.items old c.loop-position.segments) (IsReadBy form.terms)
+    (λ instant rest. walk_still model run form known instant rest c.loop-position.watched.items old c.loop-position.segments) instants items i
+    c.loop-position-test.true c.loop-position.invariant.walk instant c.instant_at-instant.ensures in
+    let below : instant.time < run.reach = ltb-true _ _ (sym c.is_before-in-loop-position.ensures ∙ c.if-not-is_before-2.false) in
+    let next : Segment = summed_line instant.time (map (advanced (instant.time - old.from) instant.changed) c.loop-position.watched.items) in
+    let segments : c.put-in-loop-position.new.segments ≡ c.loop-position.segments ++ cond (int_eq (segment_value old instant.time) next.value && int_eq old.rate next.rate) [] (next ∷ []) =
     c.in_ok-put-2.ensures
-    ∙ (ap (λ (b : Bool). c.loop-at.segments ++ cond b [] (c.line_after-next.result ∷ [])) c.continues.ensures
-    ∙ ap (λ (l : Segment). c.loop-at.segments ++ cond (int_eq (segment_value old l.from) l.value && int_eq old.rate l.rate) [] (l ∷ [])) c.line_after-next.ensures.line) in
+    ∙ (ap (λ (b : Bool). c.loop-position.segments ++ cond b [] (c.line_after-next.result ∷ [])) c.continues.ensures
+    ∙ ap (λ (l : Segment). c.loop-position.segments ++ cond (int_eq (segment_value old l.from) l.value && int_eq old.rate l.rate) [] (l ∷ [])) c.line_after-next.ensures.line) in
     record {
-      walk =
-          same_walk c.args.model.now c.args.run.now c.args.form.now _ _ _ _ _ _ _ c.line_after-next.ensures.watched c.line_after-next.ensures.line segments
-          (walk_next c.args.model.now c.args.run.now c.args.form.now (form_of c.args.model.now.cells c.args.form.now c.requires.form) instant _ c.loop-at.watched.items old
-          c.loop-at.segments walk below);
+      walk = record {
+        at = position + 1;
+        walk =
+            same_walk model run form _ _ _ _ _ _ _ c.line_after-next.ensures.watched c.line_after-next.ensures.line segments
+            (walk_next model run form known instant _ c.loop-position.watched.items old c.loop-position.segments walk below);
+        covered =
+            covered_there (λ rest. LineWalk model run form rest c.loop-position.watched.items old c.loop-position.segments) (IsReadBy form.terms)
+            (λ instant rest. walk_still model run form known instant rest c.loop-position.watched.items old c.loop-position.segments) instants items i
+            c.loop-position-test.true c.loop-position.invariant.walk;
+      };
       small = c.line_after-next.ensures.small;
     }
 
 pub returns : goal.returns
 returns c =
-    walk_ends c.args.model.now c.args.run.now c.args.form.now (form_of c.args.model.now.cells c.args.form.now c.requires.form) _ _ c.loop-at.line c.loop-at.segments
-    (no_more_left c.as_slice-instants.result.now c.loop-at.at c.loop-at-test.false c.args.run.now.reach)
-    c.loop-at.invariant.walk
+    let model = c.args.model.now in
+    let run = c.args.run.now in
+    let form = c.args.form.now in
+    let known = form_of model.cells form c.requires.form in
+    let items = c.behind_first-position-items.result.now in
+    walk_ends model run form known [] c.loop-position.watched.items c.loop-position.line c.loop-position.segments (λ t below. tt)
+    (at_end (λ rest. LineWalk model run form rest c.loop-position.watched.items c.loop-position.line c.loop-position.segments) (IsReadBy form.terms)
+    (λ instant rest. walk_still model run form known instant rest c.loop-position.watched.items c.loop-position.line c.loop-position.segments) c.as_slice-instants.result.now
+    (subst (StandsBefore (λ rest. LineWalk model run form rest c.loop-position.watched.items c.loop-position.line c.loop-position.segments) (IsReadBy form.terms) c.as_slice-instants.result.now)
+    (drop_all c.loop-position.position-index items c.loop-position-test.false) c.loop-position.invariant.walk))

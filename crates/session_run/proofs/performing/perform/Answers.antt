@@ -61,7 +61,7 @@ returns g c =
     let is : c.gather.new.pass ≡ joined_with_all (split_often (length c.args.judged.now.session.clients) (first_pass c.in_ok-lock.lock)) (passes_of c.in_ok-dones.dones.items) =
     c.in_ok-texts.ensures.joined ∙ ap (λ (p : PassView). joined_with_all p (passes_of c.in_ok-dones.dones.items))
     (c.in_ok-works.ensures.left ∙ ap (λ (clients : List Client). split_often (length clients) (first_pass c.in_ok-lock.lock)) c.as_slice-clients.ensures) in
-    IfOk-weaker c.whole_text.result _ _ (λ text told.
+    IfOk-weaker c.last_text.result _ _ (λ text told.
     performed c.args.judged.now c.args.bound c.args.stats c.in_ok-lock.lock c.in_ok-works.works.items c.in_ok-dones.dones.items (map string_bytes c.in_ok-texts.texts.items)
     (subst (λ (clients : List Client). AreWorksOf c.in_ok-lock.lock (length clients) c.in_ok-works.works.items) c.as_slice-clients.ensures c.in_ok-works.ensures.works)
     (subst (λ (mission : Mission). AreDone mission c.args.judged.now.session.clients c.in_ok-works.works.items c.in_ok-dones.dones.items) c.in_ok-mission.ensures
@@ -71,4 +71,4 @@ returns g c =
     c.close-journal.result.1 (string_bytes text) c.close-journal.ensures.right c.close-journal.ensures.all
     (subst (λ (w : Workspace). IsReplay w c.close-journal.result.1) opened c.close-journal.ensures.past.replayed)
     (told ∙ ap (λ (texts : List (String Global)). line_of (journal_data c.close-journal.result.1) ++ joined_texts (map string_bytes texts)) c.as_slice.ensures.value))
-    c.whole_text.ensures
+    c.last_text.ensures

@@ -33,11 +33,11 @@ returns-clause-performed g c =
     c.in_ok-mission.ensures
     (subst (λ (clients : List Client). HasDoneRounds c.in_ok-mission.mission clients c.in_ok-lock.pass c.take_rounds.new.pass (map string_bytes c.in_ok-texts.texts.items))
     c.as_slice-clients.ensures c.in_ok-texts.ensures.taken) in
-    IfOk-weaker c.whole_text.result _ _ (λ text whole.
+    IfOk-weaker c.last_text.result _ _ (λ text whole.
     finished c.args.judged.now c.args.bound c.args.stats c.commands_are_done.ensures.few c.in_ok-lock.pass c.take_rounds.new.pass c.close-journal.result.1
     (map string_bytes c.in_ok-texts.texts.items) (string_bytes text)
     (ap (λ (p : PassView). p.mine) c.in_ok-lock.ensures.first) (ap (λ (p : PassView). p.seen) c.in_ok-lock.ensures.first)
     done c.close-journal.ensures.right c.close-journal.ensures.all
     (subst (λ (w : Workspace). IsReplay w c.close-journal.result.1) opened c.close-journal.ensures.past.replayed)
     (whole ∙ ap (λ (texts : List (String Global)). line_of (journal_data c.close-journal.result.1) ++ joined_texts (map string_bytes texts)) c.as_slice.ensures.value))
-    c.whole_text.ensures
+    c.last_text.ensures

@@ -1,9 +1,10 @@
 -- Each job more has the frame that it has with the whole fuel, or passes what is left and so the fuel.
 use Rattle.std.proofs.Common.{◌+◌, ◌≤◌, ◌∙◌, ap, arith, Option}
-use Rattle.run_data.specs.declared.frames.Frame.{Frame}
+use Rattle.run_data.specs.TaskFrames.{Frame}
 use Rattle.run_data.specs.Frames.{job_frame}
 use Rattle.task_step.specs.Directs.{cost_in}
-use Rattle.task_step.proofs.OneByOne.{added, none_added, rose_on, rose_within, unmatched_is, cost_more, cost_within, one_more, is_spent}
+use Rattle.run_data.specs.Counts.{rose_on, rose_within, unmatched_of_none}
+use Rattle.task_step.proofs.OneByOne.{added, none_added, cost_more, cost_within, one_more, is_spent}
 use Rattle.task_step.proofs.one_by_one.run_jobs.Goals as goal
 
 pub run_job-requires-clause-opened : goal.run_job-requires-clause-opened
@@ -54,4 +55,4 @@ loop-job-preserved g c =
     }
 
 pub returns-clause-frugal : goal.returns-clause-frugal
-returns-clause-frugal g c = omega (arith, unmatched_is c.loop-job.frames, c.loop-job.invariant.steps)
+returns-clause-frugal g c = omega (arith, unmatched_of_none c.loop-job.frames, c.loop-job.invariant.steps)

@@ -12,4 +12,4 @@ invariant_of-result c =
     let few : length c.args.model.now.cells ≤ 256 = few_cells c.args.model.now c.cells-starts.ensures.valid in
     let states : length c.in_ok-states.states.items ≡ length c.args.model.now.cells =
     ap length c.in_ok-states.ensures.value ∙ length-map c.cells-starts.result.now (λ cell. first_state cell.1) ∙ ap length c.cells-starts.ensures.value in
-    (omega arith, c.in_ok-pending.ensures)
+    (omega arith, c.in_ok-room.ensures.blank)

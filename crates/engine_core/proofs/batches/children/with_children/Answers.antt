@@ -38,7 +38,7 @@ loop-at-preserved c =
       made =
           child_iteration c.args.job.now.view c.args.items.now c.args.model.now c.args.job.now.path c.loop-at.next c.loop-at.at c.index-items-at.result c.loop-at-test.true c.index-items-at.is
           c.loop-at.all c.in_ok-all.all _ c.in_ok-view-2.view c.in_ok-job.job c.in-Child.kind c.in-Child.arguments c.in-Child.is view
-          (rw c.as_slice.ensures at c.in_ok-job.ensures) c.in_ok-all.ensures c.loop-at.invariant.made;
+          (rw c.get.ensures at rw c.as_slice.ensures at c.in_ok-job.ensures) c.in_ok-all.ensures c.loop-at.invariant.made;
     }
 
 pub returns : goal.returns

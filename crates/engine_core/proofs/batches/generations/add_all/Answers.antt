@@ -2,7 +2,6 @@
 use Rattle.std.proofs.Common.{◌≡◌, ◌<◌, ◌++◌, ◌∙◌, Some, slice_get, length, refl, sym, ap, subst, List, arith}
 use Rattle.std.proofs.lemmas.Bool.Decides.{nat_tests}
 use Rattle.std.proofs.lemmas.Option.{slice_get_read}
-use Rattle.run_data.specs.declared.frames.Frame.{Frame}
 use Rattle.run_data.specs.declared.frames.Item.{Item}
 use Rattle.run_data.specs.laws.Generations.{child_jobs}
 use Rattle.engine_core.specs.BatchDues.{IsSeenStep, fresh}
@@ -28,7 +27,7 @@ here c =
     record {
       job = job;
       frame = frame;
-      items = c.as_slice-items.ensures ∙ ap (λ (one : Frame). one.items) (sym c.index-as_slice-at.is);
+      items = c.as_slice-items.ensures ∙ c.items.ensures;
       seen = c.requires.seen c.loop-at.at (c.made.result, c.index-jobs-at.result) c.index-as_slice-at.result job frame;
       room = room_at c.args.jobs.now c.loop-at.at (c.made.result, c.index-jobs-at.result) c.requires.room job;
     }

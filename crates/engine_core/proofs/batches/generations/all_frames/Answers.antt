@@ -1,7 +1,7 @@
 -- The first generation, and then at most one for each number that a path may have.
 use Rattle.std.proofs.Common.{◌≡◌, ◌+◌, ◌-◌, ◌∙◌, List, refl, ap, sym, arith, length}
 use Rattle.aerie_base.specs.Paths.{child_limit}
-use Rattle.run_data.specs.declared.frames.Frame.{Frame}
+use Rattle.run_data.specs.TaskFrames.{Frame}
 use Rattle.run_data.specs.Records.{unmatched}
 use Rattle.engine_core.proofs.BatchLoop.{begins, can_run, stopped, iterated, one_less, pays_on, looks_on, ended, out_of_iterations}
 use Rattle.engine_core.proofs.BatchRuns.{ran_on}

@@ -9,13 +9,13 @@ loop-job-init c = λ at one less found. absurd (omega (arith, less))
 pub loop-job-preserved : goal.loop-job-preserved
 loop-job-preserved c =
     room_more c.args.jobs.now c.loop-job.job-index c.job-item.result c.loop-job.invariant c.loop-job-test.true c.job-item.is
-    (record { good = c.children.ensures.path; room = rw c.children.ensures.children at c.if-children-ge-CHILD_LIMIT.false })
+    (record { good = rw c.get.ensures at c.children.ensures.path; room = rw c.get.ensures at (rw c.children.ensures.children at c.if-children-ge-CHILD_LIMIT.false) })
 
 pub returns-then-children-ge-CHILD_LIMIT-clause-full : goal.returns-then-children-ge-CHILD_LIMIT-clause-full
 returns-then-children-ge-CHILD_LIMIT-clause-full c = λ no room.
     let here = room c.loop-job.job-index c.job-item.result (slice_get_read c.args.jobs.now _ c.loop-job.job-index c.job-item.result refl c.loop-job-test.true c.job-item.is) in
     let less = here.room in
-    let most = rw c.children.ensures.children at c.if-children-ge-CHILD_LIMIT.true in
+    let most = rw c.get.ensures at (rw c.children.ensures.children at c.if-children-ge-CHILD_LIMIT.true) in
     absurd (omega (arith, less, most))
 
 pub returns-clause-room : goal.returns-clause-room

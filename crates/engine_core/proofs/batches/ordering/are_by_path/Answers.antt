@@ -2,7 +2,7 @@
 use Rattle.std.proofs.Common.{◌≡◌, ◌-◌, ◌<◌, ◌∙◌, false, length, sym, arith}
 use Rattle.std.proofs.lemmas.List.{get_or_read}
 use Rattle.std.proofs.lemmas.List.Sorted.{all_adjacent_more}
-use Rattle.run_data.specs.declared.frames.Frame.{Frame}
+use Rattle.run_data.specs.TaskFrames.{Frame}
 use Rattle.engine_core.specs.BatchOrders.{is_before}
 use Rattle.engine_core.proofs.BatchOrder.{in_order_from_sort}
 use Rattle.engine_core.proofs.batches.ordering.are_by_path.Goals as goal

@@ -1,5 +1,5 @@
 use Rattle.std.proofs.Common.{◌≡◌, ◌+◌, ◌<◌, ℕ, false, get_or}
-use Rattle.run_data.specs.declared.frames.Frame.{Frame}
+use Rattle.run_data.specs.TaskFrames.{Frame}
 use Rattle.engine_core.specs.BatchOrders.{is_before}
 use Rattle.engine_core.proofs.batches.ordering.are_by_path.Given as goal
 

@@ -2,7 +2,7 @@
 use Rattle.std.proofs.Common.{◌≡◌, ◌≤◌, ◌∙◌, Some, None, length, sym, ap, arith}
 use Rattle.aerie_base.specs.Paths.{child_path}
 use Rattle.aerie_base.specs.Ranges.{step_limit}
-use Rattle.run_data.specs.declared.frames.Frame.{Frame}
+use Rattle.run_data.specs.TaskFrames.{Frame}
 use Rattle.run_data.specs.Frames.{room_of}
 use Rattle.run_data.specs.laws.Trees.{parts_by}
 use Rattle.engine_core.specs.BatchTrees.{parts_below}
@@ -34,7 +34,7 @@ parts-overflow_add-next t c =
     let few : length c.in-Some.frame.now.items ≤ step_limit =
     of_found (λ (frame : Frame). length frame.items ≤ step_limit) c.args.frames.now c.args.path.now c.in-Some.frame.now c.requires.few (sym c.in-Some.ensures)
     in
-    let long : length c.as_slice-items.result.now ≡ length c.in-Some.frame.now.items = ap length c.as_slice-items.ensures in
+    let long : length c.as_slice-items.result.now ≡ length c.in-Some.frame.now.items = ap length (c.as_slice-items.ensures ∙ c.items.ensures) in
     omega (arith, few, long, c.loop-item.invariant.next, c.loop-item-test.true, c.requires.number, c.children_in-next.ensures.few)
 
 pub parts-loop-item-preserved : goal.parts-loop-item-preserved
@@ -50,5 +50,5 @@ pub parts-returns : goal.parts-returns
 parts-returns t c =
     all_parts (parts_below c.args.frames.now (room_of c.args.path.now)) c.args.path.now c.as_slice-items.result.now c.loop-item.next c.loop-item.item-index c.loop-item.parts _
     c.loop-item-test.false c.loop-item.invariant.made
-    ∙ ap (parts_by (parts_below c.args.frames.now (room_of c.args.path.now)) c.args.path.now c.args.number) c.as_slice-items.ensures
+    ∙ ap (parts_by (parts_below c.args.frames.now (room_of c.args.path.now)) c.args.path.now c.args.number) (c.as_slice-items.ensures ∙ c.items.ensures)
     ∙ sym (rebuilt_is c.args.frames.now (room_of c.args.path.now) c.args.number c.args.path.now (Some c.in-Some.frame.now) c.in-Some.ensures)

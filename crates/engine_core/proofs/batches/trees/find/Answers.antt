@@ -16,7 +16,7 @@ returns-then-is_same c =
     let lookup = c.in-Some.ensures.lookup in
     sym
     (found c.args.path.now c.args.frames.now c.partition_point-at.result c.in-Some.frame.now c.requires point.0 point.1 lookup.3.0 (lookup.3.1 c.in-Some.frame.now)
-    (c.is_same.ensures.0 c.if-is_same.true))
+    (sym c.path.ensures ∙ c.is_same.ensures.0 c.if-is_same.true))
 
 pub returns-else-is_same : goal.returns-else-is_same
 returns-else-is_same c =
@@ -24,4 +24,4 @@ returns-else-is_same c =
     let lookup = c.in-Some.ensures.lookup in
     sym
     (found_other c.args.path.now c.args.frames.now c.partition_point-at.result c.in-Some.frame.now c.requires point.0 point.1 lookup.3.0 (lookup.3.1 c.in-Some.frame.now)
-    (λ e. false≢true (sym c.if-is_same.false ∙ c.is_same.ensures.1 e)))
+    (λ e. false≢true (sym c.if-is_same.false ∙ c.is_same.ensures.1 (c.path.ensures ∙ e))))

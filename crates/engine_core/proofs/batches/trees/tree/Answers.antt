@@ -18,4 +18,4 @@ pub loop-at-preserved : goal.loop-at-preserved
 loop-at-preserved c =
     let job = pair_here c.args.jobs.now c.loop-at.at c.made.result c.index-jobs-at.result c.made.ensures (rw c.jobs.ensures at c.index-jobs-at.is) in
     job_part c.args.frames.now c.args.jobs.now c.loop-at.at (c.made.result, c.index-jobs-at.result) c.loop-at.items _ c.push.new.self c.in_ok-parts.parts job
-    (c.in_ok-parts.ensures ∙ ap (λ (one : Job). rebuilt c.args.frames.now (room_of one.path) c.made.result one.path) (sym c.index-jobs-at.is)) c.in_ok-push.ensures.pushed c.loop-at.invariant
+    (rw c.get-path.ensures at c.in_ok-parts.ensures ∙ ap (λ (one : Job). rebuilt c.args.frames.now (room_of one.path) c.made.result one.path) (sym c.index-jobs-at.is)) c.in_ok-push.ensures.pushed c.loop-at.invariant

@@ -1,5 +1,5 @@
 use Rattle.std.proofs.Common.{List, [], ◌++◌, take, ap, subst, ◌∙◌}
-use Rattle.run_data.specs.declared.frames.Frame.{Frame}
+use Rattle.run_data.specs.TaskFrames.{Frame}
 use Rattle.run_data.specs.Spans.{Timed, with_time, in_batches}
 use Rattle.span_table.specs.Progress.{KnowsFrames}
 use Rattle.span_table.proofs.Gathering.{batches_next}

@@ -1,24 +1,25 @@
-use Rattle.std.proofs.Common.{◌∙◌, ◌++◌, ◌∷◌, [], sym, ap, arith, subst}
-use Rattle.std.specs.Prelude.{slice_set}
-use Rattle.task_step.specs.Overlays.{written_state, ArePlaced}
-use Rattle.task_step.proofs.WrittenPlaces.{room, add_placed, add_puts}
+use Rattle.std.proofs.Common.{◌∙◌, ◌++◌, ◌∷◌, [], ap, arith}
+use Rattle.task_step.specs.Overlays.{written_state}
+use Rattle.task_step.proofs.WrittenPlaces.{place_small, add_found, add_puts, stands_last}
 use Rattle.task_step.proofs.written_cells.WrittenCells.add.Goals as goal
 
-pub overflow_cast-self : goal.overflow_cast-self
-overflow_cast-self c =
-    let lt = room c.self.inside.cells.items c.self.inside.places c.args.cell c.args.state c.requires.cell c.self.invariant (ap (written_state c.args.cell) c.self.view_is ∙ c.requires.fresh) in
-    omega (arith, lt, c.len-place.ensures, c.self.inside.cells.ok.0)
+pub note_place-requires : goal.note_place-requires
+note_place-requires c =
+    let fresh = ap (written_state c.args.cell) (c.self.view_is ∙ c.grow.ensures) ∙ c.requires.fresh in
+    omega (arith, place_small c.self.inside.cells.items c.self.inside.places.items c.args.cell c.args.state c.requires.cell c.self.invariant fresh, c.len-place.ensures, c.self.inside.cells.ok.0)
 
 pub invariant_of-self-2 : goal.invariant_of-self-2
 invariant_of-self-2 c =
-    let all = c.self.inside.cells.items ++ (c.args.cell, c.args.state) ∷ [] in
-    let placed = add_placed c.self.inside.cells.items c.self.inside.places c.args.cell c.args.state c.requires.cell c.self.invariant (ap (written_state c.args.cell) c.self.view_is ∙ c.requires.fresh) in
-    subst (λ l. ArePlaced l (slice_set c.self.inside.places c.from.result c.len-place.result)) (sym c.in_ok-push.ensures.items)
-    (subst (λ i. ArePlaced all (slice_set c.self.inside.places i c.len-place.result)) (sym c.from.ensures)
-    (subst (λ n. ArePlaced all (slice_set c.self.inside.places c.args.cell n)) (sym c.self.inside.cells.ok.0 ∙ sym c.len-place.ensures) placed))
+    let fresh = ap (written_state c.args.cell) (c.self.view_is ∙ c.grow.ensures) ∙ c.requires.fresh in
+    add_found c.self.inside.cells.items c.push.new.self.items c.self.inside.places.items c.note_place.new.table.items c.args.cell c.len-place.result c.args.state c.requires.cell c.self.invariant fresh
+    c.in_ok-push.ensures.items (c.len-place.ensures ∙ c.self.inside.cells.ok.0) c.note_place.ensures
 
 pub returns-clause-added : goal.returns-clause-added
 returns-clause-added c = λ other.
     ap (written_state other) c.in_ok-push.ensures.items
-    ∙ ap (λ l. written_state other (l ++ (c.args.cell, c.args.state) ∷ [])) c.self.view_is
+    ∙ ap (λ l. written_state other (l ++ (c.args.cell, c.args.state) ∷ [])) (c.self.view_is ∙ c.grow.ensures)
     ∙ add_puts c.args.cell c.args.state c.args.self.now c.requires.fresh other
+
+pub returns-clause-place : goal.returns-clause-place
+returns-clause-place c =
+    stands_last c.self.inside.cells.items c.push.new.self.items c.args.cell c.len-place.result c.args.state c.in_ok-push.ensures.items (c.len-place.ensures ∙ c.self.inside.cells.ok.0)

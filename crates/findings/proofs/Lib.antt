@@ -1,2 +1,0 @@
-mod InOrder
-mod Resources

@@ -1,0 +1,17 @@
+use Rattle.std.proofs.Common.{◌≡◌}
+use Rattle.std.specs.BTreeSet.{btree_set_len}
+use Rattle.slab.specs.Slab.{slab_len}
+use Rattle.live_tasks.specs.Listing.{IsNoneBefore}
+use Rattle.live_tasks.specs.ListedSlots.{ListsExactly}
+use Rattle.live_tasks.proofs.ListedDelays.{RestsAlike}
+use Rattle.live_tasks.proofs.listed_slots.ListedSlots.rest.Given as goal
+
+abbrev pub invariant-loop-number : goal.invariant-loop-number
+invariant-loop-number l =
+    RestsAlike l.now l.initial.self.slots.slots l.self.slots.slots
+    × (slab_len l.self.slots ≡ slab_len l.initial.self.slots)
+    × IsNoneBefore l.now l.self.delays
+    × ListsExactly l.self
+
+abbrev pub decreases-loop-number : goal.decreases-loop-number
+decreases-loop-number l = btree_set_len l.self.delays

@@ -1,0 +1,6 @@
+use Rattle.live_tasks.proofs.ListedDelays.{resumed_listed}
+use Rattle.live_tasks.proofs.listed_slots.ListedSlots.resume.Goals as goal
+
+pub returns-clause-listed : goal.returns-clause-listed
+returns-clause-listed c =
+    resumed_listed _ _ c.args.number c.args.now c.rest.ensures.is _ _ _ _ c.requires.due c.end_delay.ensures.less c.end_delay.ensures.sorted c.requires.listed c.in_ok-push_if.ensures

@@ -1,0 +1,11 @@
+pub mod Phases
+pub mod Slots
+pub mod Endings
+pub mod Readies
+pub mod Sorting
+pub mod Reached
+pub mod Changes
+pub mod Listing
+pub mod ListedSlots
+pub mod AnyOrder
+pub mod Cases

@@ -1,0 +1,236 @@
+//! The live tasks by number, with lists of those that are ready and of the ends of delays.
+
+ghost use Rattle.std.specs.Prelude.{◌≡◌, ◌<◌, ◌^◌, ◌+◌, ℕ, [], true, false, None, Some, IfOk, OnOk, option_map};
+ghost use Rattle.std.specs.BTreeSet as set;
+ghost use Rattle.slab.specs.Slab.{slab_len};
+ghost use Rattle.run_data.specs.Tasks.{children_in, rested};
+ghost use Rattle.live_tasks.specs.declared.slots.Slot.{Slot as Live};
+ghost use Rattle.live_tasks.specs.Slots.{slot_at, Becomes, IsForest};
+ghost use Rattle.live_tasks.specs.Readies.{AreReadyTasks};
+ghost use Rattle.live_tasks.specs.Endings.{slot_has_ended, slot_after_child_end, slot_when_due, slot_after_step, slot_with_child};
+ghost use Rattle.live_tasks.specs.Changes.{slot_changed, AreChanged};
+ghost use Rattle.live_tasks.specs.Listing.{is_ready_slot, delay_of_slot, is_newly_ready, listed_if, ready_among, delay_cmp, has_delay, HasDelayToo, HasDelayNoMore, IsNoneBefore};
+ghost use Rattle.live_tasks.specs.ListedSlots.{ListsExactly, ListsAll, KeepsAll, KeepsExactly};
+
+use crate::delays::{end_delay, first_due, list_delay};
+use crate::readies::{ReadyTask, in_order, of_numbers};
+use crate::slots::{Slot, count, delay, fall_due, insert, is_ready, rest, step, take_out, tell};
+use aerie_base::{Edge, OutOfMemory, Time, Value};
+use run_data::Frame;
+use slab::Slab;
+use std::alloc::Global;
+use std::collections::BTreeSet;
+
+/// The live tasks by number; the numbers of those that are ready, in no order; and the ends of delays in microseconds, each
+/// with the number of its task.
+#[derive(Drop)]
+pub struct ListedSlots {
+    pub slots: Slab<Slot>,
+    pub readies: Vec<usize>,
+    pub delays: BTreeSet<(u64, usize)>,
+}
+
+/// Puts a number behind others, if it is to be listed.
+fn push_if(numbers: &mut Vec<usize>, number: usize, listed: bool) -> Result<(), OutOfMemory>
+    ensures { OnOk result (numbers.new.items ≡ listed_if listed number numbers.old.items) }
+{
+    if listed {
+        numbers.push(number)?;
+    }
+    Ok(())
+}
+
+/// Of some numbers those of ready tasks.
+fn still_ready(
+    alloc: Global,
+    slots: &Slab<Slot>,
+    numbers: &[usize],
+) -> Result<Vec<usize>, OutOfMemory>
+    ensures { IfOk result (λ still. still.items ≡ ready_among slots.now.slots numbers.now) }
+{
+    let mut still = Vec::new(alloc);
+    for number in numbers {
+        push_if(&mut still, *number, is_ready(slots, *number))?;
+    }
+    Ok(still)
+}
+
+impl ListedSlots {
+    /// No task.
+    pub fn new(alloc: Global) -> ListedSlots
+        ensures slots { result.slots.slots ≡ [] }
+        ensures listed { ListsExactly result }
+    {
+        ListedSlots {
+            slots: Slab::new(alloc),
+            readies: Vec::new(alloc),
+            delays: BTreeSet::new(alloc),
+        }
+    }
+
+    /// Lists the task of a number as it is now; it may have been ready before.
+    fn list(&mut self, number: usize, was_ready: bool) -> Result<(), OutOfMemory>
+        ensures slots { self.new.slots ≡ self.old.slots }
+        ensures readies { OnOk result (self.new.readies.items
+            ≡ listed_if (is_newly_ready was_ready (slot_at self.old.slots.slots number)) number self.old.readies.items) }
+        ensures delays { OnOk result (HasDelayToo number (delay_of_slot (slot_at self.old.slots.slots number)) self.old.delays self.new.delays) }
+        ensures sorted { OnOk result (set.IsOrdered delay_cmp self.old.delays → set.IsOrdered delay_cmp self.new.delays) }
+    {
+        let is_new = is_ready(&self.slots, number) && !was_ready;
+        push_if(&mut self.readies, number, is_new)?;
+        let end = delay(&self.slots, number);
+        list_delay(&mut self.delays, number, end)?;
+        Ok(())
+    }
+
+    /// The task of a number, which was ready, after a frame of it. It stays on the list of ready ones.
+    pub fn step(
+        &mut self,
+        alloc: Global,
+        now: Time,
+        number: usize,
+        frame: &Frame,
+    ) -> Result<(), OutOfMemory>
+        requires few { (slot : Live) → slot_at self.old.slots.slots number ≡ Some slot → slot.task.made + children_in frame.now.items < 2 ^ 32 }
+        requires ready { is_ready_slot (slot_at self.old.slots.slots number) ≡ true }
+        ensures is { OnOk result ((slot : Live) → slot_at self.old.slots.slots number ≡ Some slot →
+            Becomes self.old.slots.slots self.new.slots.slots number (Some (slot_after_step now frame.now slot))) }
+        ensures listed { OnOk result (KeepsAll self.old self.new) }
+    {
+        step(&mut self.slots, alloc, now, number, frame)?;
+        self.list(number, true)?;
+        Ok(())
+    }
+
+    /// Puts a task where none is.
+    pub fn insert(&mut self, slot: Slot) -> Result<usize, OutOfMemory>
+        ensures vacant { IfOk result (λ number. slot_at self.old.slots.slots number ≡ None) }
+        ensures is { IfOk result (λ number. Becomes self.old.slots.slots self.new.slots.slots number (Some slot)) }
+        ensures listed { OnOk result (KeepsAll self.old self.new) }
+    {
+        let number = insert(&mut self.slots, slot)?;
+        self.list(number, false)?;
+        Ok(number)
+    }
+
+    /// One child more of the task of a number is live.
+    pub fn count(&mut self, number: usize) -> Result<(), OutOfMemory>
+        ensures is { OnOk result (Becomes self.old.slots.slots self.new.slots.slots number
+            (option_map slot_with_child (slot_at self.old.slots.slots number))) }
+        ensures listed { OnOk result (KeepsAll self.old self.new) }
+    {
+        count(&mut self.slots, number)?;
+        Ok(())
+    }
+
+    /// Of the numbers on the list of ready ones those are left that are ready still.
+    pub fn relist(&mut self, alloc: Global) -> Result<(), OutOfMemory>
+        ensures slots { self.new.slots ≡ self.old.slots }
+        ensures listed { OnOk result (ListsAll self.old → ListsExactly self.new) }
+    {
+        let still = still_ready(alloc, &self.slots, self.readies.as_slice())?;
+        self.readies = still;
+        Ok(())
+    }
+
+    /// Takes the task of a number out, which has ended.
+    pub fn take_out(&mut self, number: usize) -> Slot
+        requires { slot_has_ended (slot_at self.old.slots.slots number) ≡ true }
+        ensures was { slot_at self.old.slots.slots number ≡ Some result }
+        ensures is { Becomes self.old.slots.slots self.new.slots.slots number None }
+        ensures fewer { slab_len self.new.slots + 1 ≡ slab_len self.old.slots }
+        ensures listed { KeepsExactly self.old self.new }
+    {
+        let ended = take_out(&mut self.slots, number);
+        ended
+    }
+
+    /// Tells the task of a number that a child of it has ended.
+    pub fn tell(
+        &mut self,
+        alloc: Global,
+        number: usize,
+        own: u32,
+        value: Option<Value>,
+    ) -> Result<(), OutOfMemory>
+        ensures is { OnOk result (Becomes self.old.slots.slots self.new.slots.slots number
+            (option_map (slot_after_child_end own value) (slot_at self.old.slots.slots number))) }
+        ensures length { slab_len self.new.slots ≡ slab_len self.old.slots }
+        ensures listed { OnOk result (KeepsExactly self.old self.new) }
+    {
+        let was_ready = is_ready(&self.slots, number);
+        tell(&mut self.slots, alloc, number, own, value)?;
+        self.list(number, was_ready)?;
+        Ok(())
+    }
+
+    /// An edge of a directive has come, to which the task of a number may be anchored.
+    pub fn fall_due(
+        &mut self,
+        number: usize,
+        now: Time,
+        to: u32,
+        edge: Edge,
+    ) -> Result<(), OutOfMemory>
+        ensures is { OnOk result (Becomes self.old.slots.slots self.new.slots.slots number
+            (option_map (slot_when_due now to edge) (slot_at self.old.slots.slots number))) }
+        ensures length { slab_len self.new.slots ≡ slab_len self.old.slots }
+        ensures listed { OnOk result (KeepsExactly self.old self.new) }
+    {
+        let was_ready = is_ready(&self.slots, number);
+        fall_due(&mut self.slots, number, now, to, edge);
+        self.list(number, was_ready)?;
+        Ok(())
+    }
+
+    /// The task of a number, whose delay ends at a time, goes on.
+    fn resume(&mut self, number: usize, now: Time) -> Result<(), OutOfMemory>
+        requires due { has_delay self.old.delays now number ≡ true }
+        requires listed { ListsExactly self.old }
+        ensures is { OnOk result (Becomes self.old.slots.slots self.new.slots.slots number
+            (option_map (slot_changed (rested now)) (slot_at self.old.slots.slots number))) }
+        ensures length { slab_len self.new.slots ≡ slab_len self.old.slots }
+        ensures less { HasDelayNoMore number now self.old.delays self.new.delays }
+        ensures fewer { set.btree_set_len self.new.delays < set.btree_set_len self.old.delays }
+        ensures listed { OnOk result (ListsExactly self.new) }
+    {
+        rest(&mut self.slots, number, now);
+        end_delay(&mut self.delays, number, now);
+        push_if(&mut self.readies, number, true)?;
+        Ok(())
+    }
+
+    /// All go on whose delay ends at a time; none ends earlier.
+    pub fn rest(&mut self, now: Time) -> Result<(), OutOfMemory>
+        requires none_before { IsNoneBefore now self.old.delays }
+        requires listed { ListsExactly self.old }
+        ensures are { OnOk result (AreChanged (rested now) self.old.slots.slots self.new.slots.slots) }
+        ensures length { OnOk result (slab_len self.new.slots ≡ slab_len self.old.slots) }
+        ensures listed { OnOk result (ListsExactly self.new) }
+    {
+        while let Some(number) = first_due(&self.delays, now) {
+            self.resume(number, now)?;
+        }
+        Ok(())
+    }
+
+    /// Whether a task is ready.
+    pub fn is_ready(&self) -> bool
+        requires { ListsExactly self.now }
+        ensures some { result ≡ true → (number : ℕ) × (is_ready_slot (slot_at self.now.slots.slots number) ≡ true) }
+        ensures none { result ≡ false → (number : ℕ) → is_ready_slot (slot_at self.now.slots.slots number) ≡ false }
+    {
+        !self.readies.is_empty()
+    }
+
+    /// The ready tasks, in order of path.
+    pub fn ready(&self, alloc: Global) -> Result<Vec<ReadyTask>, OutOfMemory>
+        requires forest { IsForest self.now.slots.slots }
+        requires listed { ListsExactly self.now }
+        ensures { IfOk result (λ ready. AreReadyTasks self.now.slots.slots ready.items) }
+    {
+        let ready = of_numbers(alloc, &self.slots, self.readies.as_slice())?;
+        let sorted = in_order(ready)?;
+        Ok(sorted)
+    }
+}

@@ -1,0 +1,99 @@
+//! The tasks of a run by number, and what is known of each of them.
+
+ghost use Rattle.std.specs.Prelude.{◌≡◌, ℕ, List};
+ghost use Rattle.run_data.specs.Spans.{Timed};
+ghost use Rattle.span_table.specs.BodyStates.{is_open_state};
+ghost use Rattle.span_table.specs.KnownTasks.{AreLinked, EndsAbove, IsPathAt, PutsBody, PutsEnding, body_state_in, known_task, links_of};
+ghost use Rattle.span_table.specs.Progress.{KnowsEnds, KnowsTasks};
+
+use crate::body_states::BodyState;
+use aerie_base::{Path, Shared, Time};
+use indexmap::IndexMap;
+
+/// Whether a task has ended, and when.
+#[derive(Clone, Copy)]
+pub(crate) enum Ending {
+    /// Its last step, or the last one below it, was at this time; none where there was no step.
+    After(Option<Time>),
+    /// Some body, its own or one below it, has not ended.
+    Unfinished,
+}
+
+/// What is known of a task.
+#[derive(Clone, Copy)]
+pub(crate) struct KnownTask {
+    /// The number of the task that made it; none where it comes from a directive or daemon itself.
+    pub(crate) above: Option<usize>,
+    /// How far its body has come; none where no frame was of it.
+    pub(crate) body: Option<BodyState>,
+    /// Its end.
+    pub(crate) ending: Ending,
+}
+
+/// The tasks so far, each with a number, in the order in which they came.
+pub(crate) type KnownTasks = IndexMap<Shared<Path>, KnownTask>;
+
+/// Gives the task of a number its body's state.
+pub(crate) fn put_body(tasks: &mut KnownTasks, number: usize, body: BodyState)
+    ensures { PutsBody number body tasks.old.entries tasks.new.entries }
+{
+    if let Some(task) = tasks.get_index_mut(number) {
+        task.body = Some(body);
+    }
+}
+
+/// Gives the task of a number an end, and says by which task it was made.
+fn put_own_ending(tasks: &mut KnownTasks, number: usize, ending: &Ending) -> Option<usize>
+    ensures { PutsEnding number ending.now tasks.old.entries tasks.new.entries result }
+{
+    match tasks.get_index_mut(number) {
+        Some(task) => {
+            task.ending = *ending;
+            task.above
+        }
+        None => None,
+    }
+}
+
+/// Gives the task of a number, and all that it is below, an end: each is made by one with a smaller number.
+pub(crate) fn put_ending(tasks: &mut KnownTasks, number: usize, ending: &Ending)
+    ensures { AreLinked (links_of tasks.old.entries) → EndsAbove number ending.now tasks.old.entries tasks.new.entries }
+{
+    let Some(above) = put_own_ending(tasks, number, ending) else {
+        return;
+    };
+    if above < number {
+        put_ending(tasks, above, ending);
+    }
+}
+
+/// How far the body of a number has come.
+pub(crate) fn body_at(tasks: &KnownTasks, number: usize) -> Option<BodyState>
+    ensures { (path : List ℕ) → IsPathAt (links_of tasks.now.entries) number path → result ≡ body_state_in (known_task tasks.now.entries path) }
+{
+    match tasks.get_index(number) {
+        Some((_, task)) => task.body,
+        None => None,
+    }
+}
+
+/// Whether the body of a number has begun and not ended.
+fn is_open_at(tasks: &KnownTasks, number: usize) -> bool
+    ensures { (path : List ℕ) → IsPathAt (links_of tasks.now.entries) number path → result ≡ is_open_state (body_state_in (known_task tasks.now.entries path)) }
+{
+    match body_at(tasks, number) {
+        Some(body) => body.is_open(),
+        None => false,
+    }
+}
+
+/// Each task that is above an open body, or has one, is unfinished.
+pub(crate) fn mark_unfinished(tasks: &mut KnownTasks)
+    ensures { (frames : List Timed) → KnowsTasks frames tasks.old.entries → KnowsEnds frames tasks.new.entries × (links_of tasks.new.entries ≡ links_of tasks.old.entries) }
+{
+    for number in 0..tasks.len() {
+        if is_open_at(tasks, number) {
+            put_ending(tasks, number, &Ending::Unfinished);
+        }
+    }
+}

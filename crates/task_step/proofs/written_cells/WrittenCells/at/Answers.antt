@@ -1,0 +1,11 @@
+use Rattle.std.proofs.Common.{◌∙◌, sym, ap}
+use Rattle.std.specs.Prelude.{slice_get}
+use Rattle.task_step.specs.Overlays.{written_state}
+use Rattle.task_step.proofs.WrittenPlaces.{state_at}
+use Rattle.task_step.proofs.written_cells.WrittenCells.at.Goals as goal
+
+pub returns : goal.returns
+returns c =
+    ap (written_state c.args.cell) (sym c.self.view_is)
+    ∙ state_at c.self.inside.cells.items c.self.invariant.once.0 c.args.cell c.args.place c.requires.0 c.index.result.now c.self.invariant.once.1
+    (ap (λ l. slice_get l c.args.place) c.self.view_is ∙ c.requires.1) c.index.ensures

@@ -1,0 +1,60 @@
+//! What many steps use one after another.
+
+ghost use Rattle.std.specs.Prelude.{◌≡◌, [], IfOk};
+
+use crate::written_cells::WrittenCells;
+use aerie_base::{List, OutOfMemory};
+use run_data::Item;
+use std::alloc::Global;
+use std::mem;
+
+/// The lists that a step fills while it runs. The next step fills them again, so that only the first takes memory for them, and
+/// a frame has lists of its own that take no more than they need.
+#[derive(Drop)]
+pub(crate) struct Room {
+    written: WrittenCells,
+    items: List<Item>,
+}
+
+impl Room {
+    /// It takes no memory yet.
+    pub(crate) fn new(alloc: Global) -> Room {
+        Room {
+            written: WrittenCells::none(alloc),
+            items: List::new(alloc),
+        }
+    }
+
+    /// Takes out what is to have the cells that a step writes: none so far.
+    pub(crate) fn take_written(&mut self, alloc: Global) -> WrittenCells
+        ensures { result ≡ [] }
+    {
+        let mut written = mem::replace(&mut self.written, WrittenCells::none(alloc));
+        written.clear();
+        written
+    }
+
+    /// Takes out what is to have the items of a step: none so far.
+    pub(crate) fn take_items(&mut self, alloc: Global) -> List<Item>
+        ensures { result ≡ [] }
+    {
+        let mut items = mem::replace(&mut self.items, List::new(alloc));
+        items.items.clear();
+        items
+    }
+
+    /// Puts both back behind a step.
+    pub(crate) fn put_back(&mut self, written: WrittenCells, items: List<Item>) {
+        self.written = written;
+        self.items = items;
+    }
+}
+
+/// The items of a list, moved into one that has room for no more.
+pub(crate) fn exact(alloc: Global, items: &mut List<Item>) -> Result<List<Item>, OutOfMemory>
+    ensures { IfOk result (λ exact. exact ≡ items.old) }
+{
+    let mut exact = Vec::with_capacity(alloc, items.len())?;
+    exact.append(&mut items.items)?;
+    Ok(List::from_vec(exact))
+}
