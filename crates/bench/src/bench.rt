@@ -5,7 +5,7 @@ ghost use Rattle.aerie_base.specs.Ranges.{step_limit};
 ghost use Rattle.aerie_base.specs.plans.OfModel.{IsPlanOf};
 ghost use Rattle.run_data.specs.Fresh.{IsFresh};
 ghost use Rattle.run_data.specs.Waves.{last_count, RoseAlike};
-ghost use Rattle.engine_core.specs.RunFrames.{PaysForRun};
+ghost use Rattle.run_data.specs.RunFrames.{PaysForRun};
 ghost use Rattle.bench.specs.Benches.{IsKeptFor, IsMadeFor, IsSameBench};
 
 use crate::compiled_model::CompiledModel;
@@ -77,7 +77,7 @@ impl<'a> Bench<'a> {
     pub fn simulate<L: Ledger, K: Ledger>(
         &mut self,
         alloc: Global,
-        plan: &Plan,
+        plan: &Shared<Plan>,
         kept: Option<&Shared<Kept>>,
         steps: &mut Steps<L>,
         looks: &mut Steps<K>,
@@ -102,7 +102,7 @@ impl<'a> Bench<'a> {
     }
 
     /// Whether a kept run is the fresh run of the plan for this model and under this bound.
-    fn has_made(&self, kept: &Kept, plan: &Plan) -> bool
+    fn has_made(&self, kept: &Kept, plan: &Shared<Plan>) -> bool
         ensures same { IsTrue result → IsKeptFor self.now plan.now kept.now }
         ensures fresh { IsTrue result → IsFresh self.now.model plan.now self.now.bound kept.now.run }
     {
@@ -111,11 +111,11 @@ impl<'a> Bench<'a> {
     }
 
     /// Whether a run of a model is of this model, of the plan and under this bound.
-    fn is_of(&self, model: &Model, run: &Run, plan: &Plan) -> bool
+    fn is_of(&self, model: &Model, run: &Run, plan: &Shared<Plan>) -> bool
         ensures { IsTrue result → IsKeptFor self.now plan.now (record { model = model.now; run = run.now }) }
     {
         run.bound == self.bound
-            && run.plan.is_same(plan)
+            && run.plan.get().is_same(plan.get())
             && model.is_same(self.compiled.model().get())
     }
 
@@ -123,7 +123,7 @@ impl<'a> Bench<'a> {
     fn simulate_from_start<L: Ledger, K: Ledger>(
         &mut self,
         alloc: Global,
-        plan: &Plan,
+        plan: &Shared<Plan>,
         steps: &mut Steps<L>,
         looks: &mut Steps<K>,
     ) -> Result<Shared<Kept>, OutOfMemory>
@@ -172,7 +172,7 @@ impl<'a> Simulator for Bench<'a> {
     fn run<L: Ledger, K: Ledger>(
         &mut self,
         alloc: Global,
-        plan: &Plan,
+        plan: &Shared<Plan>,
         steps: &mut Steps<L>,
         looks: &mut Steps<K>,
     ) -> Result<Shared<Kept>, OutOfMemory> {

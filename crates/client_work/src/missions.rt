@@ -40,11 +40,11 @@ pub struct Mission {
 
 impl Mission {
     /// The model of a plan, with its rules.
-    pub(crate) fn ruled(&self, plan: &Plan) -> &RuledModel
+    pub(crate) fn ruled(&self, plan: &Shared<Plan>) -> &RuledModel
         requires { plan.now.model < length self.now.models }
         ensures { result.now ≡ ruled_by self.now.models plan.now }
     {
-        &self.models.as_slice()[usize::from(plan.model)]
+        &self.models.as_slice()[usize::from(plan.get().model)]
     }
 
     /// The first model.

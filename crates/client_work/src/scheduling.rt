@@ -14,7 +14,7 @@ use crate::acting::act;
 use crate::fetching::{FetchedBranch, fetched};
 use crate::missions::Mission;
 use crate::workplace::{Assignment, Worker};
-use aerie_base::{List, Name, OutOfMemory, Plan, Steps};
+use aerie_base::{List, Name, OutOfMemory, Plan, Shared, Steps};
 use aerie_edge::Gate;
 use bench::Bench;
 use goals::GoalStatus;
@@ -29,7 +29,7 @@ use std::sync::ledger::Ledger;
 fn schedule_of<L: Ledger, K: Ledger>(
     alloc: Global,
     mission: &Mission,
-    plan: &Plan,
+    plan: &Shared<Plan>,
     steps: &mut Steps<L>,
     looks: &mut Steps<K>,
 ) -> Result<Schedule, OutOfMemory>
@@ -85,7 +85,7 @@ fn schedule_fetched<R: Wait, G: Gate, L: Ledger, K: Ledger>(
     ensures later { IsLater worker.old worker.new }
 {
     let mission = assignment.workplace.mission;
-    let made = schedule_of(alloc, mission, found.plan.get(), worker.steps, worker.looks)?;
+    let made = schedule_of(alloc, mission, &found.plan, worker.steps, worker.looks)?;
     let seen = found.revision;
     let branch = branch.copy(alloc)?;
     let placing = Action::Place {

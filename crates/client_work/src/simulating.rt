@@ -41,7 +41,7 @@ pub(crate) struct Simulated {
 fn simulate<L: Ledger, K: Ledger>(
     alloc: Global,
     mission: &Mission,
-    plan: &Plan,
+    plan: &Shared<Plan>,
     kept: Option<&Shared<Kept>>,
     steps: &mut Steps<L>,
     looks: &mut Steps<K>,
@@ -108,7 +108,7 @@ fn report_of<R: Wait, G: Gate, L: Ledger, K: Ledger>(
     let whose = assignment.whose;
     let workplace = assignment.workplace;
     let mission = workplace.mission;
-    let plan = found.plan.get();
+    let plan = &found.plan;
     let kept = found.kept.as_ref();
     workplace
         .gate
@@ -158,7 +158,7 @@ fn sequence_of<'a>(
     requires run { run ≡ simulated mission.now.models mission.now.bound found.now.plan }
     ensures { IfOk result (λ answer. answer ≡ sequence_told mission.now found.now.revision found.now.plan) }
 {
-    let ruled = mission.ruled(found.plan.get());
+    let ruled = mission.ruled(&found.plan);
     let sequence = expand(
         alloc,
         ruled.model.model().get(),
@@ -189,7 +189,7 @@ fn expansion_of<R: Wait, G: Gate, L: Ledger, K: Ledger>(
     ensures later { IsLater worker.old worker.new }
 {
     let mission = assignment.workplace.mission;
-    let plan = found.plan.get();
+    let plan = &found.plan;
     let kept = found.kept.as_ref();
     let made = simulate(alloc, mission, plan, kept, worker.steps, worker.looks)?;
     attach(alloc, assignment, branch, &made.run, worker.pass)?;

@@ -11,7 +11,7 @@ use Rattle.run_data.specs.Fresh.{start, IsFresh}
 use Rattle.run_data.specs.Records.{unmatched}
 use Rattle.run_data.specs.Transitions.{more, finished}
 use Rattle.run_data.specs.laws.Weights.{WeightFalls}
-use Rattle.engine_core.specs.RunFrames.{PaysForRun, LooksForRun}
+use Rattle.run_data.specs.RunFrames.{PaysForRun, LooksForRun}
 use Rattle.engine_core.specs.EngineStates.{EngineState, IsEngineState, LeadsTo, after_transition, jobs_in, PaysForBatch, LooksForBatch}
 use Rattle.engine_core.proofs.RunCounts.{SoFar, step_pays, step_looks, step_smaller, pays_first, looks_first, at_run}
 use Rattle.engine_core.proofs.Transitions.{point_weight}

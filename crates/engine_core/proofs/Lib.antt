@@ -17,6 +17,7 @@ mod CountedRuns
 mod EndedBatches
 mod EngineSteps
 mod FlaggedCells
+mod GatheredFrames
 mod GoingOnTasks
 mod KeptWakes
 mod ListedTimes

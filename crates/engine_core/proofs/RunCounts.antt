@@ -1,7 +1,7 @@
 -- A file of lemmas: what it proves need not be read to trust a clause.
 --
 -- What the counts come to over a run.
-use Rattle.std.proofs.Common.{◌≡◌, ℕ, ◌+◌, ◌-◌, ◌*◌, ◌<◌, ◌≤◌, Bool, true, false, if◌then◌else◌, List, [], ◌∷◌, ◌++◌, length, Option, Some, None, refl, sym, ap, ◌∙◌, subst, append_assoc, length-append, arith}
+use Rattle.std.proofs.Common.{◌≡◌, ℕ, ◌+◌, ◌-◌, ◌*◌, ◌<◌, ◌≤◌, List, [], ◌∷◌, ◌++◌, length, Option, Some, None, refl, sym, ap, ◌∙◌, subst, append_assoc, length-append, arith}
 use Rattle.std.proofs.lemmas.List.{append-nil}
 use Rattle.aerie_base.specs.declared.models.model.Parts.{Parts}
 use Rattle.aerie_base.specs.declared.plans.Plan.{Plan}
@@ -15,14 +15,14 @@ use Rattle.run_data.specs.declared.runs.Outcome.TheVariants.{Completed}
 use Rattle.run_data.specs.declared.runs.Run.{Run}
 use Rattle.run_data.specs.Batches.{Batch, limit, failed, committed, batch}
 use Rattle.run_data.specs.Fresh.{SimulationState, start, next_state, next_by, woken_or_moved, moved, to_time, to_end, after_outcome, instant_at, settled, below, least_due, IsReached}
-use Rattle.run_data.specs.Records.{unmatched, has_fit}
+use Rattle.run_data.specs.Records.{unmatched}
 use Rattle.run_data.specs.Tasks.{on_each, woken, ready_jobs}
 use Rattle.run_data.specs.Transitions.{Next, more, finished, onward}
 use Rattle.run_data.specs.Counts.{unmatched_append, rose_not}
 use Rattle.run_data.specs.Waves.{last_count}
 use Rattle.run_data.specs.laws.Weights.{weight, WeightFalls}
 use Rattle.engine_core.specs.BatchGenerations.{Ran}
-use Rattle.engine_core.specs.RunFrames.{frames_in_batches, frames_in_instants, frames_in_run}
+use Rattle.run_data.specs.RunFrames.{frames_in_batches, frames_in_instants, frames_in_run}
 use Rattle.engine_core.specs.EngineStates.{EngineState, LeadsTo, there, on, after_transition, jobs_in, OfBatch, PaysForBatch, LooksForBatch}
 use Rattle.engine_core.proofs.ReadyBatches.{next_is_batch}
 use Rattle.engine_core.proofs.Transitions.{point_weight}

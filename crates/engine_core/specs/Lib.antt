@@ -12,7 +12,6 @@ pub mod Indexes
 pub mod Passing
 pub mod Phases
 pub mod PlannedTasks
-pub mod RunFrames
 pub mod EngineStates
 pub mod TaskTables
 pub mod TasksByNumber

@@ -1,8 +1,10 @@
 -- Where an instant is settled and time passes.
-use Rattle.std.specs.Prelude.{ℕ, ◌-◌, ◌≤◌, Option}
+use Rattle.std.specs.Prelude.{◌≡◌, ℕ, ◌-◌, ◌≤◌, List, Option, Result, OnOk}
 use Rattle.aerie_base.specs.declared.models.model.Parts.{Parts}
 use Rattle.aerie_base.specs.declared.plans.Plan.{Plan}
-use Rattle.effect_cells.specs.Cells.{passed, first_out}
+use Rattle.effect_cells.specs.declared.cells.OutOfRange.{OutOfRange}
+use Rattle.effect_cells.specs.declared.effects.CellState.{CellState}
+use Rattle.effect_cells.specs.Cells.{passed, first_out, verdict}
 use Rattle.run_data.specs.declared.runs.Outcome.{Outcome}
 use Rattle.run_data.specs.declared.runs.Run.{Run}
 use Rattle.run_data.specs.Fresh.{SimulationState, moved, to_time, to_end, below, least_due}
@@ -39,6 +41,11 @@ point_at_time model plan bound at time =
 -- where it passes to the plan's end
 abbrev pub point_at_end : Parts → Plan → ℕ → SimulationState → Next SimulationState Run
 point_at_end model plan bound at = to_end model plan bound at (first_out (passed at.cells (plan.duration - at.time)))
+
+-- a time has passed on the cells, or the first that would leave its range is named
+pub record HasPassed (dt : ℕ) (before after : List CellState) (end : Result (Unit {0}) OutOfRange) : Type 0 where
+  pub answer : end ≡ verdict (passed before dt)
+  pub moved : OnOk end (after ≡ passed before dt)
 
 -- a simulation that goes on does so no earlier than at this time
 abbrev pub GoesOnFrom : ℕ → Next SimulationState Run → Type 0

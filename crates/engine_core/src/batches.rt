@@ -1,6 +1,6 @@
 //! One batch: the steps of its ready tasks and of the children that they make, a generation at a time.
 
-ghost use Rattle.std.specs.Prelude.{◌≡◌, ◌≤◌, ◌<◌, Some, IfOk, IsTrue, length};
+ghost use Rattle.std.specs.Prelude.{◌≡◌, ◌≤◌, ◌<◌, Some, IfOk, IsTrue};
 ghost use Rattle.aerie_base.specs.Ranges.{step_limit};
 ghost use Rattle.effect_cells.specs.Cells.{AreInRange, fits_cells};
 ghost use Rattle.effect_cells.specs.Sums.{sum_limit};
@@ -12,20 +12,20 @@ ghost use Rattle.run_data.specs.laws.Trees.{tree_by_frames};
 ghost use Rattle.engine_core.specs.BatchEnding.{committed_by, IsCommittedWith, HasFrames};
 ghost use Rattle.engine_core.specs.BatchEnds.{batch_as, batch_frames, AreReadyJobs, SpendsWith, IsFrugalEnd, HasFewLooks};
 ghost use Rattle.engine_core.specs.BatchOrders.{AreByPath, AreMade};
-ghost use Rattle.engine_core.specs.BatchTrees.{HaveFewItems};
+ghost use Rattle.engine_core.specs.BatchTrees.{HaveFewItems, tree_with, rebuilt_roots};
 ghost use Rattle.engine_core.specs.EngineStates.{OfSameModels};
 
 mod children;
 mod faults;
+mod gathering;
 mod generations;
 mod ordering;
-mod touching;
-mod trees;
 
+use self::gathering::gather_all;
 use crate::batch_ends::BatchEnd;
-use crate::ready_jobs::ReadyJobs;
-use aerie_base::{Fault, List, Model, OutOfMemory, Steps};
-use effect_cells::Cells;
+use crate::ready_jobs::{ReadyJobs, Root};
+use aerie_base::{Fault, List, Model, OutOfMemory, Shared, Steps};
+use effect_cells::{Cells, effects_are_gathered};
 use run_data::laws::{
     order_does_not_matter, same_by_generations, steps_are_small, tree_is_rebuilt,
 };
@@ -33,28 +33,28 @@ use run_data::{Frame, Stepper, Who};
 use std::alloc::Global;
 use std::sync::ledger::Ledger;
 
-/// Puts the tree of frames in order on the cells, unless one would leave its range.
-fn commit(
+/// Puts the effects of frames in order on cells that nobody else sees, unless one would leave its range.
+fn commit_on(
     alloc: Global,
-    model: &Model,
     cells: &mut Cells,
-    jobs: &ReadyJobs,
+    roots: &[Root],
     frames: Vec<Frame>,
     spent: u64,
 ) -> Result<BatchEnd, OutOfMemory>
     requires order { AreByPath frames.items }
     requires few { HaveFewItems frames.items }
-    requires made { EachOf (λ job. job.0 ≤ step_limit) jobs.now }
-    requires count { length cells.old ≡ length model.now.cells }
+    requires made { EachOf (λ root. root.made ≤ step_limit) roots.now }
     requires range { AreInRange cells.old }
-    requires fits { IsTrue (fits_cells cells.old (tree_by_frames frames.items jobs.now)) }
-    requires worth { magnitude_of (tree_by_frames frames.items jobs.now) < sum_limit }
-    ensures end { IfOk result (λ end. batch_as end cells.new ≡ committed_by (tree_by_frames frames.items jobs.now) cells.old frames.items) }
+    requires fits { IsTrue (fits_cells cells.old (tree_with (rebuilt_roots frames.items roots.now))) }
+    requires worth { magnitude_of (tree_with (rebuilt_roots frames.items roots.now)) < sum_limit }
+    ensures end { IfOk result (λ end. batch_as end cells.new ≡ committed_by (tree_with (rebuilt_roots frames.items roots.now)) cells.old frames.items) }
     ensures with_ { IfOk result (λ end. IsCommittedWith frames.items spent end) }
 {
-    let tree = trees::tree(alloc, frames.as_slice(), jobs)?;
-    let touched = touching::touched_cells(alloc, model.cells().len(), &tree)?;
-    match cells.commit(&tree) {
+    effects_are_gathered();
+    let mut gathering = cells.begin_gathering(alloc)?;
+    gather_all(alloc, frames.as_slice(), roots, cells, &mut gathering)?;
+    let touched = gathering.touched(alloc)?;
+    match cells.commit_gathered(gathering) {
         Ok(()) => Ok(BatchEnd::Committed {
             frames: List::from_vec(frames),
             touched,
@@ -67,21 +67,50 @@ fn commit(
     }
 }
 
+/// Puts the tree of frames in order on the cells, unless one would leave its range. The views of the jobs are let go before, so
+/// that the cells change in their place, unless a stepper still has a view: then they are copied.
+fn commit(
+    alloc: Global,
+    cells: &mut Shared<Cells>,
+    jobs: ReadyJobs,
+    frames: Vec<Frame>,
+    spent: u64,
+) -> Result<BatchEnd, OutOfMemory>
+    requires order { AreByPath frames.items }
+    requires few { HaveFewItems frames.items }
+    requires made { EachOf (λ job. job.0 ≤ step_limit) jobs }
+    requires range { AreInRange cells.old }
+    requires fits { IsTrue (fits_cells cells.old (tree_by_frames frames.items jobs)) }
+    requires worth { magnitude_of (tree_by_frames frames.items jobs) < sum_limit }
+    ensures end { IfOk result (λ end. batch_as end cells.new ≡ committed_by (tree_by_frames frames.items jobs) cells.old frames.items) }
+    ensures with_ { IfOk result (λ end. IsCommittedWith frames.items spent end) }
+{
+    let roots = jobs.into_roots();
+    if let Some(own) = cells.get_mut() {
+        let end = commit_on(alloc, own, roots.as_slice(), frames, spent)?;
+        return Ok(end);
+    }
+    let mut own = cells.get().copy(alloc)?;
+    let end = commit_on(alloc, &mut own, roots.as_slice(), frames, spent)?;
+    *cells = Shared::new(alloc, own)?;
+    Ok(end)
+}
+
 /// Judges a batch that makes these frames: its costs, then its faults, then its cells.
 fn judge(
     alloc: Global,
     model: &Model,
     bound: u64,
     spent: u64,
-    cells: &mut Cells,
-    jobs: &ReadyJobs,
+    cells: &mut Shared<Cells>,
+    jobs: ReadyJobs,
     frames: Vec<Frame>,
 ) -> Result<BatchEnd, OutOfMemory>
     requires bound { bound ≤ step_limit }
     requires spent { spent ≤ bound }
-    requires ready { AreReadyJobs model.now spent cells.old jobs.now }
-    requires made { AreMade model.now bound jobs.now frames.items }
-    ensures end { IfOk result (λ end. batch_as end cells.new ≡ batch model.now bound spent cells.old jobs.now) }
+    requires ready { AreReadyJobs model.now spent cells.old jobs }
+    requires made { AreMade model.now bound jobs frames.items }
+    ensures end { IfOk result (λ end. batch_as end cells.new ≡ batch model.now bound spent cells.old jobs) }
     ensures spends { IfOk result (λ end. SpendsWith spent end) }
     ensures frames { IfOk result (λ end. HasFrames (by_path frames.items) end) }
 {
@@ -100,7 +129,7 @@ fn judge(
             fault,
         });
     }
-    let end = commit(alloc, model, cells, jobs, sorted, spent + cost)?;
+    let end = commit(alloc, cells, jobs, sorted, spent + cost)?;
     Ok(end)
 }
 
@@ -112,8 +141,8 @@ pub(crate) fn run_batch<S: Stepper, L: Ledger, K: Ledger>(
     model: &Model,
     bound: u64,
     spent: u64,
-    cells: &mut Cells,
-    ready: &ReadyJobs,
+    cells: &mut Shared<Cells>,
+    ready: ReadyJobs,
     stepper: &mut S,
     steps: &mut Steps<L>,
     looks: &mut Steps<K>,
@@ -122,8 +151,8 @@ pub(crate) fn run_batch<S: Stepper, L: Ledger, K: Ledger>(
     requires stepper { S.is_of stepper.old model.now }
     requires bound { bound ≤ step_limit }
     requires spent { spent ≤ bound }
-    requires ready { AreReadyJobs model.now spent cells.old ready.now }
-    ensures end { IfOk result (λ end. batch_as end cells.new ≡ batch model.now bound spent cells.old ready.now) }
+    requires ready { AreReadyJobs model.now spent cells.old ready }
+    ensures end { IfOk result (λ end. batch_as end cells.new ≡ batch model.now bound spent cells.old ready) }
     ensures spends { IfOk result (λ end. SpendsWith spent end) }
     ensures frugal { IfOk result (λ end. IsFrugalEnd end (S.records stepper.old) steps.old steps.new) }
     ensures looks { looks.old ≤ looks.new }
@@ -134,7 +163,7 @@ pub(crate) fn run_batch<S: Stepper, L: Ledger, K: Ledger>(
     ensures address { S.address stepper.new ≡ S.address stepper.old }
 {
     same_by_generations();
-    let made = generations::all_frames(alloc, model, bound, spent, ready, stepper, steps, looks)?;
+    let made = generations::all_frames(alloc, model, bound, spent, &ready, stepper, steps, looks)?;
     let Some(frames) = made else {
         return Ok(BatchEnd::Limit);
     };
@@ -159,15 +188,15 @@ pub(crate) fn take_batch(
     model: &Model,
     bound: u64,
     spent: u64,
-    cells: &mut Cells,
-    ready: &ReadyJobs,
+    cells: &mut Shared<Cells>,
+    ready: ReadyJobs,
     frames: &[Frame],
 ) -> Result<BatchEnd, OutOfMemory>
     requires bound { bound ≤ step_limit }
     requires spent { spent ≤ bound }
-    requires ready { AreReadyJobs model.now spent cells.old ready.now }
-    requires frames { batch_frames model.now bound ready.now ≡ Some frames.now }
-    ensures end { IfOk result (λ end. batch_as end cells.new ≡ batch model.now bound spent cells.old ready.now) }
+    requires ready { AreReadyJobs model.now spent cells.old ready }
+    requires frames { batch_frames model.now bound ready ≡ Some frames.now }
+    ensures end { IfOk result (λ end. batch_as end cells.new ≡ batch model.now bound spent cells.old ready) }
     ensures spends { IfOk result (λ end. SpendsWith spent end) }
 {
     let shared = shared(alloc, frames)?;

@@ -10,7 +10,7 @@ ghost use Rattle.engine_core.specs.Stages.{point_in, plan_in, bound_in, IsOnCour
 
 use crate::ready_jobs::ReadyJobs;
 use crate::simulation::{Simulation, Stage};
-use aerie_base::{List, Model, OutOfMemory, Plan, Steps, Time};
+use aerie_base::{List, Model, OutOfMemory, Plan, Shared, Steps, Time};
 use run_data::laws::weight_falls;
 use run_data::{Frame, Job, Run, Stepper};
 use std::alloc::Global;
@@ -71,7 +71,7 @@ impl<'a> Engine<'a> {
     pub fn begin(
         alloc: Global,
         model: &'a Model,
-        plan: &Plan,
+        plan: &Shared<Plan>,
         bound: u64,
     ) -> Result<Engine<'a>, OutOfMemory>
         requires plan { IsPlanOf model.now plan.now }
@@ -150,7 +150,7 @@ impl<'a> Engine<'a> {
             stage,
             ready,
         } = self;
-        let stage = stage.batch(alloc, model, &ready, stepper, steps, looks)?;
+        let stage = stage.batch(alloc, model, ready, stepper, steps, looks)?;
         let engine = engine_from(alloc, model, stage)?;
         Ok(engine)
     }
@@ -171,7 +171,7 @@ impl<'a> Engine<'a> {
             stage,
             ready,
         } = self;
-        let stage = stage.batch_of(alloc, model, &ready, frames)?;
+        let stage = stage.batch_of(alloc, model, ready, frames)?;
         let engine = engine_from(alloc, model, stage)?;
         Ok(engine)
     }

@@ -5,7 +5,7 @@ ghost use Rattle.aerie_base.specs.declared.faults.Fault.TheVariants as fault;
 ghost use Rattle.effect_cells.specs.Cells.{AreInRange};
 ghost use Rattle.run_data.specs.declared.runs.Outcome.TheVariants as outcome;
 ghost use Rattle.run_data.specs.declared.runs.Who.TheVariants as who;
-ghost use Rattle.engine_core.specs.Passing.{run_with, next_due, GoesOnFrom, point_of_next, point_then, point_last, IsStageAt};
+ghost use Rattle.engine_core.specs.Passing.{HasPassed, run_with, next_due, GoesOnFrom, point_of_next, point_then, point_last, IsStageAt};
 ghost use Rattle.engine_core.specs.TasksByNumber.{AreFound};
 ghost use Rattle.engine_core.specs.Stages.{state_of};
 ghost use Rattle.engine_core.specs.declared.simulation.Stage.TheVariants as stage_;
@@ -14,7 +14,8 @@ use crate::history::History;
 use crate::present::Present;
 use crate::simulation::{Request, Simulation, Stage};
 use crate::waking::wakes_pass;
-use aerie_base::{Fault, Model, OutOfMemory, Time};
+use aerie_base::{Fault, Model, OutOfMemory, Shared, Time};
+use effect_cells::{Cells, OutOfRange};
 use run_data::laws::{due_splits, tasks_stand_by_number};
 use run_data::{Outcome, Run, Who};
 use std::alloc::Global;
@@ -44,6 +45,24 @@ fn cell_out(request: Request, history: History, reach: Time, time: Time, cell: u
     Stage::Over(run_with(request, history, reach, outcome))
 }
 
+/// Lets a time pass on the cells, where there is no effect. They are copied only where somebody else has a view of them.
+fn pass(
+    alloc: Global,
+    cells: &mut Shared<Cells>,
+    dt: Time,
+) -> Result<Result<(), OutOfRange>, OutOfMemory>
+    requires { AreInRange cells.old }
+    ensures { IfOk result (HasPassed dt cells.old cells.new) }
+{
+    if let Some(own) = cells.get_mut() {
+        return Ok(own.passed(dt));
+    }
+    let mut own = cells.get().copy(alloc)?;
+    let end = own.passed(dt);
+    *cells = Shared::new(alloc, own)?;
+    Ok(end)
+}
+
 /// The instant is settled, and time passes to the next time, at which some task goes on by itself.
 fn moved_to(
     alloc: Global,
@@ -65,10 +84,11 @@ fn moved_to(
     wakes_pass();
     present.tasks.note_distinct();
     let count = model.cells().len();
-    let history = history.settled(alloc, present.time, &present.cells, count)?;
+    let history = history.settled(alloc, present.time, present.cells.get(), count)?;
     let reach = present.time;
     let mut present = present;
-    match present.cells.passed(reach.until(time)) {
+    let end = pass(alloc, &mut present.cells, reach.until(time))?;
+    match end {
         Ok(()) => {
             let present = present.rested(alloc, time)?;
             Ok(Stage::On(Simulation {
@@ -94,11 +114,12 @@ fn ended(
     ensures { IfOk result (IsStageAt request (point_last model.now request history present)) }
 {
     let count = model.cells().len();
-    let history = history.settled(alloc, present.time, &present.cells, count)?;
+    let history = history.settled(alloc, present.time, present.cells.get(), count)?;
     let reach = present.time;
     let end = request.end();
     let mut present = present;
-    match present.cells.passed(reach.until(end)) {
+    let passed = pass(alloc, &mut present.cells, reach.until(end))?;
+    match passed {
         Ok(()) => Ok(Stage::Over(run_with(request, history, end, Outcome::Completed))),
         Err(out) => Ok(cell_out(request, history, reach, end, out.cell)),
     }

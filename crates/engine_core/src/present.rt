@@ -17,7 +17,7 @@ ghost use Rattle.engine_core.specs.Stages.{table_in};
 
 use crate::phases::micros;
 use crate::tasks::IndexedTasks;
-use aerie_base::{OutOfMemory, Time};
+use aerie_base::{OutOfMemory, Shared, Time};
 use effect_cells::Cells;
 use run_data::Frame;
 use run_data::laws::due_splits;
@@ -28,7 +28,7 @@ use std::alloc::Global;
 pub(crate) struct Present {
     pub(crate) time: Time,
     pub(crate) spent: u64,
-    pub(crate) cells: Cells,
+    pub(crate) cells: Shared<Cells>,
     pub(crate) tasks: IndexedTasks,
 }
 
@@ -107,7 +107,7 @@ impl Present {
             cells,
             tasks,
         } = self;
-        let tasks = tasks.wake_all(alloc, time, end, &cells)?;
+        let tasks = tasks.wake_all(alloc, time, end, cells.get())?;
         Ok(Present {
             time,
             spent,

@@ -1,28 +1,38 @@
-ghost use Rattle.std.specs.Prelude.{◌≡◌, ◌<◌, ◌++◌, [], ◌∷◌, Some, map, length, slice_get, IfOk};
+ghost use Rattle.std.specs.Prelude.{◌≡◌, ◌<◌, ◌++◌, [], ◌∷◌, Some, map, length, slice_get, IfOk, OnOk};
+ghost use Rattle.engine_core.specs.BatchTrees.{root_of};
 
-use aerie_base::OutOfMemory;
+use aerie_base::{OutOfMemory, Path, Shared};
 use run_data::Job;
 use std::alloc::Global;
 use std::marker::Model;
+
+/// A ready task: its path, and how many children it has made.
+#[derive(Drop)]
+pub(crate) struct Root {
+    /// Its path.
+    pub(crate) path: Shared<Path>,
+    /// How many children it has made.
+    pub(crate) made: u32,
+}
 
 /// The jobs of ready tasks, in order of path, each with the number of children that its task has made. Contracts see the
 /// list of these pairs.
 #[derive(Drop)]
 pub(crate) struct ReadyJobs {
     jobs: Vec<Job>,
-    made: Vec<u32>,
+    roots: Vec<Root>,
 }
 
 impl Model for ReadyJobs {
-    ghost use Rattle.std.specs.Prelude.{◌≡◌, ℕ, List, length};
+    ghost use Rattle.std.specs.Prelude.{◌≡◌, ℕ, List, map};
     ghost use Rattle.run_data.specs.declared.jobs.Job.{Job as Asked};
     ghost use Rattle.std.specs.List.{zip};
 
     ghost Value = { List (ℕ × Asked) };
 
-    ghost view = { λ ready. zip ready.made.items ready.jobs.items };
+    ghost view = { λ ready. zip (map (λ root. root.made) ready.roots.items) ready.jobs.items };
 
-    ghost invariant = { λ ready. length ready.made.items ≡ length ready.jobs.items };
+    ghost invariant = { λ ready. map (λ root. root.path) ready.roots.items ≡ map (λ job. job.path) ready.jobs.items };
 }
 
 impl ReadyJobs {
@@ -32,24 +42,38 @@ impl ReadyJobs {
     {
         ReadyJobs {
             jobs: Vec::new(alloc),
-            made: Vec::new(alloc),
+            roots: Vec::new(alloc),
         }
+    }
+
+    /// None, with room for so many.
+    pub(crate) fn with_capacity(alloc: Global, count: usize) -> Result<ReadyJobs, OutOfMemory>
+        ensures { IfOk result (λ ready. ready ≡ []) }
+    {
+        let jobs = Vec::with_capacity(alloc, count)?;
+        let roots = Vec::with_capacity(alloc, count)?;
+        Ok(ReadyJobs { jobs, roots })
+    }
+
+    /// Puts one more behind the last.
+    pub(crate) fn push(&mut self, made: u32, job: Job) -> Result<(), OutOfMemory>
+        ensures { OnOk result (self.new ≡ self.old ++ (made, job) ∷ []) }
+    {
+        let path = job.path.share()?;
+        let root = Root { path, made };
+        self.jobs.reserve(1)?;
+        self.roots.push(root)?;
+        self.jobs.push_reserved(job);
+        Ok(())
     }
 
     /// One more behind the last.
     pub(crate) fn with(self, made: u32, job: Job) -> Result<ReadyJobs, OutOfMemory>
         ensures { IfOk result (λ ready. ready ≡ self ++ (made, job) ∷ []) }
     {
-        let ReadyJobs {
-            mut jobs,
-            made: mut numbers,
-        } = self;
-        jobs.push(job)?;
-        numbers.push(made)?;
-        Ok(ReadyJobs {
-            jobs,
-            made: numbers,
-        })
+        let mut all = self;
+        all.push(made, job)?;
+        Ok(all)
     }
 
     /// The jobs.
@@ -71,6 +95,14 @@ impl ReadyJobs {
         requires { at < length self.now }
         ensures { slice_get (map (λ job. job.0) self.now) at ≡ Some result }
     {
-        self.made[at]
+        self.roots[at].made
+    }
+
+    /// The tasks. Their jobs are let go, and with them what they see.
+    pub(crate) fn into_roots(self) -> Vec<Root>
+        ensures { result.items ≡ map root_of self }
+    {
+        let ReadyJobs { jobs: _, roots } = self;
+        roots
     }
 }

@@ -3,11 +3,11 @@ ghost use Rattle.aerie_base.specs.Ranges.{step_limit};
 ghost use Rattle.aerie_base.specs.plans.OfModel.{IsPlanOf};
 ghost use Rattle.run_data.specs.Fresh.{IsFresh};
 ghost use Rattle.run_data.specs.Waves.{RoseAlike};
-ghost use Rattle.engine_core.specs.RunFrames.{PaysForRun, LooksForRun};
+ghost use Rattle.run_data.specs.RunFrames.{PaysForRun, LooksForRun};
 ghost use Rattle.engine_core.specs.EngineStates.{OfSameModels};
 
 use crate::engine::Engine;
-use aerie_base::{Model, OutOfMemory, Plan, Steps};
+use aerie_base::{Model, OutOfMemory, Plan, Shared, Steps};
 use run_data::laws::weight_falls;
 use run_data::{Run, Stepper};
 use std::alloc::Global;
@@ -19,7 +19,7 @@ use std::sync::ledger::Ledger;
 pub fn simulate<S: Stepper, L: Ledger, K: Ledger>(
     alloc: Global,
     model: &Model,
-    plan: &Plan,
+    plan: &Shared<Plan>,
     bound: u64,
     stepper: &mut S,
     steps: &mut Steps<L>,

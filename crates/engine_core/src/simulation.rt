@@ -33,7 +33,7 @@ use std::sync::ledger::Ledger;
 /// What is simulated: a plan, whose costs may come to a bound.
 #[derive(Drop)]
 pub(crate) struct Request {
-    pub(crate) plan: Plan,
+    pub(crate) plan: Shared<Plan>,
     pub(crate) bound: u64,
 }
 
@@ -42,7 +42,7 @@ impl Request {
     pub(crate) fn end(&self) -> Time
         ensures { result ≡ self.now.plan.duration }
     {
-        self.plan.duration
+        self.plan.get().duration
     }
 }
 
@@ -112,7 +112,7 @@ impl Simulation {
     pub(crate) fn begin(
         alloc: Global,
         model: &Model,
-        plan: &Plan,
+        plan: &Shared<Plan>,
         bound: u64,
     ) -> Result<Simulation, OutOfMemory>
         ensures state { IfOk result (λ simulation. state_of simulation.history simulation.present ≡ start model.now plan.now) }
@@ -121,9 +121,9 @@ impl Simulation {
         ensures kept { IfOk result (λ simulation. AreKeptBefore plan.now.duration simulation.present) }
     {
         let time = Time::zero();
-        let cells = Cells::initial(alloc, model)?;
-        let tasks = planned_tasks(alloc, model, plan, time)?;
-        let plan = plan.copy(alloc)?;
+        let cells = Shared::new(alloc, Cells::initial(alloc, model)?)?;
+        let tasks = planned_tasks(alloc, model, plan.get(), time)?;
+        let plan = plan.share()?;
         Ok(Simulation {
             request: Request { plan, bound },
             history: History::new(alloc),
@@ -143,11 +143,11 @@ impl Simulation {
         !self.present.tasks.is_ready()
     }
 
-    /// The jobs of the ready tasks, all with one view of the cells.
+    /// The jobs of the ready tasks, all with one view of the cells, which is shared.
     pub(crate) fn ready(&self, alloc: Global) -> Result<ReadyJobs, OutOfMemory>
         ensures { IfOk result (λ jobs. jobs ≡ jobs_at self.now.present) }
     {
-        let view = Shared::new(alloc, self.present.cells.copy(alloc)?)?;
+        let view = self.present.cells.share()?;
         self.present.tasks.ready(alloc, &view)
     }
 
@@ -156,14 +156,14 @@ impl Simulation {
         self,
         alloc: Global,
         model: &Model,
-        ready: &ReadyJobs,
+        ready: ReadyJobs,
         stepper: &mut S,
         steps: &mut Steps<L>,
         looks: &mut Steps<K>,
     ) -> Result<Stage, OutOfMemory>
         requires course { IsOnCourse model.now (stage_.On self) }
-        requires ready { ready.now ≡ jobs_at self.present }
-        requires job { ready.now ≡ [] → ⊥ }
+        requires ready { ready ≡ jobs_at self.present }
+        requires job { ready ≡ [] → ⊥ }
         requires shares { S.shares }
         requires stepper { S.is_of stepper.old model.now }
         ensures stage { IfOk result (IsTransitionFrom model.now (stage_.On self)) }
@@ -204,13 +204,13 @@ impl Simulation {
         self,
         alloc: Global,
         model: &Model,
-        ready: &ReadyJobs,
+        ready: ReadyJobs,
         frames: &[Frame],
     ) -> Result<Stage, OutOfMemory>
         requires course { IsOnCourse model.now (stage_.On self) }
-        requires ready { ready.now ≡ jobs_at self.present }
-        requires job { ready.now ≡ [] → ⊥ }
-        requires frames { batch_frames model.now self.request.bound ready.now ≡ Some frames.now }
+        requires ready { ready ≡ jobs_at self.present }
+        requires job { ready ≡ [] → ⊥ }
+        requires frames { batch_frames model.now self.request.bound ready ≡ Some frames.now }
         ensures { IfOk result (IsTransitionFrom model.now (stage_.On self)) }
     {
         reached_states_are_of_the_model();

@@ -72,14 +72,14 @@ impl Stage {
         self,
         alloc: Global,
         model: &Model,
-        ready: &ReadyJobs,
+        ready: ReadyJobs,
         stepper: &mut S,
         steps: &mut Steps<L>,
         looks: &mut Steps<K>,
     ) -> Result<Stage, OutOfMemory>
         requires course { IsOnCourse model.now self }
-        requires ready { ready.now ≡ jobs_in (point_in self) }
-        requires job { ready.now ≡ [] → ⊥ }
+        requires ready { ready ≡ jobs_in (point_in self) }
+        requires job { ready ≡ [] → ⊥ }
         requires shares { S.shares }
         requires stepper { S.is_of stepper.old model.now }
         ensures stage { IfOk result (IsTransitionFrom model.now self) }
@@ -102,13 +102,13 @@ impl Stage {
         self,
         alloc: Global,
         model: &Model,
-        ready: &ReadyJobs,
+        ready: ReadyJobs,
         frames: &[Frame],
     ) -> Result<Stage, OutOfMemory>
         requires course { IsOnCourse model.now self }
-        requires ready { ready.now ≡ jobs_in (point_in self) }
-        requires job { ready.now ≡ [] → ⊥ }
-        requires frames { batch_frames model.now (bound_in self) ready.now ≡ Some frames.now }
+        requires ready { ready ≡ jobs_in (point_in self) }
+        requires job { ready ≡ [] → ⊥ }
+        requires frames { batch_frames model.now (bound_in self) ready ≡ Some frames.now }
         ensures { IfOk result (IsTransitionFrom model.now self) }
     {
         match self {

@@ -5,7 +5,7 @@ ghost use Rattle.aerie_base.specs.plans.OfModel.{IsPlanOf};
 
 use crate::plans::{bare, bump, bump_after, put};
 use crate::telling;
-use aerie_base::{Edge, Model, OutOfMemory, Plan, Steps};
+use aerie_base::{Edge, Model, OutOfMemory, Plan, Shared, Steps};
 use body_code::compile_all;
 use engine_core::simulate;
 use run_data::Run;
@@ -36,7 +36,7 @@ fn simulated<L: Ledger, K: Ledger>(
     looks: Blank,
     alloc: Global,
     model: &Model,
-    plan: &Plan,
+    plan: &Shared<Plan>,
 ) -> Result<Run, OutOfMemory>
     requires steps { (steps.name ≡ L.name) × (steps.parts ≡ L.parts) × (0 < L.parts) }
     requires looks { (looks.name ≡ K.name) × (looks.parts ≡ K.parts) × (0 < K.parts) }
@@ -73,7 +73,7 @@ fn told<L: Ledger, K: Ledger>(
         planned,
     };
     let model = model_in(alloc, TRIED)?.copy(alloc).ok()?;
-    let plan = plan_of(alloc, &model, &outline)?;
+    let plan = Shared::new(alloc, plan_of(alloc, &model, &outline)?).ok()?;
     let run = simulated::<L, K>(steps, looks, alloc, &model, &plan).ok()?;
     telling::instants(alloc, &run).ok()
 }

@@ -48,7 +48,7 @@ impl Bound {
 
 /// Times, each so much after the one before it, as far as they are within a bound.
 #[derive(Clone, Copy)]
-struct Spread {
+struct EvenTimes {
     /// The first one.
     first: i128,
     /// How much after one another they are.
@@ -58,7 +58,7 @@ struct Spread {
 }
 
 /// The first hundred times, as far as they are within the bound.
-fn times_of(alloc: Global, spread: &Spread) -> Result<Vec<i128>, OutOfMemory>
+fn times_of(alloc: Global, spread: &EvenTimes) -> Result<Vec<i128>, OutOfMemory>
     requires first { unsigned_abs spread.now.first ≤ spread_limit }
     requires step { unsigned_abs spread.now.step ≤ spread_limit }
     ensures { IfOk result (λ times. times.items ≡ spread_times spread.now.bound spread.now.first spread.now.step) }
@@ -83,7 +83,7 @@ fn step_of(length: u64, parts: u64) -> i128
 }
 
 /// The times that a recurrence tries.
-fn recurrence_spread(gap: &Gap, every: Time) -> Spread
+fn recurrence_spread(gap: &Gap, every: Time) -> EvenTimes
     ensures first { result.first ≡ gap.now.at +ℤ pos every }
     ensures step { result.step ≡ pos 0 -ℤ pos (try_step every 100) }
     ensures bound { result.bound ≡ After gap.now.at }
@@ -92,7 +92,7 @@ fn recurrence_spread(gap: &Gap, every: Time) -> Spread
 {
     let gap = i128::from(gap.at);
     let every = every.get().unsigned_abs();
-    Spread {
+    EvenTimes {
         first: gap + i128::from(every),
         step: 0 - step_of(every, 100),
         bound: Bound::After(gap),
@@ -115,14 +115,14 @@ fn width(range: &StartRange) -> u64
 }
 
 /// The times that a coexistence tries.
-fn coexistence_spread(gap: &Gap, range: &StartRange) -> Spread
+fn coexistence_spread(gap: &Gap, range: &StartRange) -> EvenTimes
     ensures first { result.first ≡ gap.now.at +ℤ range.now.from }
     ensures step { result.step ≡ pos (try_step (unsigned_abs (range.now.to -ℤ range.now.from)) 99) }
     ensures bound { result.bound ≡ UpTo (gap.now.at +ℤ range.now.to) }
     ensures small { unsigned_abs result.first ≤ spread_limit }
     ensures slow { unsigned_abs result.step ≤ spread_limit }
 {
-    Spread {
+    EvenTimes {
         first: after_gap(gap, &range.from),
         step: step_of(width(range), 99),
         bound: Bound::UpTo(after_gap(gap, &range.to)),
@@ -130,7 +130,7 @@ fn coexistence_spread(gap: &Gap, range: &StartRange) -> Spread
 }
 
 /// The times that a cardinality tries.
-fn cardinality_spread(from: Time, to: Time) -> Spread
+fn cardinality_spread(from: Time, to: Time) -> EvenTimes
     ensures first { result.first ≡ pos from }
     ensures step { result.step ≡ pos (try_step (to - from) 100) }
     ensures bound { result.bound ≡ Before (pos to) }
@@ -138,7 +138,7 @@ fn cardinality_spread(from: Time, to: Time) -> Spread
     ensures slow { unsigned_abs result.step ≤ spread_limit }
 {
     let (from, to) = (from.get().unsigned_abs(), to.get().unsigned_abs());
-    Spread {
+    EvenTimes {
         first: i128::from(from),
         step: step_of(to.saturating_sub(from), 100),
         bound: Bound::Before(i128::from(to)),
@@ -242,6 +242,6 @@ pub fn candidates(
     let matched = match_spans(alloc, &goal.template, spans)?;
     let tried = times_by_kind(alloc, gap, &goal.kind)?;
     let starts = matched.as_slice();
-    let times = free_times(alloc, run.plan.duration, starts, tried.as_slice())?;
+    let times = free_times(alloc, run.plan.get().duration, starts, tried.as_slice())?;
     Ok(times)
 }

@@ -11,9 +11,9 @@ use Rattle.run_data.specs.Tasks.{Table, task_at, after_frames, on_each}
 use Rattle.run_data.specs.laws.BatchFrames.{HasPath, Differ, OfReady, OfChild}
 use Rattle.run_data.specs.laws.Orders.{EachOf}
 use Rattle.run_data.specs.laws.OrderedTables.{IsOrderedTable}
-use Rattle.run_data.proofs.Ending.{order_frames}
-use Rattle.run_data.proofs.FramesByPath.{either_path, frame_of_path, differ_sorted, at_no_frame, at_one_frame}
-use Rattle.run_data.proofs.TableParts.{same_tables}
+use Rattle.run_data.specs.laws.OpenTasks.{order_frames}
+use Rattle.run_data.specs.laws.FramesByPath.{either_path, frame_of_path, differ_sorted, at_no_frame, at_one_frame}
+use Rattle.run_data.specs.laws.TableParts.{same_tables}
 use Rattle.live_tasks.specs.AnyOrder.{SameInAnyOrder, OfTasksInAnyOrder}
 
 -- ---- the table after them

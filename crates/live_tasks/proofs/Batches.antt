@@ -14,7 +14,7 @@ use Rattle.live_tasks.specs.Endings.{FallDue, IsEnding, AreLive, IsTaking, AreFo
 use Rattle.live_tasks.proofs.Falling.{same_place, fall_place, none_anchored, stays_in_place}
 use Rattle.live_tasks.proofs.Settled.{undone, is_live_part}
 use Rattle.live_tasks.proofs.Tabled.{are_table}
-use Rattle.run_data.proofs.FramesByPath.{frame_of_path, at_one_frame}
+use Rattle.run_data.specs.laws.FramesByPath.{frame_of_path, at_one_frame}
 use Rattle.live_tasks.proofs.Settling.{fall_followers}
 use Rattle.live_tasks.proofs.Taken.{all_taken}
 

@@ -4,8 +4,8 @@ use Rattle.aerie_base.specs.declared.plans.Edge.TheVariants.{Start, End}
 use Rattle.aerie_base.specs.Paths.{root}
 use Rattle.run_data.specs.Tasks.{Task, Table, task_at, on_each}
 use Rattle.run_data.specs.TableLaws.{order_each}
-use Rattle.run_data.proofs.QuietTasks.{begun_each}
-use Rattle.run_data.proofs.TableParts.{each_at, changed_at}
+use Rattle.run_data.specs.laws.QuietTasks.{begun_each}
+use Rattle.run_data.specs.laws.TableParts.{each_at, changed_at}
 use Rattle.live_tasks.specs.declared.slots.Slot.{Slot}
 use Rattle.live_tasks.specs.Slots.{Slots, slot_at, StandsUnder, child_in, HasSlot}
 use Rattle.live_tasks.specs.Endings.{slot_has_ended, AreLive, StaysThere}

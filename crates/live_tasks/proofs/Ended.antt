@@ -6,8 +6,8 @@ use Rattle.run_data.specs.TaskFrames.{Frame}
 use Rattle.run_data.specs.Endings.{is_open, has_ended, result_of, result_of_phase}
 use Rattle.run_data.specs.Tasks.{Task, Table, task_at}
 use Rattle.run_data.specs.laws.EndedTasks.{open_is}
-use Rattle.run_data.proofs.EndedTasks.{open_stops, open_some, ended_by_open_bodies}
-use Rattle.run_data.proofs.FramePaths.{both_true, same_number, under_itself}
+use Rattle.run_data.specs.laws.EndedTaskLaws.{open_stops, open_some, ended_by_open_bodies}
+use Rattle.run_data.specs.laws.PathsUnder.{both_true, same_number, under_itself}
 use Rattle.live_tasks.specs.declared.slots.Slot.{Slot}
 use Rattle.live_tasks.specs.Slots.{Slots, slot_at, live_children_of, HasSlot}
 use Rattle.live_tasks.specs.Endings.{slot_has_ended, IsOf, IsEnding}

@@ -3,8 +3,8 @@ use Rattle.std.proofs.Common.{◌≡◌, ◌≢◌, ◌⊎◌, inl, inr, ℕ, ze
 use Rattle.std.proofs.lemmas.Bool.{false≢true}
 use Rattle.std.proofs.lemmas.List.{length-append}
 use Rattle.aerie_base.specs.Paths.{child_path, is_prefix}
-use Rattle.run_data.proofs.FramePaths.{both_true, same_number}
-use Rattle.run_data.proofs.LiveAfterFrames.{prefix_child}
+use Rattle.run_data.specs.laws.PathsUnder.{both_true, same_number}
+use Rattle.run_data.specs.laws.LiveAfterFrames.{prefix_child}
 use Rattle.live_tasks.specs.declared.slots.Slot.{Slot}
 use Rattle.live_tasks.specs.Slots.{Slots, slot_at, IsRoot, StandsUnder, live_children_of, IsForest}
 use Rattle.live_tasks.proofs.Counts.{child_counts}

@@ -8,9 +8,9 @@ use Rattle.run_data.specs.declared.tasks.TaskState.{TaskState}
 use Rattle.run_data.specs.Endings.{is_open, has_ended, has_come, back, due_phase, result_of, result_of_phase, with_result, gone_on}
 use Rattle.run_data.specs.Tasks.{TaskPhase, anchored, ready, delayed, waiting, calling, over, Task, Table, task_at, after_delay}
 use Rattle.run_data.specs.laws.GoingOn.{IsQuiet}
-use Rattle.run_data.proofs.Ending.{back_open, due_open}
-use Rattle.run_data.proofs.FramePaths.{both_true, same_number}
-use Rattle.run_data.proofs.QuietTasks.{quiet_after}
+use Rattle.run_data.specs.laws.OpenTasks.{back_open, due_open}
+use Rattle.run_data.specs.laws.PathsUnder.{both_true, same_number}
+use Rattle.run_data.specs.laws.QuietTasks.{quiet_after}
 use Rattle.live_tasks.specs.Phases.{is_same_edge, phase_with_return, phase_when_due}
 
 pub quiet_stays : (table : Table) (now : ℕ) (path : List ℕ) (phase : TaskPhase) → IsQuiet table path phase → due_phase table now (back table path phase) ≡ phase

@@ -5,7 +5,7 @@ use Rattle.aerie_base.specs.Paths.{child_path}
 use Rattle.run_data.specs.TaskFrames.{Frame}
 use Rattle.run_data.specs.Tasks.{Task, Table, task_at, after_frame, after_frames, children_made, children_in}
 use Rattle.run_data.specs.laws.BatchFrames.{Among, HasPath, Differ}
-use Rattle.run_data.proofs.FramesByPath.{at_no_frame, at_one_frame}
+use Rattle.run_data.specs.laws.FramesByPath.{at_no_frame, at_one_frame}
 use Rattle.run_data.specs.laws.ReadyTasks.{is_ready_phase}
 use Rattle.live_tasks.specs.Listing.{is_ready_slot}
 use Rattle.live_tasks.specs.declared.slots.Slot.{Slot}

@@ -5,10 +5,10 @@ use Rattle.std.specs.BTreeMap.{is_at}
 use Rattle.aerie_base.specs.Paths.{path_cmp}
 use Rattle.run_data.specs.Tasks.{Task, Table, task_at, ready_jobs}
 use Rattle.run_data.specs.laws.ReadyTasks.{is_ready_phase, is_ready}
-use Rattle.run_data.proofs.EndedTasks.{stands_at}
+use Rattle.run_data.specs.laws.EndedTaskLaws.{stands_at}
 use Rattle.run_data.specs.TableLaws.{is_same}
 use Rattle.run_data.specs.laws.LiveParts.{part}
-use Rattle.run_data.proofs.TableParts.{order_part, part_at, part_none, ready_part, same_tables}
+use Rattle.run_data.specs.laws.TableParts.{order_part, part_at, part_none, ready_part, same_tables}
 use Rattle.live_tasks.specs.declared.slots.Slot.{Slot}
 use Rattle.live_tasks.specs.Slots.{Slots, slot_at}
 use Rattle.live_tasks.specs.Endings.{IsNumberAmong}

@@ -4,8 +4,8 @@ use Rattle.std.proofs.lemmas.Bool.{false≢true}
 use Rattle.aerie_base.specs.declared.plans.Edge.{Edge}
 use Rattle.run_data.specs.declared.tasks.TaskState.{TaskState}
 use Rattle.run_data.specs.Tasks.{TaskPhase, anchored, ready, delayed, waiting, calling, over, Task, Table, task_at, on_each, rested, rested_phase}
-use Rattle.run_data.proofs.Ending.{rested_open}
-use Rattle.run_data.proofs.TableParts.{same_tables}
+use Rattle.run_data.specs.laws.OpenTasks.{rested_open}
+use Rattle.run_data.specs.laws.TableParts.{same_tables}
 use Rattle.live_tasks.specs.declared.slots.Slot.{Slot}
 use Rattle.live_tasks.specs.Phases.{anchor_of_start}
 use Rattle.live_tasks.specs.Slots.{Slots, slot_at, AreTable, table_of}

@@ -7,12 +7,12 @@ use Rattle.run_data.specs.Endings.{is_open, has_ended, has_begun, gone_on}
 use Rattle.run_data.specs.Tasks.{TaskPhase, anchored, ready, delayed, waiting, calling, over, Task, Table, task_at, on_each}
 use Rattle.run_data.specs.laws.BatchFrames.{HasPath}
 use Rattle.run_data.specs.laws.GoingOn.{IsQuiet}
-use Rattle.run_data.proofs.EndedTasks.{open_stops, ended_below}
-use Rattle.run_data.proofs.FramePaths.{same_number, under_itself, under_shorter}
+use Rattle.run_data.specs.laws.EndedTaskLaws.{open_stops, ended_below}
+use Rattle.run_data.specs.laws.PathsUnder.{same_number, under_itself, under_shorter}
 use Rattle.run_data.specs.TableLaws.{order_each}
-use Rattle.run_data.proofs.QuietTasks.{ended_each}
+use Rattle.run_data.specs.laws.QuietTasks.{ended_each}
 use Rattle.run_data.specs.laws.LiveParts.{is_live, live}
-use Rattle.run_data.proofs.TableParts.{order_part, part_at, part_none, same_tables, each_at, changed_at}
+use Rattle.run_data.specs.laws.TableParts.{order_part, part_at, part_none, same_tables, each_at, changed_at}
 use Rattle.live_tasks.specs.declared.slots.Slot.{Slot}
 use Rattle.live_tasks.specs.Slots.{Slots, slot_at, StandsUnder, under, child_in, live_children_of, AreTable}
 use Rattle.live_tasks.specs.Endings.{slot_has_ended, IsNumberAmong, IsOf, IsEnding}

@@ -8,9 +8,9 @@ use Rattle.run_data.specs.TaskFrames.{Frame}
 use Rattle.run_data.specs.Endings.{has_begun}
 use Rattle.run_data.specs.Tasks.{TaskPhase, anchored, ready, delayed, waiting, calling, over, Task, Table, task_at, after_frames, children_made, children_in}
 use Rattle.run_data.specs.laws.BatchFrames.{Among, HasPath, AreFramesOf}
-use Rattle.run_data.proofs.Ending.{order_frames}
-use Rattle.run_data.proofs.FramesByPath.{either_path, frame_of_path, new_at, at_no_frame, at_one_frame}
-use Rattle.run_data.proofs.LiveAfterFrames.{calls_by, anchors_never}
+use Rattle.run_data.specs.laws.OpenTasks.{order_frames}
+use Rattle.run_data.specs.laws.FramesByPath.{either_path, frame_of_path, new_at, at_no_frame, at_one_frame}
+use Rattle.run_data.specs.laws.LiveAfterFrames.{calls_by, anchors_never}
 use Rattle.live_tasks.specs.declared.slots.Slot.{Slot}
 use Rattle.live_tasks.specs.Phases.{anchor_of_start}
 use Rattle.live_tasks.specs.Slots.{Slots, slot_at, StandsUnder, HasSlot}

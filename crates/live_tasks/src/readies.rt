@@ -11,6 +11,9 @@ ghost use Rattle.live_tasks.specs.AnyOrder.{SameInAnyOrder, OfTasksInAnyOrder};
 
 use crate::slots::Slot;
 use aerie_base::{OutOfMemory, Path, Shared};
+use run_data::laws::{
+    frames_of_batches_are_of_tasks, reached_states_are_of_the_model, reached_states_are_quiet,
+};
 use slab::Slab;
 use std::alloc::Global;
 
@@ -69,7 +72,11 @@ pub fn ready_tasks_are_in_order()
 /// The live part of a reached state goes on by batches as the state does.
 pub fn live_tasks_live_on()
     ensures { LivePartGoesOn }
-{}
+{
+    reached_states_are_of_the_model();
+    frames_of_batches_are_of_tasks();
+    reached_states_are_quiet();
+}
 
 /// Live tasks stay live where each is changed by itself, as when delays end or conditions hold.
 pub fn changes_keep_tasks_live()

@@ -41,7 +41,20 @@ pub(crate) fn measure_session<R: Clock>(
     let plan = &judged.session.plan;
     watch.note("judge", "directives", Some(plan.directives.len() as u64))?;
     let model = &judged.session.models.as_slice()[0].model;
-    measure_plan::<R, Brand, Brand>(alloc, watch, model, plan, Blank::new(1), Blank::new(1))
+    measure_shared(alloc, watch, model, plan)
+}
+
+/// Measures simulating a plan, which is copied before the clock starts.
+fn measure_shared<R: Clock>(
+    alloc: Global,
+    watch: &mut Watch<R>,
+    model: &Shared<Model>,
+    plan: &Plan,
+) -> Result<(), MeasureError>
+    requires { IsPlanOf model.now plan.now }
+{
+    let plan = Shared::new(alloc, plan.copy(alloc)?)?;
+    measure_plan::<R, Brand, Brand>(alloc, watch, model, &plan, Blank::new(1), Blank::new(1))
 }
 
 /// Measures simulating a plan, what is found on its run, and freeing the run.
@@ -49,7 +62,7 @@ fn measure_plan<R: Clock, L: Ledger, K: Ledger>(
     alloc: Global,
     watch: &mut Watch<R>,
     model: &Shared<Model>,
-    plan: &Plan,
+    plan: &Shared<Plan>,
     steps: Blank,
     looks: Blank,
 ) -> Result<(), MeasureError>

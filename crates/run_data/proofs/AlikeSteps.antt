@@ -17,14 +17,14 @@ use Rattle.run_data.specs.Fresh.{SimulationState, instant_at, next_state, next_b
 use Rattle.run_data.specs.Tasks.{on_each, ready_jobs, woken, rested}
 use Rattle.run_data.specs.Transitions.{more}
 use Rattle.run_data.specs.laws.OrderedTables.{IsOrderedTable}
-use Rattle.run_data.proofs.Ending.{order_batch, woken_open, rested_open}
+use Rattle.run_data.specs.laws.OpenTasks.{order_batch, woken_open, rested_open}
 use Rattle.run_data.specs.TableLaws.{order_each}
 use Rattle.run_data.proofs.QuietStates.{reached_is_quiet}
 use Rattle.run_data.proofs.ReachedStates.{reached_is_of_model, batch_frames}
 use Rattle.run_data.specs.laws.AlikeSteps.{StepsAlike, IsPaid, NextIsAlike, Alike}
 use Rattle.run_data.specs.laws.LiveParts.{live}
-use Rattle.run_data.proofs.LiveParts.{SameLive, same_of, live_of, same_ready, same_due, same_each}
-use Rattle.run_data.proofs.LiveAfterBatches.{batch_same}
+use Rattle.run_data.specs.laws.LivePartLaws.{SameLive, same_of, live_of, same_ready, same_due, same_each}
+use Rattle.run_data.specs.laws.LiveAfterBatches.{batch_same}
 use Rattle.run_data.proofs.OtherBounds.{batch_paid, batch_fails}
 
 pub append_none : {A : Type 0} (list : List A) → list ++ [] ≡ list

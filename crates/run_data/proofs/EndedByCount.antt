@@ -7,13 +7,13 @@ use Rattle.run_data.specs.Endings.{is_open, has_ended}
 use Rattle.run_data.specs.Tasks.{Task, Table, task_at}
 use Rattle.run_data.specs.laws.EndedTasks.{open_is}
 use Rattle.run_data.specs.laws.ReachedStates.{ComesFrom, directive, daemon, maker}
-use Rattle.run_data.proofs.EndedTasks.{open_stops, open_some, ended_below, ended_by_open_bodies, under_through}
-use Rattle.run_data.proofs.FramePaths.{under_itself, under_shorter, both_true, same_number}
+use Rattle.run_data.specs.laws.EndedTaskLaws.{open_stops, open_some, ended_below, ended_by_open_bodies, under_through}
+use Rattle.run_data.specs.laws.PathsUnder.{under_itself, under_shorter, both_true, same_number}
 use Rattle.run_data.specs.laws.EndedByCount.{live_children, HasMakers, EndedByCount, LiveHasMakers}
 use Rattle.run_data.specs.laws.LiveParts.{is_live, live, SameHasEnded}
-use Rattle.run_data.proofs.LiveParts.{ended_live}
-use Rattle.run_data.proofs.TableParts.{order_part, part_at, part_none}
-use Rattle.run_data.proofs.LiveAfterFrames.{prefix_child}
+use Rattle.run_data.specs.laws.LivePartLaws.{ended_live}
+use Rattle.run_data.specs.laws.TableParts.{order_part, part_at, part_none}
+use Rattle.run_data.specs.laws.LiveAfterFrames.{prefix_child}
 use Rattle.run_data.proofs.LateTasks.{long_path}
 
 prefix_length : (path other : List ℕ) → is_prefix path other ≡ true → length path ≤ length other

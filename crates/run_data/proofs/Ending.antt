@@ -1,5 +1,5 @@
 -- A simulation ends: with each transition a weight falls.
-use Rattle.std.proofs.Common.{◌≡◌, ◌⊎◌, inl, inr, ℕ, zero, suc, ◌+◌, ◌-◌, ◌<◌, ◌≤◌, Bool, true, false, List, [], ◌∷◌, length, Option, Some, None, if◌then◌else◌, nat_eq, nat_lt, nat_abs, refl, sym, ap, ◌∙◌, subst, arith}
+use Rattle.std.proofs.Common.{◌≡◌, ◌⊎◌, inl, inr, ℕ, zero, suc, ◌+◌, ◌-◌, ◌<◌, ◌≤◌, Bool, true, false, List, [], ◌∷◌, length, Option, Some, None, if◌then◌else◌, nat_lt, nat_abs, refl, sym, ap, ◌∙◌, subst, arith}
 use Rattle.std.proofs.lemmas.Bool.{ltb-false}
 use Rattle.std.specs.declared.cmp.Ordering.{Ordering}
 use Rattle.std.specs.declared.cmp.Ordering.TheVariants.{Less, Equal, Greater}
@@ -7,10 +7,9 @@ use Rattle.aerie_base.specs.declared.models.Daemon.{Daemon}
 use Rattle.aerie_base.specs.declared.models.model.Parts.{Parts}
 use Rattle.aerie_base.specs.declared.plans.Directive.{Directive}
 use Rattle.aerie_base.specs.declared.plans.Plan.{Plan}
-use Rattle.aerie_base.specs.Paths.{root, daemon_root, path_cmp, child_path}
+use Rattle.aerie_base.specs.Paths.{root, daemon_root, path_cmp}
 use Rattle.effect_cells.specs.declared.effects.CellState.{CellState}
 use Rattle.effect_cells.specs.Cells.{passed, first_out, committed_cells}
-use Rattle.effect_cells.specs.WakeTimes.{holds_on}
 use Rattle.run_data.specs.declared.jobs.Job.{Job}
 use Rattle.run_data.specs.TaskFrames.{Frame}
 use Rattle.run_data.specs.declared.frames.Status.{Status}
@@ -18,16 +17,17 @@ use Rattle.run_data.specs.declared.frames.Status.TheVariants as status
 use Rattle.run_data.specs.declared.tasks.TaskState.{TaskState}
 use Rattle.run_data.specs.declared.runs.Run.{Run}
 use Rattle.run_data.specs.Batches.{Batch, limit, failed, committed, batch, judged as judged_batch, when_within, when_no_fault, unless_out, Blame, least_fault, tree_of, cost_of, by_path, put_by_path, in_front_unless_greater}
-use Rattle.run_data.specs.Endings.{is_open, after_batch, gone_on, due_phase, back, has_ended, has_come, result_of, with_result}
+use Rattle.run_data.specs.Endings.{is_open, after_batch, gone_on, back}
 use Rattle.run_data.specs.Transitions.{Next, more, finished, begins, onward, iterate}
 use Rattle.run_data.specs.Frames.{Made, Making, made_by_all}
 use Rattle.run_data.specs.Fresh.{SimulationState, start, next_state, next_by, woken_or_moved, moved, to_time, to_end, after_outcome, least_due, below, IsReached, IsFresh, after_transitions}
 use Rattle.run_data.specs.TaskStates.{activity_begun, daemon_begun}
-use Rattle.run_data.specs.Tasks.{TaskPhase, anchored, ready, delayed, waiting, calling, over, Task, Table, task_at, with_task, on_each, planned, with_directives, with_daemons, children_made, children_in, after_delay, phase_after, task_after, after_frame, after_frames, ready_jobs, woken, woken_phase, rested, rested_phase}
+use Rattle.run_data.specs.Tasks.{delayed, Task, Table, task_at, with_task, on_each, planned, with_directives, with_daemons, children_made, children_in, after_delay, phase_after, task_after, after_frame, after_frames, ready_jobs, woken, rested}
 use Rattle.run_data.specs.laws.Ending.{enough_transitions, TransitionsFinish, HasFreshRun, FreshRunByTransitions}
 use Rattle.run_data.specs.laws.Weights.{one_if, opens, idle, weigh, weight, WeightFalls, WeightBegins}
 use Rattle.run_data.specs.laws.Iteration.{result_stays, transitions_come, same_result}
 use Rattle.run_data.proofs.FramePaths.{HasPath}
+use Rattle.run_data.specs.laws.OpenTasks.{order_batch, back_open, due_open, woken_open, rested_open}
 use Rattle.run_data.specs.laws.OrderedTables.{IsOrderedTable}
 use Rattle.run_data.specs.FrameLaws.{sorted_cost, each_sorted}
 use Rattle.run_data.specs.TableLaws.{order_with, order_each, path_same}
@@ -117,69 +117,10 @@ module _ (now : ℕ) (path : List ℕ) (task : Task) (open_ : is_open task.phase
 
 -- ---- the tasks after a batch
 
-pub order_frames : (now : ℕ) (frames : List Frame) (table : Table) → IsOrderedTable table → IsOrderedTable (after_frames now frames table)
-order_frames now [] table order = order
-order_frames now (frame ∷ rest) table order = order_frames now rest (after_frame now frame table) (order_with table frame.path (new_task now frame table) order)
-
-pub order_batch : (now : ℕ) (frames : List Frame) (table : Table) → IsOrderedTable table → IsOrderedTable (after_batch now frames table)
-order_batch now frames table order = order_each (gone_on (after_frames now frames table) now) (after_frames now frames table) (order_frames now frames table order)
-
-pub back_open : (table : Table) (path : List ℕ) (phase : TaskPhase) → is_open (back table path phase) ≡ is_open phase
-back_open table path (calling child into state) = by (has_ended table (child_path path child))
-  where
-    by : (ended : Bool) → is_open (if ended then ready (with_result into (result_of (task_at table (child_path path child))) state) else calling child into state) ≡ true
-    by true = refl
-    by false = refl
-back_open table path (anchored to edge start state) = refl
-back_open table path (ready state) = refl
-back_open table path (delayed until state) = refl
-back_open table path (waiting condition state) = refl
-back_open table path (over result) = refl
-
-delayed_open : (now by : ℕ) (state : TaskState) → is_open (after_delay now by state) ≡ true
-delayed_open now zero state = refl
-delayed_open now (suc less) state = refl
-
-pub due_open : (table : Table) (now : ℕ) (phase : TaskPhase) → is_open (due_phase table now phase) ≡ is_open phase
-due_open table now (anchored to edge start state) = by (has_come table to edge)
-  where
-    by : (come : Bool) → is_open (if come then after_delay now start state else anchored to edge start state) ≡ true
-    by true = delayed_open now start state
-    by false = refl
-due_open table now (ready state) = refl
-due_open table now (delayed until state) = refl
-due_open table now (waiting condition state) = refl
-due_open table now (calling child into state) = refl
-due_open table now (over result) = refl
-
 opens_batch : (now : ℕ) (frames : List Frame) (table : Table) → opens (after_batch now frames table) ≡ opens (after_frames now frames table)
 opens_batch now frames table =
     let whole = after_frames now frames table in
     opens_each (gone_on whole now) (λ path task. due_open whole now (back whole path task.phase) ∙ back_open whole path task.phase) whole
-
-pub woken_open : (cells : List CellState) (phase : TaskPhase) → is_open (woken_phase cells phase) ≡ is_open phase
-woken_open cells (waiting condition state) = by (holds_on cells condition)
-  where
-    by : (holds : Bool) → is_open (if holds then ready state else waiting condition state) ≡ true
-    by true = refl
-    by false = refl
-woken_open cells (anchored to edge start state) = refl
-woken_open cells (ready state) = refl
-woken_open cells (delayed until state) = refl
-woken_open cells (calling child into state) = refl
-woken_open cells (over result) = refl
-
-pub rested_open : (now : ℕ) (phase : TaskPhase) → is_open (rested_phase now phase) ≡ is_open phase
-rested_open now (delayed until state) = by (nat_eq until now)
-  where
-    by : (same : Bool) → is_open (if same then ready state else delayed until state) ≡ true
-    by true = refl
-    by false = refl
-rested_open now (anchored to edge start state) = refl
-rested_open now (ready state) = refl
-rested_open now (waiting condition state) = refl
-rested_open now (calling child into state) = refl
-rested_open now (over result) = refl
 
 -- ---- frames in order of path
 

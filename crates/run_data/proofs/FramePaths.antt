@@ -1,5 +1,5 @@
 -- The frames that are made, and their paths.
-use Rattle.std.proofs.Common.{◌≡◌, ◌⊎◌, inl, inr, ℕ, zero, suc, ◌+◌, ◌≤◌, nat_eq, Bool, true, false, ◌&&◌, List, [], ◌∷◌, ◌++◌, Some, None, refl, sym, ap, ◌∙◌, subst, arith}
+use Rattle.std.proofs.Common.{◌≡◌, ◌⊎◌, inl, inr, ℕ, zero, suc, ◌+◌, ◌≤◌, nat_eq, true, ◌&&◌, List, [], ◌∷◌, ◌++◌, Some, None, refl, sym, ap, ◌∙◌, subst, arith}
 use Rattle.std.proofs.lemmas.Bool.{false≢true, eq-eqb}
 use Rattle.aerie_base.specs.declared.models.model.Parts.{Parts}
 use Rattle.aerie_base.specs.Paths.{child_path, is_prefix}
@@ -12,6 +12,7 @@ use Rattle.run_data.specs.declared.frames.Item.{Item}
 use Rattle.run_data.specs.declared.frames.Item.TheVariants as item
 use Rattle.run_data.specs.Steps.{Stepped}
 use Rattle.run_data.specs.Frames.{Making, with_effect, with_child, with_frame, job_step, frame_of, child_job, of_items, of_step, too_deep, made_within, made_by, room_of}
+use Rattle.run_data.specs.laws.PathsUnder.{both_true, same_number, under_itself, under_shorter}
 use Rattle.run_data.specs.laws.Orders.{AreApart}
 
 -- some frame is of this path
@@ -24,27 +25,6 @@ abbrev pub NoPathInBoth : Making → Making → Type 0
 NoPathInBoth None other = Unit {0}
 NoPathInBoth (Some made) None = Unit {0}
 NoPathInBoth (Some made) (Some other) = (path : List ℕ) → HasPath path made.frames → HasPath path other.frames → ⊥
-
--- ---- paths under others
-
-pub both_true : (first second : Bool) → (first && second) ≡ true → (first ≡ true) × (second ≡ true)
-both_true true true h = (refl, refl)
-both_true true false h = absurd (cc)
-both_true false second h = absurd (cc)
-
-pub same_number : (a b : ℕ) → nat_eq a b ≡ true → a ≡ b
-same_number a b h = grind arith
-
-pub under_itself : (path : List ℕ) → is_prefix path path ≡ true
-under_itself [] = refl
-under_itself (number ∷ path) = λ i. eq-eqb number number refl i && under_itself path i
-
-pub under_shorter : (path more other : List ℕ) → is_prefix (path ++ more) other ≡ true → is_prefix path other ≡ true
-under_shorter [] more other h = refl
-under_shorter (number ∷ path) more [] h = absurd (false≢true h)
-under_shorter (number ∷ path) more (first ∷ other) h =
-    let fit = both_true (nat_eq number first) (is_prefix (path ++ more) other) h in
-    λ i. fit.0 i && under_shorter path more other fit.1 i
 
 -- of two paths with a child above one path, they are the same, or the one has the child of the other above it
 abbrev Related : List ℕ → List ℕ → ℕ → ℕ → Type 0

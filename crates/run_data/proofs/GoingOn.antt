@@ -10,7 +10,7 @@ use Rattle.run_data.specs.Endings.{is_open, has_ended, back, due_phase, has_come
 use Rattle.run_data.specs.Tasks.{TaskPhase, anchored, ready, delayed, waiting, calling, over, Task, Table, task_at, on_each, after_delay}
 use Rattle.run_data.specs.laws.GoingOn.{EndsAs, GoOnInTurn, AllGoneOn}
 use Rattle.run_data.specs.laws.NumberedTasks.{sorted_tasks, Distinct}
-use Rattle.run_data.proofs.EndedTasks.{ended_in_order}
+use Rattle.run_data.specs.laws.EndedTaskLaws.{ended_in_order}
 use Rattle.run_data.specs.NumberLaws.{in_order_set, at_number, keys_set, same_keys, each_set}
 use Rattle.run_data.specs.TableLaws.{at_with, is_same}
 

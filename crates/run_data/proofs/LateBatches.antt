@@ -11,12 +11,12 @@ use Rattle.run_data.specs.Tasks.{TaskPhase, anchored, ready, delayed, waiting, c
 use Rattle.run_data.specs.laws.BatchFrames.{HasPath, AreFramesOf}
 use Rattle.run_data.specs.laws.GoingOn.{AllQuiet}
 use Rattle.run_data.specs.laws.ReachedStates.{IsTableOf}
-use Rattle.run_data.proofs.EndedTasks.{stands_at}
-use Rattle.run_data.proofs.Ending.{order_frames}
-use Rattle.run_data.proofs.FramesByPath.{either_path, frame_of_path, at_no_frame}
+use Rattle.run_data.specs.laws.EndedTaskLaws.{stands_at}
+use Rattle.run_data.specs.laws.OpenTasks.{order_frames}
+use Rattle.run_data.specs.laws.FramesByPath.{either_path, frame_of_path, at_no_frame}
 use Rattle.std.proofs.lemmas.List.{length-append}
 use Rattle.run_data.specs.laws.LateDifferences.{is_of_differing, is_common, common_tasks}
-use Rattle.run_data.proofs.TableParts.{order_part, part_each, part_at, part_none}
+use Rattle.run_data.specs.laws.TableParts.{order_part, part_each, part_at, part_none}
 use Rattle.run_data.proofs.LateTasks.{longer_of, stands_long, frame_long, AllRest, ended_others, whole_others, not_come, was_anchored}
 
 each_same : (change other : List ℕ → Task → Task) (table : Table) → ((number : ℕ) (path : List ℕ) (task : Task) → slice_get table number ≡ Some (path, task) → change path task ≡ other path task) →

@@ -28,16 +28,16 @@ use Rattle.run_data.specs.laws.Orders.{EachOf}
 use Rattle.run_data.specs.laws.OrderedTables.{IsOrderedTable}
 use Rattle.run_data.specs.laws.ReachedStates.{IsTableOf}
 use Rattle.run_data.specs.laws.Rising.{AreBefore}
-use Rattle.run_data.proofs.Ending.{back_open, due_open}
+use Rattle.run_data.specs.laws.OpenTasks.{back_open, due_open}
 use Rattle.run_data.specs.TableLaws.{order_with, order_each}
 use Rattle.run_data.proofs.QuietStates.{reached_is_quiet}
-use Rattle.run_data.proofs.QuietTasks.{come_each}
+use Rattle.run_data.specs.laws.QuietTasks.{come_each}
 use Rattle.run_data.proofs.ReachedStates.{reached_is_of_model, batch_frames}
 use Rattle.run_data.proofs.Rising.{below_is}
 use Rattle.run_data.specs.laws.LateDifferences.{is_common, common_tasks, common_directives, AlikeBut, ComesLate, StartsLate, IsLate, DifferLate, RunSideBySide, instants_before, instants_of, SameInstantsBefore, AffordsNoLess, AffordsCost}
 use Rattle.run_data.proofs.RestOfRuns.{spent_within}
 use Rattle.run_data.proofs.OtherBounds.{batch_paid}
-use Rattle.run_data.proofs.TableParts.{part_each}
+use Rattle.run_data.specs.laws.TableParts.{part_each}
 use Rattle.run_data.proofs.LateTasks.{kept_with, out_with, Rests, AllRest, ready_others, due_others, not_come, batch_rests}
 use Rattle.run_data.proofs.LateBatches.{come_pair, others_after}
 use Rattle.run_data.proofs.LatePlaces.{with_instant, NotBefore, step_adds, moved_instants, step_later, place_before, further_iterations, front_is, all_front, rest_put, woken_rests, rested_rests}

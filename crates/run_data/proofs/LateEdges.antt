@@ -23,14 +23,14 @@ use Rattle.run_data.specs.Transitions.{Next, more, finished, onward, and_on, ite
 use Rattle.run_data.specs.laws.BatchFrames.{Among, OfReady, OfChild, AreFramesOf}
 use Rattle.run_data.specs.laws.Iteration.{result_stays, comes_by_transitions}
 use Rattle.run_data.specs.laws.ReachedStates.{IsTableOf}
-use Rattle.run_data.proofs.EndedTasks.{open_stops}
-use Rattle.run_data.proofs.Ending.{back_open, due_open, woken_open, rested_open}
-use Rattle.run_data.proofs.FramesByPath.{new_at}
+use Rattle.run_data.specs.laws.EndedTaskLaws.{open_stops}
+use Rattle.run_data.specs.laws.OpenTasks.{back_open, due_open, woken_open, rested_open}
+use Rattle.run_data.specs.laws.FramesByPath.{new_at}
 use Rattle.run_data.specs.TableLaws.{at_with}
-use Rattle.run_data.proofs.QuietTasks.{come_each}
+use Rattle.run_data.specs.laws.QuietTasks.{come_each}
 use Rattle.run_data.proofs.ReachedStates.{reached_is_of_model, batch_frames}
 use Rattle.run_data.specs.laws.LateEdges.{EdgesStay, LateByTime, LateByAbsence}
-use Rattle.run_data.proofs.LiveAfterFrames.{prefix_child, each_of_among, Under, any_frame, live_before}
+use Rattle.run_data.specs.laws.LiveAfterFrames.{prefix_child, each_of_among, Under, any_frame, live_before}
 use Rattle.run_data.proofs.LateTasks.{frame_long}
 use Rattle.run_data.proofs.LatePlaces.{step_later}
 

@@ -20,7 +20,7 @@ use Rattle.run_data.specs.laws.Rising.{AreBefore}
 use Rattle.run_data.specs.TableLaws.{at_with, is_same}
 use Rattle.run_data.proofs.Rising.{StandsWell, stands_well}
 use Rattle.run_data.specs.laws.LateDifferences.{is_of_differing, instants_before, instants_of}
-use Rattle.run_data.proofs.TableParts.{each_at, changed_at}
+use Rattle.run_data.specs.laws.TableParts.{each_at, changed_at}
 use Rattle.run_data.proofs.LateTasks.{Rests, Resting, AllRest}
 
 -- ---- what a step adds

@@ -22,14 +22,14 @@ use Rattle.run_data.specs.laws.OrderedTables.{IsOrderedTable}
 use Rattle.run_data.specs.laws.ReachedStates.{ComesFrom, directive, daemon, maker, IsTableOf}
 use Rattle.run_data.specs.laws.ReadyTasks.{is_ready_phase}
 use Rattle.std.proofs.Math.Nat.{min-le_left, min-le_right, le-min}
-use Rattle.run_data.proofs.EndedTasks.{stands_at, ended_by_frames}
-use Rattle.run_data.proofs.FramePaths.{both_true, same_number}
-use Rattle.run_data.proofs.FramesByPath.{either_path, frame_of_path, new_at, at_no_frame, at_one_frame}
+use Rattle.run_data.specs.laws.EndedTaskLaws.{stands_at, ended_by_frames}
+use Rattle.run_data.specs.laws.PathsUnder.{both_true, same_number}
+use Rattle.run_data.specs.laws.FramesByPath.{either_path, frame_of_path, new_at, at_no_frame, at_one_frame}
 use Rattle.run_data.specs.TableLaws.{at_with, is_same, order_with}
 use Rattle.run_data.specs.laws.LateDifferences.{is_of_differing, is_common, common_tasks}
 use Rattle.run_data.specs.laws.LiveParts.{part}
-use Rattle.run_data.proofs.TableParts.{order_part, part_at, part_none, ended_part, ready_part, same_tables, each_at, changed_at}
-use Rattle.run_data.proofs.LiveAfterFrames.{each_of_among, quiet_at, anchors_never}
+use Rattle.run_data.specs.laws.TableParts.{order_part, part_at, part_none, ended_part, ready_part, same_tables, each_at, changed_at}
+use Rattle.run_data.specs.laws.LiveAfterFrames.{each_of_among, quiet_at, anchors_never}
 
 min_first : (a b : ℕ) → a ≤ b → min a b ≡ a
 min_first a b h = let k = min-le_left a b in let least : a ≤ min a b = le-min (omega arith) h in omega arith

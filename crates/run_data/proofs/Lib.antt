@@ -13,11 +13,9 @@ mod DueJobs
 mod DueTimes
 mod EffectKinds
 mod EndedByCount
-pub mod EndedTasks
-pub mod Ending
+mod Ending
 mod FittingFrames
-pub mod FramePaths
-pub mod FramesByPath
+mod FramePaths
 mod FreshRuns
 mod Generations
 mod GoingOn
@@ -31,9 +29,6 @@ mod LateEdges
 mod LatePlaces
 mod LateTasks
 mod LiteralForms
-pub mod LiveAfterBatches
-pub mod LiveAfterFrames
-pub mod LiveParts
 mod MadeByJobs
 mod MadeReads
 mod Makings
@@ -47,10 +42,9 @@ mod PathsApart
 mod Paying
 mod Performing
 mod PlacesHold
-pub mod PrunedStates
-pub mod QuietStates
-pub mod QuietTasks
-pub mod ReachedStates
+mod PrunedStates
+mod QuietStates
+mod ReachedStates
 mod Reading
 mod ReadyJobs
 mod ReadyTasks
@@ -71,7 +65,6 @@ mod StepEndings
 mod StepLeavings
 mod Sublists
 mod TableOfModel
-pub mod TableParts
 mod TracedTasks
 mod Trees
 mod TypedStatements

@@ -27,7 +27,8 @@ use Rattle.run_data.specs.laws.Generations.{deep_frame}
 use Rattle.run_data.specs.laws.BatchFrames.{AnyFrame, Among, HasPath, Differ, OfReady, OfChild}
 use Rattle.run_data.specs.laws.Orders.{EachOf, EachTwo, AreApart}
 use Rattle.run_data.proofs.CellKinds.{cells_emitted}
-use Rattle.run_data.proofs.FramePaths.{IsOf, AllOf, MadeOf, both_true, same_number, under_itself, under_shorter, made_weaker, effect_of_all, child_of_all, items_of_all, within_of, never_both}
+use Rattle.run_data.specs.laws.PathsUnder.{both_true, same_number, under_itself, under_shorter}
+use Rattle.run_data.proofs.FramePaths.{IsOf, AllOf, MadeOf, made_weaker, effect_of_all, child_of_all, items_of_all, within_of, never_both}
 use Rattle.run_data.proofs.StepEndings.{nth_child, ChildrenGoOn, EndsWell, GoodJob, good_step}
 use Rattle.run_data.proofs.StepLeavings.{EffectsFit}
 

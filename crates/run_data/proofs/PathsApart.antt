@@ -4,7 +4,7 @@ use Rattle.std.proofs.lemmas.Bool.{false≢true}
 use Rattle.aerie_base.specs.Paths.{child_path, is_prefix}
 use Rattle.run_data.specs.declared.jobs.Job.{Job}
 use Rattle.run_data.specs.laws.Orders.{AreApart}
-use Rattle.run_data.proofs.FramePaths.{both_true, same_number}
+use Rattle.run_data.specs.laws.PathsUnder.{both_true, same_number}
 
 and_false : (flag : Bool) → (flag && false) ≡ false
 and_false true = refl

@@ -28,11 +28,11 @@ use Rattle.run_data.specs.Tasks.{TaskPhase, anchored, ready, delayed, waiting, c
 use Rattle.run_data.specs.TaskStates.{activity_begun}
 use Rattle.run_data.specs.laws.GoingOn.{IsQuiet, AllQuiet}
 use Rattle.run_data.specs.laws.OrderedTables.{IsOrderedTable}
-use Rattle.run_data.proofs.EndedTasks.{open_stops, stands_at}
-use Rattle.run_data.proofs.Ending.{rested_open, woken_open}
-use Rattle.run_data.proofs.FramePaths.{under_itself}
+use Rattle.run_data.specs.laws.EndedTaskLaws.{open_stops, stands_at}
+use Rattle.run_data.specs.laws.OpenTasks.{rested_open, woken_open}
+use Rattle.run_data.specs.laws.PathsUnder.{under_itself}
 use Rattle.run_data.specs.TableLaws.{at_with, path_itself, order_with}
-use Rattle.run_data.proofs.QuietTasks.{quiet_each, go_on_once}
+use Rattle.run_data.specs.laws.QuietTasks.{quiet_each, go_on_once}
 use Rattle.run_data.proofs.Scoping.{both_hold}
 
 -- ---- changes of all tasks

@@ -24,7 +24,7 @@ use Rattle.run_data.specs.laws.BatchFrames.{OfReady, OfChild, AreFramesOf, Batch
 use Rattle.run_data.specs.laws.Orders.{EachOf}
 use Rattle.run_data.specs.laws.ReachedStates.{IsTableOf, ReachedIsOfModel}
 use Rattle.run_data.proofs.EffectKinds.{MadeLeaves, jobs_leave, committed_are, passed_are}
-use Rattle.run_data.proofs.FramesByPath.{new_at, differ_sorted}
+use Rattle.run_data.specs.laws.FramesByPath.{new_at, differ_sorted}
 use Rattle.run_data.specs.FrameLaws.{any_sorted, each_sorted, sorted_cost}
 use Rattle.run_data.specs.TableLaws.{at_with}
 use Rattle.run_data.proofs.MadeByJobs.{MadeAmong, GoodJobs, Known, Begins, jobs_good}

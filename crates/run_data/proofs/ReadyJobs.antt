@@ -18,8 +18,8 @@ use Rattle.run_data.specs.laws.OrderedTables.{IsOrderedTable}
 use Rattle.run_data.specs.laws.SmallSteps.{IsJobWithin}
 use Rattle.run_data.specs.laws.Orders.{EachOf, EachTwo, AreApart}
 use Rattle.run_data.specs.laws.ReachedStates.{MayGoOn, IsPhaseOf, ComesFrom, directive, daemon, maker, IsTableOf}
-use Rattle.run_data.proofs.EndedTasks.{stands_at}
-use Rattle.run_data.proofs.FramePaths.{both_true, same_number}
+use Rattle.run_data.specs.laws.EndedTaskLaws.{stands_at}
+use Rattle.run_data.specs.laws.PathsUnder.{both_true, same_number}
 use Rattle.run_data.specs.NumberLaws.{above_at, not_same}
 
 -- ---- paths

@@ -15,14 +15,14 @@ use Rattle.run_data.specs.Tasks.{on_each, woken, rested}
 use Rattle.run_data.specs.Transitions.{more, finished, onward}
 use Rattle.run_data.specs.laws.Iteration.{same_result}
 use Rattle.run_data.specs.laws.OrderedTables.{IsOrderedTable}
-use Rattle.run_data.proofs.Ending.{rested_open}
+use Rattle.run_data.specs.laws.OpenTasks.{rested_open}
 use Rattle.run_data.specs.TableLaws.{order_each}
 use Rattle.run_data.proofs.ReachedStates.{reached_is_of_model}
 use Rattle.run_data.specs.laws.RestOfRuns.{AlikeSettled, RestIsTakenOverSettled}
 use Rattle.run_data.specs.laws.RunCosts.{cost_of_instants}
 use Rattle.run_data.specs.laws.SettledInstants.{IsSettled}
 use Rattle.run_data.proofs.RestOfRuns.{rest_is_taken_over}
-use Rattle.run_data.proofs.LiveParts.{SameLive, same_of, live_of, same_due, same_each}
+use Rattle.run_data.specs.laws.LivePartLaws.{SameLive, same_of, live_of, same_due, same_each}
 
 -- a settled state moves on in time
 pub settled_moves : (model : Parts) (plan : Plan) (bound : ℕ) (at : SimulationState) → IsSettled at →

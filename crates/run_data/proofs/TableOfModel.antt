@@ -21,10 +21,10 @@ use Rattle.run_data.specs.Endings.{is_open, has_ended, back, due_phase, has_come
 use Rattle.run_data.specs.Tasks.{TaskPhase, anchored, ready, delayed, waiting, calling, over, Task, Table, task_at, on_each, children_made, children_in, after_delay, phase_after, after_frames, woken, woken_phase, rested, rested_phase}
 use Rattle.run_data.specs.laws.BatchFrames.{Among, HasPath, Differ, OfReady, OfChild}
 use Rattle.run_data.specs.laws.ReachedStates.{MayGoOn, IsResultOf, IsTaskOf, HasCallee, IsPhaseOf, ComesFrom, directive, daemon, maker, IsTableOf}
-use Rattle.run_data.proofs.EndedTasks.{open_stops}
-use Rattle.run_data.proofs.Ending.{order_frames}
-use Rattle.run_data.proofs.FramePaths.{under_itself}
-use Rattle.run_data.proofs.FramesByPath.{frame_of_path, path_of, either_path, new_at, at_no_frame, at_one_frame}
+use Rattle.run_data.specs.laws.EndedTaskLaws.{open_stops}
+use Rattle.run_data.specs.laws.OpenTasks.{order_frames}
+use Rattle.run_data.specs.laws.PathsUnder.{under_itself}
+use Rattle.run_data.specs.laws.FramesByPath.{frame_of_path, path_of, either_path, new_at, at_no_frame, at_one_frame}
 use Rattle.run_data.proofs.MadeByJobs.{each_among, Known, HasChild}
 use Rattle.run_data.specs.TableLaws.{is_same, order_each}
 use Rattle.run_data.proofs.StepEndings.{last_is, EndsWell}

@@ -23,13 +23,13 @@ use Rattle.run_data.specs.Tasks.{TaskPhase, anchored, ready, delayed, waiting, c
 use Rattle.run_data.specs.Transitions.{Next, more, finished, begins, onward}
 use Rattle.run_data.specs.laws.FreshRuns.{EachAfter}
 use Rattle.run_data.specs.laws.ReadyTasks.{is_ready_phase}
-use Rattle.run_data.proofs.FramesByPath.{new_at}
+use Rattle.run_data.specs.laws.FramesByPath.{new_at}
 use Rattle.run_data.proofs.FreshRuns.{after_push}
 use Rattle.run_data.specs.TableLaws.{at_with, is_same}
 use Rattle.run_data.specs.laws.SettledInstants.{IsSettled, IsSettledInstant, InstantsAreSettled}
 use Rattle.run_data.specs.laws.TracedTasks.{timed, timed_batches, timed_instants, frames_so_far, traced, IsTraced, TasksAreTraced}
 use Rattle.run_data.proofs.AlikeSteps.{append_none}
-use Rattle.run_data.proofs.TableParts.{each_at, changed_at}
+use Rattle.run_data.specs.laws.TableParts.{each_at, changed_at}
 
 -- ---- frames so far
 

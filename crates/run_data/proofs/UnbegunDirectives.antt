@@ -24,18 +24,18 @@ use Rattle.run_data.specs.Transitions.{Next, more, finished, begins, onward}
 use Rattle.run_data.specs.laws.BatchFrames.{HasPath}
 use Rattle.run_data.specs.laws.GoingOn.{IsQuiet, AllQuiet}
 use Rattle.run_data.specs.laws.ReadyTasks.{is_ready_phase}
-use Rattle.run_data.proofs.Ending.{back_open, due_open}
-use Rattle.run_data.proofs.FramePaths.{both_true}
-use Rattle.run_data.proofs.FramesByPath.{either_path, new_at, at_no_frame}
+use Rattle.run_data.specs.laws.OpenTasks.{back_open, due_open}
+use Rattle.run_data.specs.laws.PathsUnder.{both_true}
+use Rattle.run_data.specs.laws.FramesByPath.{either_path, new_at, at_no_frame}
 use Rattle.run_data.specs.TableLaws.{at_with, is_same, path_itself}
 use Rattle.run_data.proofs.QuietStates.{reached_is_quiet}
-use Rattle.run_data.proofs.QuietTasks.{come_each}
+use Rattle.run_data.specs.laws.QuietTasks.{come_each}
 use Rattle.std.specs.Ordering.{is_eq}
 use Rattle.run_data.specs.laws.SettledInstants.{IsSettled}
 use Rattle.run_data.specs.laws.TracedTasks.{IsTraced}
 use Rattle.run_data.specs.laws.UnbegunDirectives.{ComesAt, WaitsAsPlanned, HasNotBegun, UnbegunAreAsPlanned}
-use Rattle.run_data.proofs.LiveAfterFrames.{quiet_at}
-use Rattle.run_data.proofs.TableParts.{each_at, changed_at}
+use Rattle.run_data.specs.laws.LiveAfterFrames.{quiet_at}
+use Rattle.run_data.specs.laws.TableParts.{each_at, changed_at}
 use Rattle.run_data.proofs.TracedTasks.{none_ready_at, tasks_are_traced}
 
 module _ (model : Parts) (plan : Plan) (bound : ℕ) (directive : Directive) where

@@ -18,6 +18,7 @@ pub mod Counts
 pub mod SameRecords
 pub mod TaskHashes
 pub mod Waves
+pub mod RunFrames
 pub mod KeptRuns
 pub mod Spans
 pub mod Values

@@ -49,8 +49,8 @@ pub enum Outcome {
 /// A simulation of a plan.
 #[derive(Drop)]
 pub struct Run {
-    /// The plan.
-    pub plan: Plan,
+    /// The plan, which its run and who asked for it share.
+    pub plan: Shared<Plan>,
     /// What the costs of all steps together may come to.
     pub bound: u64,
     /// The settled instants, in order of time.

@@ -27,7 +27,7 @@ pub trait Simulator {
     fn run<L: Ledger, K: Ledger>(
         &mut self,
         alloc: Global,
-        plan: &Plan,
+        plan: &Shared<Plan>,
         steps: &mut Steps<L>,
         looks: &mut Steps<K>,
     ) -> Result<Shared<Kept>, OutOfMemory>

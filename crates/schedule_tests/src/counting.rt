@@ -41,7 +41,7 @@ impl<'a> Simulator for Counting<'a> {
     fn run<L: Ledger, K: Ledger>(
         &mut self,
         alloc: Global,
-        plan: &Plan,
+        plan: &Shared<Plan>,
         steps: &mut Steps<L>,
         looks: &mut Steps<K>,
     ) -> Result<Shared<Kept>, OutOfMemory> {

@@ -35,7 +35,7 @@ fn scheduled<L: Ledger, K: Ledger>(
     looks: Blank,
     alloc: Global,
     compiled: &CompiledModel,
-    plan: &Plan,
+    plan: &Shared<Plan>,
     goals: &[Goal],
 ) -> Option<Counted>
     requires steps { (steps.name ≡ L.name) × (steps.parts ≡ L.parts) × (0 < L.parts) }
@@ -72,6 +72,7 @@ fn schedule_of(alloc: Global, case: &Case) -> Option<Counted> {
     let model = compiled.model().get();
     let plan = plan_of(alloc, model, &case.outline)?;
     let goals = goals_in(alloc, case.goals, model, plan.duration)?;
+    let plan = Shared::new(alloc, plan).ok()?;
     let (steps, looks) = (Blank::new(1), Blank::new(1));
     scheduled::<Brand, Brand>(steps, looks, alloc, &compiled, &plan, goals.as_slice())
 }

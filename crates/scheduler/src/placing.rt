@@ -51,7 +51,7 @@ impl Placing {
             mut placed,
             ..
         } = self;
-        placed.push(before.run().plan.next_id)?;
+        placed.push(before.run().plan.get().next_id)?;
         Ok(Placing {
             kept,
             placed,
@@ -114,7 +114,7 @@ fn search<M: Simulator, L: Ledger, K: Ledger>(
         alloc,
         request,
         gap,
-        &run.plan,
+        run.plan.get(),
         times.as_slice(),
         placing.left,
         simulator,

@@ -1,6 +1,6 @@
 //! What a goal is scheduled by.
 
-use aerie_base::{Model, Plan};
+use aerie_base::{Model, Plan, Shared};
 use constraints::Constraint;
 use goals::Goal;
 
@@ -21,7 +21,7 @@ pub(crate) struct ScheduleRequest<'a> {
     /// The model.
     pub(crate) model: &'a Model,
     /// The plan that is added to.
-    pub(crate) plan: &'a Plan,
+    pub(crate) plan: &'a Shared<Plan>,
     /// The goals, one after another.
     pub(crate) goals: &'a [Goal],
     /// The model's constraints.

@@ -18,7 +18,7 @@ use crate::progress::{GoalProgress, TRIAL_LIMIT, place_goals, statuses};
 use crate::requests::ScheduleRequest;
 use crate::scheduled::Schedule;
 use crate::trials::simulated;
-use aerie_base::{List, Model, OutOfMemory, Plan, Steps};
+use aerie_base::{List, Model, OutOfMemory, Plan, Shared, Steps};
 use constraints::Constraint;
 use goals::Goal;
 use plan_edit::copy_plan;
@@ -51,7 +51,7 @@ fn finished(
     ensures { IfOk result (λ made. made ≡ schedule_after model.now goals.now progress.now) }
 {
     let kept = &progress.kept;
-    let plan = copy_plan(alloc, &kept.run().plan)?;
+    let plan = copy_plan(alloc, kept.run().plan.get())?;
     let placed = progress.placed.as_slice();
     let statuses = statuses(alloc, model, goals, kept.run(), kept.spans(), placed)?;
     Ok(Schedule {
@@ -81,7 +81,7 @@ fn scheduled<M: Simulator, L: Ledger, K: Ledger>(
     let plan = request.plan;
     let goals = request.goals;
     if goals.is_empty() {
-        let made = unscheduled(alloc, plan)?;
+        let made = unscheduled(alloc, plan.get())?;
         return Ok(made);
     }
     fresh_runs_are_given();
@@ -105,7 +105,7 @@ fn scheduled<M: Simulator, L: Ledger, K: Ledger>(
 pub fn schedule<M: Simulator, L: Ledger, K: Ledger>(
     alloc: Global,
     model: &Model,
-    plan: &Plan,
+    plan: &Shared<Plan>,
     goals: &[Goal],
     constraints: &[Constraint],
     simulator: &mut M,

@@ -14,7 +14,7 @@ ghost use Rattle.scheduler.specs.Trials.{is_accepted as accepts, is_kept as is_k
 
 use crate::requests::GoalRequest;
 use crate::runs_with_spans::RunWithSpans;
-use aerie_base::{Directive, Model, OutOfMemory, Plan, Steps, Time, copy_list};
+use aerie_base::{Directive, Model, OutOfMemory, Plan, Shared, Steps, Time, copy_list};
 use constraints::{Constraint, violations};
 use goals::{Gap, Goal, Template, is_filled};
 use plan_edit::copy_plan;
@@ -195,7 +195,7 @@ fn is_accepted(
 /// The kept fresh run of the plan, with its spans.
 pub(crate) fn simulated<M: Simulator, L: Ledger, K: Ledger>(
     alloc: Global,
-    plan: &Plan,
+    plan: &Shared<Plan>,
     simulator: &mut M,
     steps: &mut Steps<L>,
     looks: &mut Steps<K>,
@@ -238,6 +238,7 @@ pub(crate) fn tried<M: Simulator, L: Ledger, K: Ledger>(
     let Some(next) = tried_plan(alloc, request, plan, time)? else {
         return Ok(Trial::Refused);
     };
+    let next = Shared::new(alloc, next)?;
     let kept = simulated(alloc, &next, simulator, steps, looks)?;
     if is_accepted(alloc, request, gap, kept.run(), kept.spans())? {
         return Ok(Trial::Accepted(kept));

@@ -84,7 +84,7 @@ pub fn expand(
 {
     let spans = spans(alloc, model, run)?;
     let sent = sent_by_spans(alloc, rules, &spans)?;
-    let Parted { within, outside } = parted_by_time(alloc, run.plan.duration, sent)?;
+    let Parted { within, outside } = parted_by_time(alloc, run.plan.get().duration, sent)?;
     let commands = List::from_vec(by_time(within)?);
     let close = close_positions(alloc, rules.spacings.as_slice(), commands.as_slice())?;
     Ok(Sequence {

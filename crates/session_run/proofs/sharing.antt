@@ -1,7 +1,3 @@
-pub mod Tuples
-pub mod Models
-pub mod Runs
-pub mod Codes
 pub mod Workspaces
 pub mod Rules
 pub mod Locks

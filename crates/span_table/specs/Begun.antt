@@ -44,3 +44,7 @@ with_end_if true frames span = record span { end = last_after None frames span.p
 -- the same of a span of the program
 abbrev pub with_end : List Timed → Span → Span
 with_end frames span = with_end_if (task_ended frames span.path) frames span
+
+-- a span more where the body of a frame's task is new
+abbrev pub begun_if : Bool → Parts → ℕ → Frame → List SpanOf
+begun_if is_new model time frame = if is_new then begun_by model time frame frame.before.kind else []

@@ -1,9 +1,10 @@
 -- Tasks by number: what is known of each, and by which task it was made.
-use Rattle.std.specs.Prelude.{◌≡◌, ℕ, ◌<◌, ◌≤◌, List, length, map, cond, Option, Some, None, slice_get}
+use Rattle.std.specs.Prelude.{◌≡◌, Bool, ℕ, ◌<◌, ◌≤◌, List, length, map, cond, Option, Some, None, slice_get}
 use Rattle.std.specs.Map.{lookup}
 use Rattle.aerie_base.specs.Paths.{is_prefix, child_path}
 use Rattle.run_data.specs.Spans.{same_path}
 use Rattle.span_table.specs.declared.body_states.BodyState.{BodyState}
+use Rattle.span_table.specs.BodyStates.{is_open_state}
 use Rattle.span_table.specs.declared.known_tasks.Ending.{Ending}
 use Rattle.span_table.specs.declared.known_tasks.Ending.TheVariants.{After}
 use Rattle.span_table.specs.declared.known_tasks.KnownTask.{KnownTask}
@@ -93,3 +94,25 @@ EndsAbove number ending before after = (path : List ℕ) → IsPathAt (links_of 
     (links_of after ≡ links_of before)
     × ((other : List ℕ) → body_state_in (known_task after other) ≡ body_state_in (known_task before other))
     × ((other : List ℕ) → 2 ≤ length other → ending_of (known_task after other) ≡ cond (is_prefix other path) ending (ending_of (known_task before other)))
+
+-- the same where the tasks are linked
+abbrev pub EndsAll : ℕ → Ending → TaskList → TaskList → Type 0
+EndsAll number ending before after = AreLinked (links_of before) → EndsAbove number ending before after
+
+-- a path that may be linked so has this number
+abbrev pub GetsNumber : List ℕ → Option ℕ → ℕ → TaskList → TaskList → Type 0
+GetsNumber path above number before after = MayBeLinked before path above → Numbers path number before after
+
+-- where the tasks are linked, a path has this number
+abbrev pub IsNumbered : List ℕ → ℕ → TaskList → TaskList → Type 0
+IsNumbered path number before after = AreLinked (links_of before) → Numbers path number before after
+
+-- ---- by number
+
+-- the body of a number has come so far
+abbrev pub IsBodyAt : TaskList → ℕ → Option BodyState → Type 0
+IsBodyAt tasks number body = (path : List ℕ) → IsPathAt (links_of tasks) number path → body ≡ body_state_in (known_task tasks path)
+
+-- whether the body of a number has begun and not ended
+abbrev pub IsOpenAt : TaskList → ℕ → Bool → Type 0
+IsOpenAt tasks number answer = (path : List ℕ) → IsPathAt (links_of tasks) number path → answer ≡ is_open_state (body_state_in (known_task tasks path))

@@ -1,12 +1,13 @@
 -- What some frames tell, one after another.
-use Rattle.std.specs.Prelude.{◌≡◌, ◌≤◌, ℕ, List, [], ◌∷◌, map, length, None, cond}
+use Rattle.std.specs.Prelude.{◌≡◌, ◌≤◌, ℕ, List, [], ◌∷◌, ◌++◌, map, length, None, cond}
 use Rattle.aerie_base.specs.declared.models.model.Parts.{Parts}
-use Rattle.run_data.specs.Spans.{Timed, task_ended}
+use Rattle.run_data.specs.Spans.{SpanOf, Timed, task_ended}
 use Rattle.span_table.specs.declared.known_tasks.Ending.TheVariants.{After, Unfinished}
+use Rattle.span_table.specs.declared.begins.BegunSpans.{BegunSpans}
 use Rattle.span_table.specs.declared.progress.Progress.{Progress}
 use Rattle.span_table.specs.declared.span.Span.{Span}
 use Rattle.span_table.specs.AsDefined.{defined_span}
-use Rattle.span_table.specs.Begun.{begun_from, last_after}
+use Rattle.span_table.specs.Begun.{begun_from, finished_span, last_after, with_end}
 use Rattle.span_table.specs.BodyStates.{body_after}
 use Rattle.span_table.specs.KnownTasks.{TaskList, Links, AreLinked, IsPathAt, body_state_in, ending_of, known_task, links_of}
 
@@ -37,3 +38,35 @@ pub record KnowsFrames (model : Parts) (frames : List Timed) (progress : Progres
   pub begun : map defined_span progress.begun.spans.items ≡ begun_from model [] frames
   pub numbers : AreNumbersOf (links_of progress.tasks.entries) progress.begun.spans.items progress.begun.numbers.items
   pub tasks : KnowsTasks frames progress.tasks.entries
+
+-- ---- changes
+
+-- where some frames were taken in, these are as well
+abbrev pub Learns : Parts → List Timed → Progress → Progress → Type 0
+Learns model more before after = (frames : List Timed) → KnowsFrames model frames before → KnowsFrames model (frames ++ more) after
+
+-- the ends of all tasks are found
+abbrev pub FindsEnds : TaskList → TaskList → Type 0
+FindsEnds before after = (frames : List Timed) → KnowsTasks frames before → KnowsEnds frames after × (links_of after ≡ links_of before)
+
+-- the span of the task of a number gets its end and its result
+abbrev pub GetsEnd : TaskList → ℕ → Span → Span → Type 0
+GetsEnd tasks number span after = (frames : List Timed) → KnowsEnds frames tasks → IsPathAt (links_of tasks) number span.path → after ≡ with_end frames span
+
+-- and so do the spans of the tasks of these numbers
+abbrev pub GetEnds : TaskList → List ℕ → List Span → List Span → Type 0
+GetEnds tasks numbers spans after = (frames : List Timed) → KnowsEnds frames tasks → AreNumbersOf (links_of tasks) spans numbers → after ≡ map (with_end frames) spans
+
+-- the spans that began, each with its end and its result
+abbrev pub AreFinishedSpans : Progress → List Span → Type 0
+AreFinishedSpans progress spans = (model : Parts) (frames : List Timed) → KnowsFrames model frames progress →
+    map defined_span spans ≡ map (finished_span frames) (begun_from model [] frames)
+
+-- the spans and their numbers are those of tasks as before
+abbrev pub KeepNumbers : ℕ → List ℕ → BegunSpans → BegunSpans → Type 0
+KeepNumbers number path before after = (links : Links) → IsPathAt links number path → AreNumbersOf links before.spans.items before.numbers.items →
+    AreNumbersOf links after.spans.items after.numbers.items
+
+-- behind the spans that have begun stand these
+abbrev pub GainsSpans : BegunSpans → BegunSpans → List SpanOf → Type 0
+GainsSpans before after more = map defined_span after.spans.items ≡ map defined_span before.spans.items ++ more

@@ -1,11 +1,10 @@
 //! The spans that begin, each with the number of its task.
 
-ghost use Rattle.std.specs.Prelude.{◌≡◌, ◌++◌, [], ◌∷◌, map, take, OnOk, IfOk, if◌then◌else◌, slice_get};
+ghost use Rattle.std.specs.Prelude.{◌≡◌, ◌++◌, [], ◌∷◌, take, OnOk, IfOk, slice_get};
 ghost use Rattle.run_data.specs.Spans.{parameters_of};
-ghost use Rattle.span_table.specs.Begun.{begun_by, unfinished};
-ghost use Rattle.span_table.specs.KnownTasks.{Links, IsPathAt};
-ghost use Rattle.span_table.specs.Progress.{AreNumbersOf};
 ghost use Rattle.span_table.specs.AsDefined.{defined_span};
+ghost use Rattle.span_table.specs.Begun.{begun_if, unfinished};
+ghost use Rattle.span_table.specs.Progress.{GainsSpans, KeepNumbers};
 
 use crate::span::Span;
 use aerie_base::{List, Model, OutOfMemory, Time, Value};
@@ -102,8 +101,8 @@ impl BegunSpans {
         number: usize,
         is_new: bool,
     ) -> Result<(), OutOfMemory>
-        ensures spans { OnOk result (map defined_span self.new.spans.items ≡ map defined_span self.old.spans.items ++ (if is_new then begun_by model.now time frame.now frame.now.before.kind else [])) }
-        ensures numbers { OnOk result ((links : Links) → IsPathAt links number frame.now.path → AreNumbersOf links self.old.spans.items self.old.numbers.items → AreNumbersOf links self.new.spans.items self.new.numbers.items) }
+        ensures spans { OnOk result (GainsSpans self.old self.new (begun_if is_new model.now time frame.now)) }
+        ensures numbers { OnOk result (KeepNumbers number frame.now.path self.old self.new) }
     {
         if !is_new {
             return Ok(());

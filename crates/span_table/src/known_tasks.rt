@@ -1,10 +1,7 @@
 //! The tasks of a run by number, and what is known of each of them.
 
-ghost use Rattle.std.specs.Prelude.{◌≡◌, ℕ, List};
-ghost use Rattle.run_data.specs.Spans.{Timed};
-ghost use Rattle.span_table.specs.BodyStates.{is_open_state};
-ghost use Rattle.span_table.specs.KnownTasks.{AreLinked, EndsAbove, IsPathAt, PutsBody, PutsEnding, body_state_in, known_task, links_of};
-ghost use Rattle.span_table.specs.Progress.{KnowsEnds, KnowsTasks};
+ghost use Rattle.span_table.specs.KnownTasks.{EndsAll, IsBodyAt, IsOpenAt, PutsBody, PutsEnding};
+ghost use Rattle.span_table.specs.Progress.{FindsEnds};
 
 use crate::body_states::BodyState;
 use aerie_base::{Path, Shared, Time};
@@ -57,7 +54,7 @@ fn put_own_ending(tasks: &mut KnownTasks, number: usize, ending: &Ending) -> Opt
 
 /// Gives the task of a number, and all that it is below, an end: each is made by one with a smaller number.
 pub(crate) fn put_ending(tasks: &mut KnownTasks, number: usize, ending: &Ending)
-    ensures { AreLinked (links_of tasks.old.entries) → EndsAbove number ending.now tasks.old.entries tasks.new.entries }
+    ensures { EndsAll number ending.now tasks.old.entries tasks.new.entries }
 {
     let Some(above) = put_own_ending(tasks, number, ending) else {
         return;
@@ -69,7 +66,7 @@ pub(crate) fn put_ending(tasks: &mut KnownTasks, number: usize, ending: &Ending)
 
 /// How far the body of a number has come.
 pub(crate) fn body_at(tasks: &KnownTasks, number: usize) -> Option<BodyState>
-    ensures { (path : List ℕ) → IsPathAt (links_of tasks.now.entries) number path → result ≡ body_state_in (known_task tasks.now.entries path) }
+    ensures { IsBodyAt tasks.now.entries number result }
 {
     match tasks.get_index(number) {
         Some((_, task)) => task.body,
@@ -79,7 +76,7 @@ pub(crate) fn body_at(tasks: &KnownTasks, number: usize) -> Option<BodyState>
 
 /// Whether the body of a number has begun and not ended.
 fn is_open_at(tasks: &KnownTasks, number: usize) -> bool
-    ensures { (path : List ℕ) → IsPathAt (links_of tasks.now.entries) number path → result ≡ is_open_state (body_state_in (known_task tasks.now.entries path)) }
+    ensures { IsOpenAt tasks.now.entries number result }
 {
     match body_at(tasks, number) {
         Some(body) => body.is_open(),
@@ -89,7 +86,7 @@ fn is_open_at(tasks: &KnownTasks, number: usize) -> bool
 
 /// Each task that is above an open body, or has one, is unfinished.
 pub(crate) fn mark_unfinished(tasks: &mut KnownTasks)
-    ensures { (frames : List Timed) → KnowsTasks frames tasks.old.entries → KnowsEnds frames tasks.new.entries × (links_of tasks.new.entries ≡ links_of tasks.old.entries) }
+    ensures { FindsEnds tasks.old.entries tasks.new.entries }
 {
     for number in 0..tasks.len() {
         if is_open_at(tasks, number) {

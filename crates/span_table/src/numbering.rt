@@ -2,7 +2,7 @@
 
 ghost use Rattle.std.specs.Prelude.{◌≡◌, [], None, IfOk, IfSome, IsTrue};
 ghost use Rattle.aerie_base.specs.Paths.{path_of, comes_from_daemon, id_of};
-ghost use Rattle.span_table.specs.KnownTasks.{AreLinked, IsChild, IsMaker, MayBeLinked, Numbers, known_task, links_of};
+ghost use Rattle.span_table.specs.KnownTasks.{GetsNumber, IsChild, IsMaker, IsNumbered, known_task, links_of};
 
 use crate::known_tasks::{Ending, KnownTask, KnownTasks};
 use aerie_base::{OutOfMemory, Path, Shared};
@@ -18,7 +18,7 @@ fn add(
     above: Option<usize>,
 ) -> Result<usize, OutOfMemory>
     requires { known_task tasks.old.entries path.now ≡ None }
-    ensures { IfOk result (λ number. MayBeLinked tasks.old.entries path.now above → Numbers path.now number tasks.old.entries tasks.new.entries) }
+    ensures { IfOk result (λ number. GetsNumber path.now above number tasks.old.entries tasks.new.entries) }
 {
     let number = tasks.len();
     let path = path.share()?;
@@ -37,7 +37,7 @@ fn number_below(
     path: &Shared<Path>,
     above: Option<usize>,
 ) -> Result<usize, OutOfMemory>
-    ensures { IfOk result (λ number. MayBeLinked tasks.old.entries path.now above → Numbers path.now number tasks.old.entries tasks.new.entries) }
+    ensures { IfOk result (λ number. GetsNumber path.now above number tasks.old.entries tasks.new.entries) }
 {
     match tasks.get_full(path) {
         Some((number, _, _)) => Ok(number),
@@ -52,7 +52,7 @@ fn number_of_path(
     path: &Path,
     above: Option<usize>,
 ) -> Result<usize, OutOfMemory>
-    ensures { IfOk result (λ number. MayBeLinked tasks.old.entries path.now above → Numbers path.now number tasks.old.entries tasks.new.entries) }
+    ensures { IfOk result (λ number. GetsNumber path.now above number tasks.old.entries tasks.new.entries) }
 {
     let path = Shared::new(alloc, path.copy(alloc)?)?;
     let number = number_below(tasks, &path, above)?;
@@ -75,7 +75,7 @@ fn number_from_root(
     tasks: &mut KnownTasks,
     path: &Path,
 ) -> Result<usize, OutOfMemory>
-    ensures { IfOk result (λ number. AreLinked (links_of tasks.old.entries) → Numbers path.now number tasks.old.entries tasks.new.entries) }
+    ensures { IfOk result (λ number. IsNumbered path.now number tasks.old.entries tasks.new.entries) }
 {
     let mut above = root_of(alloc, path)?;
     let mut at = number_of_path(alloc, tasks, &above, None)?;
@@ -120,7 +120,7 @@ pub(crate) fn number_of(
     path: &Shared<Path>,
     near: Option<usize>,
 ) -> Result<usize, OutOfMemory>
-    ensures { IfOk result (λ number. AreLinked (links_of tasks.old.entries) → Numbers path.now number tasks.old.entries tasks.new.entries) }
+    ensures { IfOk result (λ number. IsNumbered path.now number tasks.old.entries tasks.new.entries) }
 {
     if let Some((number, _, _)) = tasks.get_full(path) {
         return Ok(number);

@@ -1,13 +1,10 @@
 //! What the frames of a run tell, one after another.
 
-ghost use Rattle.std.specs.Prelude.{◌≡◌, ◌++◌, ℕ, [], ◌∷◌, List, Some, OnOk, map, slice_get};
+ghost use Rattle.std.specs.Prelude.{◌≡◌, ℕ, [], ◌∷◌, Some, OnOk, slice_get};
 ghost use Rattle.aerie_base.specs.declared.models.model.Parts.{Parts};
-ghost use Rattle.run_data.specs.Spans.{Timed, with_time, in_batches, timed};
+ghost use Rattle.run_data.specs.Spans.{with_time, in_batches, timed};
 ghost use Rattle.span_table.specs.BodyStates.{known_result};
-ghost use Rattle.span_table.specs.AsDefined.{defined_span};
-ghost use Rattle.span_table.specs.Begun.{begun_from, finished_span, with_end};
-ghost use Rattle.span_table.specs.KnownTasks.{IsPathAt, links_of};
-ghost use Rattle.span_table.specs.Progress.{AreNumbersOf, KnowsEnds, KnowsFrames};
+ghost use Rattle.span_table.specs.Progress.{AreFinishedSpans, GetEnds, GetsEnd, KnowsFrames, Learns};
 
 use crate::begins::BegunSpans;
 use crate::body_states::{BodyState, state_with, stays};
@@ -49,7 +46,7 @@ impl Progress {
         frame: &Frame,
         near: Option<usize>,
     ) -> Result<usize, OutOfMemory>
-        ensures { OnOk result ((frames : List Timed) → KnowsFrames model.now frames self.old → KnowsFrames model.now (frames ++ (time, frame.now) ∷ []) self.new) }
+        ensures { OnOk result (Learns model.now ((time, frame.now) ∷ []) self.old self.new) }
     {
         let number = number_of(alloc, &mut self.tasks, frame.shared_path(), near)?;
         let before = body_at(&self.tasks, number);
@@ -70,7 +67,7 @@ impl Progress {
         time: Time,
         batch: &[Frame],
     ) -> Result<(), OutOfMemory>
-        ensures { OnOk result ((frames : List Timed) → KnowsFrames model.now frames self.old → KnowsFrames model.now (frames ++ with_time time batch.now []) self.new) }
+        ensures { OnOk result (Learns model.now (with_time time batch.now []) self.old self.new) }
     {
         let mut near = None;
         for frame in batch {
@@ -87,7 +84,7 @@ impl Progress {
         time: Time,
         batches: &[List<Frame>],
     ) -> Result<(), OutOfMemory>
-        ensures { OnOk result ((frames : List Timed) → KnowsFrames model.now frames self.old → KnowsFrames model.now (frames ++ in_batches time batches.now []) self.new) }
+        ensures { OnOk result (Learns model.now (in_batches time batches.now []) self.old self.new) }
     {
         for batch in batches {
             self.note_batch(alloc, model, time, batch.as_slice())?;
@@ -102,7 +99,7 @@ impl Progress {
         model: &Model,
         instants: &[Shared<Instant>],
     ) -> Result<(), OutOfMemory>
-        ensures { OnOk result ((frames : List Timed) → KnowsFrames model.now frames self.old → KnowsFrames model.now (frames ++ timed instants.now) self.new) }
+        ensures { OnOk result (Learns model.now (timed instants.now) self.old self.new) }
     {
         for instant in instants {
             let instant = instant.get();
@@ -113,7 +110,7 @@ impl Progress {
 
     /// The spans in the order in which they began, each with its end and its result if its task has ended.
     pub(crate) fn into_spans(self) -> Vec<Span>
-        ensures { (model : Parts) (frames : List Timed) → KnowsFrames model frames self → map defined_span result.items ≡ map (finished_span frames) (begun_from model [] frames) }
+        ensures { AreFinishedSpans self result.items }
     {
         let Progress { begun, mut tasks } = self;
         mark_unfinished(&mut tasks);
@@ -136,7 +133,7 @@ fn result_of(body: Option<BodyState>) -> Option<Value>
 
 /// Gives the span of the task of a number its end and its result, if the task has ended.
 fn finish(tasks: &KnownTasks, span: &mut Span, number: usize)
-    ensures { (frames : List Timed) → KnowsEnds frames tasks.now.entries → IsPathAt (links_of tasks.now.entries) number span.old.path → span.new ≡ with_end frames span.old }
+    ensures { GetsEnd tasks.now.entries number span.old span.new }
 {
     // what is a path has the numbers of one
     let _numbers = span.path.children();
@@ -150,7 +147,7 @@ fn finish(tasks: &KnownTasks, span: &mut Span, number: usize)
 
 /// The same, where there is such a number.
 fn finish_with(tasks: &KnownTasks, span: &mut Span, number: Option<usize>)
-    ensures { (frames : List Timed) (of : ℕ) → KnowsEnds frames tasks.now.entries → number ≡ Some of → IsPathAt (links_of tasks.now.entries) of span.old.path → span.new ≡ with_end frames span.old }
+    ensures { (of : ℕ) → number ≡ Some of → GetsEnd tasks.now.entries of span.old span.new }
 {
     if let Some(number) = number {
         finish(tasks, span, number);
@@ -166,7 +163,7 @@ fn number_at(numbers: &[usize], at: usize) -> Option<usize>
 
 /// Gives each span its end and its result, if its task has ended.
 fn finish_all(tasks: &KnownTasks, spans: &mut [Span], numbers: &[usize])
-    ensures { (frames : List Timed) → KnowsEnds frames tasks.now.entries → AreNumbersOf (links_of tasks.now.entries) spans.old numbers.now → spans.new ≡ map (with_end frames) spans.old }
+    ensures { GetEnds tasks.now.entries numbers.now spans.old spans.new }
 {
     for at in 0..spans.len() {
         finish_with(tasks, &mut spans[at], number_at(numbers, at));

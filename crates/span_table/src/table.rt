@@ -1,7 +1,7 @@
 ghost use Rattle.std.specs.Prelude.{◌≡◌, map, IfOk};
 ghost use Rattle.std.specs.List.{All};
-ghost use Rattle.run_data.specs.Spans.{sorted_spans, spans_of, timed};
-ghost use Rattle.span_table.specs.AsDefined.{defined_span};
+ghost use Rattle.run_data.specs.Spans.{spans_of, timed};
+ghost use Rattle.span_table.specs.AsDefined.{IsSortedAs, defined_span};
 ghost use Rattle.span_table.specs.SpanLaws.{AreInTime, AreSpansOf, HasItsEnd, HasOneEach};
 
 use crate::ordering::compare;
@@ -34,7 +34,7 @@ pub fn spans(alloc: Global, model: &Model, run: &Run) -> Result<Vec<Span>, OutOf
 
 /// The spans by start and then by path.
 fn sorted(mut spans: Vec<Span>) -> Result<Vec<Span>, OutOfMemory>
-    ensures { IfOk result (λ sorted. map defined_span sorted.items ≡ sorted_spans (map defined_span spans.items)) }
+    ensures { IfOk result (λ sorted. IsSortedAs spans.items sorted.items) }
 {
     spans.sort_by(|span, other| compare(span, other))?;
     Ok(spans)

@@ -1,4 +1,5 @@
 pub mod CellsRead
+pub mod Counted
 pub mod Doing
 pub mod FillableFolds
 pub mod Fillings

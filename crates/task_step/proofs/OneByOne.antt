@@ -1,6 +1,6 @@
 -- Jobs that are run one after another, each with the fuel that those before it left, give the frames that each has with
 -- the whole fuel, as long as there is enough of it.
-use Rattle.std.proofs.Common.{◌≡◌, ◌≤◌, ◌<◌, ℕ, suc, ◌+◌, ◌-◌, min, Bool, true, false, IsTrue, List, [], ◌∷◌, ◌++◌, Option, Some, None, length, drop, get_or, slice_get, arith, refl, sym, ap, subst, ◌∙◌, append_assoc, append-nil, drop-cons, nat_lt, nat_le}
+use Rattle.std.proofs.Common.{◌≡◌, ◌≤◌, ◌<◌, ℕ, suc, ◌+◌, Bool, true, false, IsTrue, List, [], ◌∷◌, ◌++◌, Option, Some, None, length, drop, get_or, slice_get, arith, refl, sym, ap, subst, ◌∙◌, append_assoc, append-nil, drop-cons, nat_lt, nat_le}
 use Rattle.std.proofs.lemmas.Option.{slice_get_within}
 use Rattle.aerie_base.specs.declared.models.model.Parts.{Parts}
 use Rattle.aerie_base.specs.declared.statements.Stmt.{Stmt}

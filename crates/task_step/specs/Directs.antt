@@ -17,11 +17,6 @@ abbrev pub code_place : Parts → BodyId → ℕ
 code_place model (body.Activity kind) = kind
 code_place model (body.Daemon number) = length model.activities + number
 
--- the cost of a frame, where there is one
-abbrev pub cost_in : Option Frame → ℕ
-cost_in None = 0
-cost_in (Some frame) = frame.cost
-
 -- the frame of a step, where there is one, is put behind others and its cost is known; else no cost is
 abbrev pub PutsFrame : Option Frame → Option ℕ → List Frame → List Frame → Type 0
 PutsFrame None cost before after = cost ≡ None

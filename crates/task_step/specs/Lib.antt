@@ -4,6 +4,7 @@ pub mod Doable
 pub mod Ends
 pub mod Fillable
 pub mod FlagWords
+pub mod FreshWaves
 pub mod Moves
 pub mod Overlays
 pub mod OwnCells

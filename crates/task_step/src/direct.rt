@@ -94,18 +94,10 @@ impl<'a> Stepper for Direct<'a> {
             Some(room) => room,
             None => Room::new(alloc),
         };
-        let wave = run_jobs(
-            alloc,
-            model,
-            self.codes,
-            jobs,
-            fuel,
-            steps,
-            &mut opened,
-            &mut room,
-        );
-        self.opened = opened;
+        let fresh = run_jobs(alloc, model, self.codes, jobs, fuel, &mut room);
         self.room = Some(room);
-        wave
+        let wave = fresh?.open(steps, &mut opened);
+        self.opened = opened;
+        Ok(wave)
     }
 }

@@ -31,6 +31,13 @@ impl Fresh {
         Fresh { frame }
     }
 
+    /// The frame, which is counted with the wave that it stands in.
+    pub(crate) fn into_frame(self) -> Frame
+        ensures { result ≡ self }
+    {
+        self.frame
+    }
+
     /// The frame, whose statements and tests are counted with this. It takes no memory.
     pub fn open<L: Ledger>(self, steps: &mut Steps<L>) -> Frame
         ensures frame { result ≡ self }

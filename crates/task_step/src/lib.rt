@@ -8,6 +8,7 @@ mod direct;
 mod ends;
 mod filling;
 mod fresh;
+mod fresh_wave;
 mod one_by_one;
 mod read_flags;
 mod room;
@@ -20,5 +21,8 @@ mod written_cells;
 
 pub use direct::Direct;
 pub use fresh::Fresh;
+pub use fresh_wave::FreshWave;
+pub use one_by_one::run_jobs;
+pub use room::Room;
 pub use running::run_step;
 pub use step_end::StepEnd;

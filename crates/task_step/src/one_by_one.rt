@@ -1,6 +1,6 @@
 //! A wave of jobs, one after another.
 
-ghost use Rattle.std.specs.Prelude.{◌≡◌, ◌+◌, ◌<◌, ◌≤◌, ◌^◌, min, [], Some, None, IsTrue, IfOk, OnOk, length, slice_get};
+ghost use Rattle.std.specs.Prelude.{◌≡◌, ◌<◌, ◌≤◌, ◌^◌, Some, None, IsTrue, IfOk, length, slice_get};
 ghost use Rattle.std.specs.List.{All};
 ghost use Rattle.aerie_base.specs.Ranges.{step_limit};
 ghost use Rattle.body_code.specs.ModelCodes.{AreCodesOf};
@@ -8,18 +8,18 @@ ghost use Rattle.body_code.specs.Denoting.{IsCodeOf};
 ghost use Rattle.run_data.specs.Frames.{job_frame};
 ghost use Rattle.run_data.specs.Jobs.{IsJobOf, is_state_of};
 ghost use Rattle.run_data.specs.TaskStates.{body_of};
-ghost use Rattle.run_data.specs.Waves.{wave_of, last_count, IsFrugal, RoseAlike};
-ghost use Rattle.task_step.specs.Directs.{code_place, cost_in, PutsFrame};
+ghost use Rattle.run_data.specs.Waves.{wave_of};
+ghost use Rattle.task_step.specs.Directs.{code_place, PutsFrame};
 
+use crate::fresh_wave::FreshWave;
 use crate::room::Room;
 use crate::running::step;
 use crate::step_end::StepEnd;
-use aerie_base::{List, Model, OutOfMemory, Steps};
+use aerie_base::{List, Model, OutOfMemory};
 use body_code::Code;
 use run_data::laws::budget_decides_the_end_alone;
 use run_data::{BodyId, Frame, Job, TaskState, Wave};
 use std::alloc::Global;
-use std::sync::ledger::Ledger;
 
 /// The place of a body's code among a model's codes.
 fn place(model: &Model, body: BodyId) -> usize
@@ -49,41 +49,28 @@ fn code_of<'a>(model: &Model, codes: &'a [Code], state: &TaskState) -> &'a Code
     code_at(codes, place(model, state.kind))
 }
 
-/// A count that rose, and stands at its last value where that is more.
-fn risen(count: u64, by: u64) -> u64
-    ensures { result ≡ min (count + by) last_count }
-{
-    count.saturating_add(by)
-}
-
 /// Runs a job and puts its frame behind others, where no frame is moved again. Gives its cost, or `None` where that passes the
 /// fuel.
 #[allow(clippy::too_many_arguments)]
-fn run_job<L: Ledger>(
+fn run_job(
     alloc: Global,
     model: &Model,
     codes: &[Code],
     job: &Job,
     fuel: u64,
     frames: &mut List<Frame>,
-    steps: &mut Steps<L>,
-    opened: &mut u64,
     room: &mut Room,
 ) -> Result<Option<u64>, OutOfMemory>
     requires codes { AreCodesOf model.now codes.now }
     requires job { IsJobOf model.now job.now }
     requires fuel { fuel ≤ step_limit }
-    requires opened { opened.old ≤ last_count }
-    ensures frame { IfOk result (λ cost. PutsFrame (job_frame model.now fuel job.now) cost frames.old frames.new) }
-    ensures steps { OnOk result (steps.new ≡ steps.old + cost_in (job_frame model.now fuel job.now)) }
-    ensures opened { RoseAlike opened.old steps.old opened.new steps.new }
+    ensures { IfOk result (λ cost. PutsFrame (job_frame model.now fuel job.now) cost frames.old frames.new) }
 {
     let code = code_of(model, codes, job.state.get());
     match step(alloc, model, code, job, fuel, room) {
         Ok(fresh) => {
-            let frame = fresh.open(steps);
+            let frame = fresh.into_frame();
             let cost = frame.cost();
-            *opened = risen(*opened, cost);
             frames.push(frame)?;
             Ok(Some(cost))
         }
@@ -92,45 +79,30 @@ fn run_job<L: Ledger>(
     }
 }
 
-/// The frames of the jobs, in their order, or `Spent` exactly where their costs together pass the fuel: each job may cost
-/// what those before it left. `opened` rises as `steps` does.
-#[allow(clippy::too_many_arguments)]
-pub(crate) fn run_jobs<L: Ledger>(
+/// Runs jobs one after another, each of which may cost what those before it left. Gives their frames, in their order, or that
+/// their costs together pass the fuel, which is at most 100,000,000. What was run is counted where the wave is opened. The codes
+/// are those of the model's bodies: of the activity types and then of the daemons, in the model's order.
+pub fn run_jobs(
     alloc: Global,
     model: &Model,
     codes: &[Code],
     jobs: &[Job],
     fuel: u64,
-    steps: &mut Steps<L>,
-    opened: &mut u64,
     room: &mut Room,
-) -> Result<Wave, OutOfMemory>
+) -> Result<FreshWave, OutOfMemory>
     requires codes { AreCodesOf model.now codes.now }
     requires jobs { All (IsJobOf model.now) jobs.now }
     requires fuel { fuel ≤ step_limit }
-    requires opened { opened.old ≤ last_count }
-    ensures wave { IfOk result (λ wave. wave ≡ wave_of model.now fuel jobs.now) }
-    ensures frugal { IfOk result (λ wave. IsFrugal wave [] steps.old steps.new) }
-    ensures opened { RoseAlike opened.old steps.old opened.new steps.new }
+    ensures { IfOk result (λ fresh. fresh.wave ≡ wave_of model.now fuel jobs.now) }
 {
     budget_decides_the_end_alone();
     let mut frames = List::with_capacity(alloc, jobs.len())?;
     let mut left = fuel;
     for job in jobs {
-        match run_job(
-            alloc,
-            model,
-            codes,
-            job,
-            left,
-            &mut frames,
-            steps,
-            opened,
-            room,
-        )? {
+        match run_job(alloc, model, codes, job, left, &mut frames, room)? {
             Some(cost) => left -= cost,
-            None => return Ok(Wave::Spent),
+            None => return Ok(FreshWave::new(Wave::Spent, fuel - left)),
         }
     }
-    Ok(Wave::Frames(frames))
+    Ok(FreshWave::new(Wave::Frames(frames), fuel - left))
 }

@@ -11,14 +11,14 @@ use std::mem;
 /// The lists that a step fills while it runs. The next step fills them again, so that only the first takes memory for them, and
 /// a frame has lists of its own that take no more than they need.
 #[derive(Drop)]
-pub(crate) struct Room {
+pub struct Room {
     written: WrittenCells,
     items: List<Item>,
 }
 
 impl Room {
-    /// It takes no memory yet.
-    pub(crate) fn new(alloc: Global) -> Room {
+    /// Lists that have nothing yet. It takes no memory.
+    pub fn new(alloc: Global) -> Room {
         Room {
             written: WrittenCells::none(alloc),
             items: List::new(alloc),

@@ -1,11 +1,12 @@
 //! The jobs of the children that a step makes, and the frames of those that are too deep.
 
-ghost use Rattle.std.specs.Prelude.{◌≡◌, ◌∷◌, ◌++◌, ◌+◌, ◌<◌, ◌^◌, [], true, length, IfOk};
+ghost use Rattle.std.specs.Prelude.{◌≡◌, ◌∷◌, ◌++◌, ◌+◌, ◌<◌, ◌≤◌, ◌^◌, [], true, length, IfOk};
 ghost use Rattle.aerie_base.specs.Paths.{may_have_children};
 ghost use Rattle.run_data.specs.Frames.{child_job};
 ghost use Rattle.run_data.specs.laws.Generations.{child_jobs, deep_frame};
 ghost use Rattle.engine_core.specs.BatchDues.{fresh, deep_children};
 ghost use Rattle.run_data.specs.StepStates.{after_item, after_items};
+ghost use Rattle.engine_core.specs.BatchTrees.{children_by, children_among};
 ghost use Rattle.engine_core.specs.BatchViews.{CanEmit, CanEmitAll};
 
 use crate::beginnings::activity_state;
@@ -14,6 +15,30 @@ use aerie_base::{Fault, List, Model, OutOfMemory, Path, Shared, Value};
 use effect_cells::Cells;
 use run_data::{Frame, Item, Job, Record, Status};
 use std::alloc::Global;
+
+/// How many children an item makes.
+pub(super) fn children_in(item: &Item) -> u32
+    ensures value { result ≡ children_by item.now }
+    ensures few { result ≤ 1 }
+{
+    match item {
+        Item::Emit { .. } => 0,
+        Item::Child { .. } => 1,
+    }
+}
+
+/// How many children items make.
+pub(super) fn children_among(items: &[Item]) -> u32
+    requires { length items.now < 2 ^ 32 }
+    ensures value { result ≡ children_among items.now }
+    ensures few { result ≤ length items.now }
+{
+    let mut count = 0;
+    for item in items {
+        count += children_in(item);
+    }
+    count
+}
 
 /// Applies the effect that an item is; a child is none.
 fn emit(cells: &mut Cells, item: &Item)
@@ -82,6 +107,9 @@ pub(super) fn with_children(
     requires few { number + length items.now < 2 ^ 32 }
     ensures { IfOk result (λ all. all ≡ others ++ fresh (child_jobs model.now job.now.path number job.now.view items.now)) }
 {
+    if children_among(items) == 0 {
+        return Ok(others);
+    }
     let mut all = others;
     let mut view = job.view.share()?;
     let mut seen = 0;

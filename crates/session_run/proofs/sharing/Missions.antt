@@ -24,11 +24,11 @@ use Rattle.std.proofs.alloc.Global.TheSendSync as GlobalSent
 use Rattle.std.proofs.Crossing.{frees}
 use Rattle.std.specs.contracts.alloc.Global as GlobalRow
 use Rattle.std.specs.contracts.impls.GlobalAllocator.TheImpl as GlobalImpl
-use Rattle.session_run.proofs.sharing.Codes.{code_sync}
+use Rattle.sharing.specs.Codes.{code_sync}
 use Rattle.session_run.proofs.sharing.Locks.{lock_sync, pass_send}
-use Rattle.session_run.proofs.sharing.Models.{model_send, model_sync}
+use Rattle.sharing.specs.Models.{model_send, model_sync}
 use Rattle.session_run.proofs.sharing.Rules.{constraint_send, constraint_sync, goal_send, goal_sync}
-use Rattle.session_run.proofs.sharing.Tuples.{bool_sync, u64_sync, usize_send}
+use Rattle.sharing.specs.Tuples.{bool_sync, u64_sync, usize_send}
 
 compiled_inside_sync : IsSync CompiledInside.the_row
 compiled_inside_sync = declared_sync CompiledInside.the_type (SharedSent.the_sync _ model_send model_sync, (ListSent.the_sync _ code_sync, tt))

@@ -18,7 +18,7 @@ use Rattle.goals.specs.contracts.types.Goal as GoalRow
 use Rattle.goals.specs.contracts.types.GoalAnchor as GoalAnchorRow
 use Rattle.goals.specs.contracts.types.GoalKind as GoalKindRow
 use Rattle.goals.proofs.types.Template.TheSendSync as TemplateSent
-use Rattle.session_run.proofs.sharing.Tuples.{bool_send, bool_sync, i64_send, i64_sync, u16_send, u16_sync, u32_send, u32_sync}
+use Rattle.sharing.specs.Tuples.{bool_send, bool_sync, i64_send, i64_sync, u16_send, u16_sync, u32_send, u32_sync}
 
 pub window_part_send : IsSend WindowRow.the_field.row
 window_part_send = WindowSent.send-Window bool_send BoxedSent.the_send u16_send i64_send TimeSent.the_send ReadingSent.the_field_send ValueSent.the_field_send RuleSumSent.the_field_send ComparisonSent.the_field_send

@@ -22,9 +22,9 @@ use Rattle.hangar_core.proofs.held_plans.HeldPlan.TheSendSync as HeldPlanSent
 use Rattle.hangar_core.proofs.last_revisions.LastRevisions.TheSendSync as LastRevisionsSent
 use Rattle.plan_edit.proofs.mappings.Mapping.TheSendSync as MappingSent
 use Rattle.std.proofs.option.Option.TheSendSync as OptionSent
-use Rattle.session_run.proofs.sharing.Models.{model_send, model_sync}
-use Rattle.session_run.proofs.sharing.Runs.{kept_send, kept_sync}
-use Rattle.session_run.proofs.sharing.Tuples.{pair_send, u32_send, u64_send}
+use Rattle.sharing.specs.Models.{model_send, model_sync}
+use Rattle.sharing.specs.Runs.{kept_send, kept_sync}
+use Rattle.sharing.specs.Tuples.{pair_send, u32_send, u64_send}
 
 pub branch_send : IsSend BranchRow.the_row
 branch_send = declared_send BranchRow.the_type (NameSent.the_send, (as_row_send denote.Struct.Field.u64-field u64_send, (HeldPlanSent.the_send, (OptionSent.the_send _ (SharedSent.the_send _ kept_send kept_sync), tt))))

@@ -1,39 +1,60 @@
--- The cells' own commit answers as the definition says.
-use Rattle.std.proofs.Common.{◌≡◌, ◌<◌, ◌∙◌, length, sym, ap, subst, arith}
-use Rattle.effect_cells.specs.declared.trees.Tree.{Tree}
-use Rattle.effect_cells.specs.Cells.{fits_cells}
-use Rattle.effect_cells.specs.Sums.{sum_limit}
-use Rattle.effect_cells.specs.Worth.{magnitude_of}
+-- The tasks are those of the jobs, so that the tree is the same.
+use Rattle.std.proofs.Common.{◌≡◌, ◌∙◌, ℕ, List, map, ap}
+use Rattle.aerie_base.specs.Ranges.{step_limit}
+use Rattle.effect_cells.specs.declared.effects.CellState.{CellState}
+use Rattle.run_data.specs.TaskFrames.{Frame}
+use Rattle.run_data.specs.declared.jobs.Job.{Job}
 use Rattle.run_data.specs.laws.Trees.{tree_by_frames}
-use Rattle.engine_core.proofs.BatchTouched.{few_cells}
-use Rattle.engine_core.proofs.BatchJudging.{commit_ok, commit_out}
+use Rattle.engine_core.specs.BatchEnding.{committed_by}
+use Rattle.engine_core.specs.BatchEnds.{batch_as}
+use Rattle.engine_core.specs.declared.ready_jobs.Root.{Root}
+use Rattle.engine_core.specs.BatchTrees.{root_of, rebuilt_roots, tree_with}
+use Rattle.engine_core.proofs.GatheredFrames.{roots_within, roots_of_jobs}
 use Rattle.engine_core.proofs.batches.commit.Goals as goal
 
-pub touched_cells-requires : goal.touched_cells-requires
-touched_cells-requires c =
-    let few = few_cells c.args.model.now c.cells.ensures.valid in
-    let same : length c.cells.result.now ≡ length c.args.model.now.cells = ap length c.cells.ensures.value in
-    omega (arith, few, same)
+same_end : (frames : List Frame) (jobs : List (ℕ × Job)) (roots : List Root) (cells before : List CellState) → roots ≡ map root_of jobs → cells ≡ before →
+    committed_by (tree_with (rebuilt_roots frames roots)) cells frames ≡ committed_by (tree_by_frames frames jobs) before frames
+same_end frames jobs roots cells before are same =
+    let parts = ap (rebuilt_roots frames) are ∙ roots_of_jobs frames jobs in (λ i. committed_by (tree_with (parts i)) (same i) frames)
 
-pub commit-requires-clause-kinds : goal.commit-requires-clause-kinds
-commit-requires-clause-kinds c =
-    let tree : c.in_ok-tree.tree ≡ tree_by_frames c.args.frames.items c.args.jobs.now = rw c.as_slice.ensures.value at c.in_ok-tree.ensures in
-    ap (fits_cells c.args.cells.now) tree ∙ c.requires.fits
+pub commit_on-requires-clause-made : goal.commit_on-requires-clause-made
+commit_on-requires-clause-made c =
+    let roots : c.as_slice.result.now ≡ map root_of c.args.jobs = c.as_slice.ensures.value ∙ c.into_roots-roots.ensures in
+    rw roots (roots_within step_limit c.args.jobs c.requires.made)
 
-pub commit-requires-clause-small : goal.commit-requires-clause-small
-commit-requires-clause-small c =
-    let tree : c.in_ok-tree.tree ≡ tree_by_frames c.args.frames.items c.args.jobs.now = rw c.as_slice.ensures.value at c.in_ok-tree.ensures in
-    subst (λ (t : Tree). magnitude_of t < sum_limit) (sym tree) c.requires.worth
+pub commit_on-requires-clause-fits : goal.commit_on-requires-clause-fits
+commit_on-requires-clause-fits c =
+    let roots : c.as_slice.result.now ≡ map root_of c.args.jobs = c.as_slice.ensures.value ∙ c.into_roots-roots.ensures in
+    rw (c.in-Some.ensures.value, roots, roots_of_jobs) c.requires.fits
 
-pub returns-in-Ok-clause-end : goal.returns-in-Ok-clause-end
-returns-in-Ok-clause-end c =
-    let tree : c.in_ok-tree.tree ≡ tree_by_frames c.args.frames.items c.args.jobs.now = rw c.as_slice.ensures.value at c.in_ok-tree.ensures in
-    let same : length c.cells.result.now ≡ length c.args.model.now.cells = ap length c.cells.ensures.value in
-    rw c.from_vec.ensures
-    (commit_ok c.in_ok-tree.tree (tree_by_frames c.args.frames.items c.args.jobs.now) c.args.cells.now c.commit.new.self c.in_ok-touched.touched c.args.frames.items tree c.in-Ok.ensures.answer
-    c.in-Ok.ensures.committed (c.in_ok-touched.ensures c.args.cells.now (c.requires.count ∙ sym same)))
+pub commit_on-requires-clause-worth : goal.commit_on-requires-clause-worth
+commit_on-requires-clause-worth c =
+    let roots : c.as_slice.result.now ≡ map root_of c.args.jobs = c.as_slice.ensures.value ∙ c.into_roots-roots.ensures in
+    rw (roots, roots_of_jobs) c.requires.worth
 
-pub returns-in-Err-clause-end : goal.returns-in-Err-clause-end
-returns-in-Err-clause-end c =
-    let tree : c.in_ok-tree.tree ≡ tree_by_frames c.args.frames.items c.args.jobs.now = rw c.as_slice.ensures.value at c.in_ok-tree.ensures in
-    commit_out c.in_ok-tree.tree (tree_by_frames c.args.frames.items c.args.jobs.now) c.args.cells.now c.in-Err.out c.args.frames.items tree c.in-Err.ensures.answer
+pub commit_on-requires-2-clause-made : goal.commit_on-requires-2-clause-made
+commit_on-requires-2-clause-made c =
+    let roots : c.as_slice-2.result.now ≡ map root_of c.args.jobs = c.as_slice-2.ensures.value ∙ c.into_roots-roots.ensures in
+    rw roots (roots_within step_limit c.args.jobs c.requires.made)
+
+pub commit_on-requires-2-clause-fits : goal.commit_on-requires-2-clause-fits
+commit_on-requires-2-clause-fits c =
+    let roots : c.as_slice-2.result.now ≡ map root_of c.args.jobs = c.as_slice-2.ensures.value ∙ c.into_roots-roots.ensures in
+    rw (c.in_ok-own.ensures, c.get.ensures, roots, roots_of_jobs) c.requires.fits
+
+pub commit_on-requires-2-clause-worth : goal.commit_on-requires-2-clause-worth
+commit_on-requires-2-clause-worth c =
+    let roots : c.as_slice-2.result.now ≡ map root_of c.args.jobs = c.as_slice-2.ensures.value ∙ c.into_roots-roots.ensures in
+    rw (roots, roots_of_jobs) c.requires.worth
+
+pub returns-in-Some-clause-end : goal.returns-in-Some-clause-end
+returns-in-Some-clause-end c =
+    let roots : c.as_slice.result.now ≡ map root_of c.args.jobs = c.as_slice.ensures.value ∙ c.into_roots-roots.ensures in
+    c.in_ok-end.ensures.end ∙ same_end c.args.frames.items c.args.jobs c.as_slice.result.now c.in-Some.own.now c.args.cells.now roots c.in-Some.ensures.value
+
+pub returns-clause-end : goal.returns-clause-end
+returns-clause-end c =
+    let roots : c.as_slice-2.result.now ≡ map root_of c.args.jobs = c.as_slice-2.ensures.value ∙ c.into_roots-roots.ensures in
+    ap (batch_as c.in_ok-end-2.end) c.in_ok-cells.ensures
+    ∙ c.in_ok-end-2.ensures.end
+    ∙ same_end c.args.frames.items c.args.jobs c.as_slice-2.result.now c.in_ok-own.own c.args.cells.now roots (c.in_ok-own.ensures ∙ c.get.ensures)

@@ -10,7 +10,7 @@ use Rattle.session_run.specs.declared.on_threads.Work.{Work}
 use Rattle.session_run.specs.Works.{HasDoneWork}
 use Rattle.session_run.proofs.Threaded.{got}
 use Rattle.session_run.proofs.sharing.Missions.{done_send, work_send, workplace_sync}
-use Rattle.session_run.proofs.sharing.Tuples.{three_captured_sync}
+use Rattle.sharing.specs.Tuples.{three_captured_sync}
 use Rattle.session_run.proofs.on_threads.do_works.Goals as goal
 
 -- src/on_threads.rt:152:17

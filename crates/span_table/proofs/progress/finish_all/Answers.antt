@@ -14,6 +14,6 @@ loop-at-preserved c = λ frames knows are.
     let same : span ≡ get_or c.args.spans.now at span = untouched (with_end frames) c.args.spans.now c.loop-at.spans at span c.loop-at-test.true mixed c.index-spans-at.is in
     let of = number_at (links_of c.args.tasks.now.entries) c.args.spans.now c.args.numbers.now at span are c.loop-at-test.true in
     let path = subst (λ (s : Span). IsPathAt (links_of c.args.tasks.now.entries) of.0 s.path) (sym same) of.2 in
-    rw (c.finish_with.ensures frames of.0 knows (c.number_at.ensures ∙ of.1)
+    rw (c.finish_with.ensures of.0 (c.number_at.ensures ∙ of.1) frames knows
     (subst (λ (s : Span). IsPathAt (links_of c.args.tasks.now.entries) of.0 s.path) c.index-spans-at.is path)) (rw (← c.index-spans-at.is)
     (map_over_more (with_end frames) c.args.spans.now c.loop-at.spans at span c.loop-at-test.true mixed c.index-spans-at.is))

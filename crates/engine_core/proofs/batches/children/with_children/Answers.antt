@@ -3,6 +3,7 @@ use Rattle.std.proofs.Common.{◌≡◌, ◌+◌, ◌-◌, ◌∙◌, ap, take, 
 use Rattle.effect_cells.specs.declared.effects.CellState.{CellState}
 use Rattle.run_data.specs.StepStates.{after_items}
 use Rattle.engine_core.proofs.ChildViews.{between_can, between_seen, child_unseen, effect_iteration, child_iteration, all_made}
+use Rattle.engine_core.proofs.GatheredFrames.{no_children}
 use Rattle.engine_core.proofs.batches.children.with_children.Goals as goal
 
 pub seen_after-requires : goal.seen_after-requires
@@ -43,3 +44,7 @@ loop-at-preserved c =
 
 pub returns : goal.returns
 returns c = all_made c.args.model.now c.args.job.now.path c.loop-at.next c.loop-at.at _ c.args.items.now c.loop-at.all _ c.loop-at-test.false c.loop-at.invariant.made
+
+pub returns-then-children_among-eq0 : goal.returns-then-children_among-eq0
+returns-then-children_among-eq0 c =
+    no_children c.args.model.now c.args.job.now.path c.args.number c.args.job.now.view c.args.items.now c.args.others (omega (arith, c.children_among.ensures.value, c.if-children_among-eq0.true))

@@ -12,7 +12,7 @@ pub batch_of-requires-clause-ready : goal.batch_of-requires-clause-ready
 batch_of-requires-clause-ready c = c.requires.ready ∙ ap (λ (t : Stage). jobs_in (point_in t)) c.in-On.is
 
 pub batch_of-requires-clause-frames : goal.batch_of-requires-clause-frames
-batch_of-requires-clause-frames c = subst (λ (t : Stage). batch_frames c.args.model.now (bound_in t) c.args.ready.now ≡ Some c.args.frames.now) c.in-On.is c.requires.frames
+batch_of-requires-clause-frames c = subst (λ (t : Stage). batch_frames c.args.model.now (bound_in t) c.args.ready ≡ Some c.args.frames.now) c.in-On.is c.requires.frames
 
 pub returns-in-On : goal.returns-in-On
 returns-in-On c =

@@ -1,5 +1,5 @@
 use Rattle.run_data.proofs.GoingOn.{go_on_in_turn, all_gone_on}
-use Rattle.run_data.proofs.QuietTasks.{others_stay, quiet_after, none_goes_on, go_on_once}
+use Rattle.run_data.specs.laws.QuietTasks.{others_stay, quiet_after, none_goes_on, go_on_once}
 use Rattle.run_data.proofs.laws.tables.tasks_go_on_in_turn.Goals as goal
 
 pub returns : goal.returns

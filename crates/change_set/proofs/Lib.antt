@@ -1,0 +1,2 @@
+mod NoTask
+mod NoneSet

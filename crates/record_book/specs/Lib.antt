@@ -1,0 +1,6 @@
+pub mod StoredSteps
+pub mod KeyedItems
+pub mod Chains
+pub mod Ways
+pub mod Cases
+pub mod laws

@@ -1,0 +1,4 @@
+pub mod Tuples
+pub mod Models
+pub mod Codes
+pub mod Runs
