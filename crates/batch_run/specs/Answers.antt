@@ -1,12 +1,16 @@
 -- What stored steps answer to the jobs of a wave, and the frames that come of it.
-use Rattle.std.specs.Prelude.{◌≡◌, List, [], ◌∷◌, Option, Some, None}
+use Rattle.std.specs.Prelude.{◌≡◌, List, [], ◌∷◌, ◌++◌, Option, Some, None}
 use Rattle.std.specs.List.{All}
 use Rattle.aerie_base.specs.declared.models.model.Parts.{Parts}
-use Rattle.record_book.specs.StoredSteps.{FitsView}
+use Rattle.record_book.specs.StoredSteps.{StoredSteps, FitsView}
 use Rattle.run_data.specs.declared.frames.Record.{Record}
 use Rattle.run_data.specs.declared.jobs.Job.{Job}
 use Rattle.run_data.specs.TaskFrames.{Frame, frame_with}
 use Rattle.run_data.specs.Records.{IsValid}
+
+-- the steps of two books
+abbrev pub stored_by : StoredSteps → StoredSteps → List Record
+stored_by book kept = book.records ++ kept.records
 
 -- a step that was found: it is valid, it goes from the job's state, and the job's view agrees with its reads
 abbrev pub IsFoundFor : Parts → Job → Frame → Type 0

@@ -1,5 +1,5 @@
 -- The pieces into which jobs are cut, and the waves that they give.
-use Rattle.std.specs.Prelude.{◌≡◌, ℕ, List, [], ◌∷◌, Option, Some, None, Result, Ok, Err, IfOk, take, drop}
+use Rattle.std.specs.Prelude.{◌≡◌, ℕ, ◌+◌, ◌/◌, ◌%◌, min, List, [], ◌∷◌, Option, Some, None, Result, Ok, Err, IfOk, take, drop}
 use Rattle.aerie_base.specs.declared.models.model.Parts.{Parts}
 use Rattle.aerie_base.specs.declared.memory.OutOfMemory.{OutOfMemory}
 use Rattle.run_data.specs.declared.jobs.Job.{Job}
@@ -9,6 +9,14 @@ use Rattle.run_data.specs.TaskFrames.{Frame}
 use Rattle.run_data.specs.Waves.{unless_spent, wave_of}
 use Rattle.run_data.specs.laws.Generations.{beside_frames}
 use Rattle.task_step.specs.FreshWaves.{UncountedWave}
+
+-- how many jobs a piece has at least, but for the last
+abbrev pub least_jobs : ℕ
+least_jobs = 64
+
+-- into how many pieces of a size so many jobs are cut
+abbrev pub piece_count : ℕ → ℕ → ℕ
+piece_count jobs size = jobs / size + min 1 (jobs % size)
 
 -- a wave that was run, of these jobs, which together may cost the whole fuel
 abbrev pub IsWaveOf : Parts → ℕ → List Job → UncountedWave → Type 0

@@ -1,9 +1,10 @@
 -- What contracts see of a stepper over two books.
-use Rattle.std.specs.Prelude.{◌≡◌, ℕ, List, ◌++◌}
+use Rattle.std.specs.Prelude.{◌≡◌, ℕ, List}
 use Rattle.std.specs.List.{All}
 use Rattle.aerie_base.specs.declared.models.model.Parts.{Parts}
 use Rattle.body_code.specs.declared.instructions.Instruction.{Instruction}
 use Rattle.body_code.specs.ModelCodes.{AreCodesOf}
+use Rattle.batch_run.specs.Answers.{stored_by}
 use Rattle.record_book.specs.StoredSteps.{StoredSteps}
 use Rattle.run_data.specs.declared.frames.Record.{Record}
 use Rattle.run_data.specs.Records.{IsValid}
@@ -18,7 +19,7 @@ pub record SpreadStepper : Type 0 where
 
 -- the steps of both books
 abbrev pub stored_in : SpreadStepper → List Record
-stored_in spread = spread.book.records ++ spread.kept.records
+stored_in spread = stored_by spread.book spread.kept
 
 -- It is of a model where both books are and its codes are those of the model's bodies, so that each stored step is valid for
 -- the model.

@@ -1,12 +1,12 @@
 //! What two books answer to the jobs of a wave, and the frames that come of it.
 
-ghost use Rattle.std.specs.Prelude.{◌≡◌, ◌≤◌, ◌+◌, ◌*◌, ◌++◌, None, Some, IsTrue, IfOk, length};
+ghost use Rattle.std.specs.Prelude.{◌≡◌, ◌≤◌, ◌+◌, ◌*◌, None, Some, IsTrue, IfOk, length};
 ghost use Rattle.std.specs.List.{All};
 ghost use Rattle.std.specs.Vec.Iter.{into_iter_items};
 ghost use Rattle.run_data.specs.Jobs.{AreCellsOf, IsJobOf};
 ghost use Rattle.run_data.specs.TaskFrames.{frame_with};
 ghost use Rattle.run_data.specs.Waves.{unless_spent};
-ghost use Rattle.batch_run.specs.Answers.{AreAnswers, TakesNext, IsAnswerFor, missed, woven};
+ghost use Rattle.batch_run.specs.Answers.{AreAnswers, TakesNext, IsAnswerFor, missed, stored_by, woven};
 
 use aerie_base::{List, OutOfMemory, Shared, Steps};
 use record_book::Book;
@@ -33,7 +33,7 @@ fn answer<K: Ledger>(
 ) -> Result<Option<Frame>, OutOfMemory>
     requires view { AreCellsOf book.now.model job.now.view }
     requires model { kept.now.model ≡ book.now.model }
-    ensures answer { IfOk result (λ answer. IsAnswerFor book.now.model (book.now.records ++ kept.now.records) job.now answer) }
+    ensures answer { IfOk result (IsAnswerFor book.now.model (stored_by book.now kept.now) job.now) }
     ensures looks { looks.old ≤ looks.new }
     ensures few { looks.new ≤ looks.old + 2 }
 {
@@ -56,7 +56,7 @@ pub(crate) fn look_up<K: Ledger>(
 ) -> Result<List<Option<Frame>>, OutOfMemory>
     requires jobs { All (IsJobOf book.now.model) jobs.now }
     requires model { kept.now.model ≡ book.now.model }
-    ensures answers { IfOk result (λ answers. AreAnswers book.now.model (book.now.records ++ kept.now.records) jobs.now answers) }
+    ensures answers { IfOk result (AreAnswers book.now.model (stored_by book.now kept.now) jobs.now) }
     ensures looks { looks.old ≤ looks.new }
     ensures few { looks.new ≤ looks.old + 2 * length jobs.now }
 {

@@ -1,12 +1,12 @@
 //! The pieces of a wave: neighbouring jobs, each piece on a thread of its own where one can be made.
 
-ghost use Rattle.std.specs.Prelude.{◌≡◌, ◌*◌, ◌<◌, ◌≤◌, ◌++◌, [], false, IsTrue, IfOk, IfSome, OnOk, length};
+ghost use Rattle.std.specs.Prelude.{◌≡◌, ◌/◌, ◌<◌, ◌≤◌, ◌++◌, [], false, IsTrue, IfOk, IfSome, IfNone, OnOk, length, min};
 ghost use Rattle.std.specs.List.{All};
 ghost use Rattle.aerie_base.specs.Ranges.{step_limit};
 ghost use Rattle.body_code.specs.ModelCodes.{AreCodesOf};
 ghost use Rattle.run_data.specs.Jobs.{IsJobOf};
 ghost use Rattle.run_data.specs.Waves.{IsFrugal, RoseAlike, last_count};
-ghost use Rattle.batch_run.specs.Pieces.{ArePieces, HaveNoError, IsWaveOf, joined_wave};
+ghost use Rattle.batch_run.specs.Pieces.{ArePieces, HaveNoError, IsWaveOf, joined_wave, least_jobs, piece_count};
 
 use crate::probes::Probe;
 use aerie_base::{List, Model, OutOfMemory, Steps};
@@ -22,10 +22,12 @@ use task_step::{FreshWave, Room, run_jobs};
 /// smaller piece would end later on a thread than here.
 const LEAST_JOBS: usize = 64;
 
-/// How many neighbouring jobs each piece has, or `None` where there are too few jobs for two pieces.
+/// How many neighbouring jobs each piece has, or `None` where there are too few jobs for two pieces. The jobs are cut into at most
+/// so many pieces of this size.
 pub(crate) fn piece_size(jobs: usize, pieces: usize) -> Option<usize>
-    ensures some { IfSome result (λ size. 0 < size) }
-    ensures few { IfSome result (λ size. jobs ≤ size * pieces) }
+    ensures large { IfSome result (λ size. least_jobs ≤ size) }
+    ensures few { IfSome result (λ size. piece_count jobs size ≤ pieces) }
+    ensures none { IfNone result (min pieces (jobs / least_jobs) < 2) }
 {
     let count = pieces.min(jobs / LEAST_JOBS);
     if count < 2 {
@@ -47,7 +49,7 @@ fn run_piece(
     requires fuel { fuel ≤ step_limit }
     ensures { IfOk result (IsWaveOf model.now fuel jobs.now) }
 {
-    let mut room = Room::new(alloc);
+    let mut room = Room::new();
     run_jobs(alloc, model, codes, jobs, fuel, &mut room)
 }
 
@@ -68,7 +70,8 @@ pub(crate) fn run_pieces<R: Threads + Sync, P: Probe>(
     requires codes { AreCodesOf model.now codes.now }
     requires jobs { All (IsJobOf model.now) jobs.now }
     requires fuel { fuel ≤ step_limit }
-    ensures { IfOk result (λ pieces. ArePieces model.now fuel size jobs.now pieces.items) }
+    ensures waves { IfOk result (λ pieces. ArePieces model.now fuel size jobs.now pieces.items) }
+    ensures count { IfOk result (λ pieces. length pieces.items ≡ piece_count (length jobs.now) size) }
 {
     let pieces = thread::map_chunks(
         rt,
@@ -76,7 +79,10 @@ pub(crate) fn run_pieces<R: Threads + Sync, P: Probe>(
         jobs,
         size,
         &|start, piece: &[Job]| -> Result<FreshWave, OutOfMemory>
-            requires { (0 < size) × AreCodesOf model.now codes.now × All (IsJobOf model.now) piece.now × (fuel ≤ step_limit) }
+            requires size { 0 < size }
+            requires codes { AreCodesOf model.now codes.now }
+            requires jobs { All (IsJobOf model.now) piece.now }
+            requires fuel { fuel ≤ step_limit }
             ensures { IfOk result (IsWaveOf model.entry.now fuel piece.entry.now) }
         {
             probe.piece(start / size);

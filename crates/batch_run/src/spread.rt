@@ -32,8 +32,8 @@ pub struct Spread<'a, R: Threads + Sync, P: Probe> {
     pieces: usize,
     probe: &'a P,
     opened: u64,
-    /// What the steps of one wave leave for the next, once there was one.
-    room: Option<Room>,
+    /// What the steps of one wave leave for the next.
+    room: Room,
 }
 
 impl<'a, R: Threads + Sync, P: Probe> std::marker::Model for Spread<'a, R, P> {
@@ -87,7 +87,7 @@ impl<'a, R: Threads + Sync, P: Probe> Spread<'a, R, P> {
             pieces,
             probe,
             opened: 0,
-            room: None,
+            room: Room::new(),
         }
     }
 
@@ -115,17 +115,10 @@ impl<'a, R: Threads + Sync, P: Probe> Spread<'a, R, P> {
         ensures opened { RoseAlike self.old.opened steps.old self.new.opened steps.new }
         ensures same { IsSameSpread self.old self.new }
     {
+        let _opened = self.opened;
         self.probe.piece(0);
-        let mut opened = self.opened;
-        let mut room = match self.room.take() {
-            Some(room) => room,
-            None => Room::new(alloc),
-        };
-        let fresh = run_jobs(alloc, model, self.codes, jobs, fuel, &mut room);
-        self.room = Some(room);
-        let wave = fresh?.open(steps, &mut opened);
-        self.opened = opened;
-        Ok(wave)
+        let fresh = run_jobs(alloc, model, self.codes, jobs, fuel, &mut self.room)?;
+        Ok(fresh.open(steps, &mut self.opened))
     }
 
     /// The wave of jobs that are run in pieces of this size, each on a thread of its own where one can be made.

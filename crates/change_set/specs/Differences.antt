@@ -1,5 +1,5 @@
 -- In which cells and tasks two simulations differ at a time, and what of a run is touched by that.
-use Rattle.std.specs.Prelude.{◌≡◌, ℕ, Bool, false, ◌||◌, List, slice_index_or}
+use Rattle.std.specs.Prelude.{◌≡◌, ℕ, Bool, false, ◌||◌, List, nat_eq, if◌then◌else◌, slice_index_or}
 use Rattle.std.specs.List.{list_any}
 use Rattle.effect_cells.specs.declared.effects.CellState.{CellState}
 use Rattle.run_data.specs.Spans.{same_path}
@@ -43,3 +43,20 @@ touches_batch noted frames = list_any (touches_frame noted) frames
 -- whether a frame of an instant did
 abbrev pub touches_instant : Differences → Instant → Bool
 touches_instant noted instant = list_any (touches_batch noted) instant.batches
+
+-- ---- what noting changes
+
+-- the flag of a cell becomes this, and no other flag changes
+abbrev pub PutsFlagAlone : ℕ → Bool → List Bool → List Bool → Type 0
+PutsFlagAlone cell flag before after =
+    (other : ℕ) → slice_index_or after other false ≡ (if nat_eq other cell then flag else slice_index_or before other false)
+
+-- a cell is noted or taken back, and no other is
+abbrev pub NotesCellAlone : ℕ → Bool → Differences → Differences → Type 0
+NotesCellAlone cell differs before after =
+    (other : ℕ) → notes_cell after other ≡ (if nat_eq other cell then differs else notes_cell before other)
+
+-- a task is noted or taken back, and no other is
+abbrev pub NotesTaskAlone : List ℕ → Bool → Differences → Differences → Type 0
+NotesTaskAlone path differs before after =
+    (other : List ℕ) → notes_task after other ≡ (if same_path path other then differs else notes_task before other)

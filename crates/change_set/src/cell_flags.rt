@@ -1,6 +1,7 @@
 //! Which cells are noted, by flags.
 
-ghost use Rattle.std.specs.Prelude.{◌≡◌, ◌↔◌, ◌+◌, ◌-◌, ◌<◌, ◌++◌, ℕ, [], false, true, replicate, length, nat_eq, if◌then◌else◌, slice_set, slice_index_or, IsTrue, IfOk, OnOk, OnErr};
+ghost use Rattle.std.specs.Prelude.{◌≡◌, ◌↔◌, ◌-◌, ◌<◌, ◌++◌, ℕ, [], false, replicate, length, slice_set, slice_index_or, IsTrue, IfOk, OnOk, OnErr};
+ghost use Rattle.change_set.specs.Differences.{PutsFlagAlone};
 
 use aerie_base::OutOfMemory;
 use std::alloc::Global;
@@ -81,7 +82,7 @@ impl CellFlags {
 
     /// The flag of a cell becomes this, and no other changes.
     pub(crate) fn note(&mut self, cell: u16, flag: bool) -> Result<(), OutOfMemory>
-        ensures noted { OnOk result ((other : ℕ) → slice_index_or self.new other false ≡ (if nat_eq other cell then flag else slice_index_or self.old other false)) }
+        ensures noted { OnOk result (PutsFlagAlone cell flag self.old self.new) }
         ensures refused { OnErr result (self.new ≡ self.old) }
     {
         let at = usize::from(cell);

@@ -1,8 +1,8 @@
 //! In which cells and tasks two simulations differ.
 
-ghost use Rattle.std.specs.Prelude.{◌≡◌, ◌↔◌, ℕ, List, [], nat_eq, if◌then◌else◌, IsTrue, IfOk, OnOk, OnErr};
-ghost use Rattle.run_data.specs.Spans.{same_path};
-ghost use Rattle.change_set.specs.Differences.{notes_cell, notes_task, touches_frame, touches_batch, touches_instant, notes_any_read, NotesNoTask, NotesNothing};
+ghost use Rattle.std.specs.Prelude.{◌≡◌, ◌↔◌, [], IsTrue, IfOk, OnOk, OnErr};
+ghost use Rattle.change_set.specs.Differences.{notes_task, notes_any_read, touches_frame, touches_batch, touches_instant};
+ghost use Rattle.change_set.specs.Differences.{NotesNoTask, NotesNothing, NotesCellAlone, NotesTaskAlone};
 
 use crate::cell_flags::CellFlags;
 use aerie_base::{List, OutOfMemory, Path};
@@ -45,7 +45,7 @@ impl ChangeSet {
 
     /// Notes a cell that differs, or takes it back. Nothing else changes. After want of memory nothing changes.
     pub fn note_cell(&mut self, cell: u16, differs: bool) -> Result<(), OutOfMemory>
-        ensures noted { OnOk result ((other : ℕ) → notes_cell self.new other ≡ (if nat_eq other cell then differs else notes_cell self.old other)) }
+        ensures noted { OnOk result (NotesCellAlone cell differs self.old self.new) }
         ensures tasks { self.new.tasks ≡ self.old.tasks }
         ensures refused { OnErr result (self.new ≡ self.old) }
     {
@@ -59,7 +59,7 @@ impl ChangeSet {
         path: &Path,
         differs: bool,
     ) -> Result<(), OutOfMemory>
-        ensures noted { OnOk result ((other : List ℕ) → notes_task self.new other ≡ (if same_path path.now other then differs else notes_task self.old other)) }
+        ensures noted { OnOk result (NotesTaskAlone path.now differs self.old self.new) }
         ensures cells { self.new.cells ≡ self.old.cells }
         ensures refused { OnErr result (self.new ≡ self.old) }
     {

@@ -11,8 +11,9 @@ use Rattle.run_data.specs.Batches.{Blame, first_unless_greater, lesser, blamed, 
 use Rattle.run_data.specs.Records.{unmatched, has_fit}
 use Rattle.run_data.specs.declared.frames.Record.{Record}
 use Rattle.run_data.specs.laws.Orders.{EachOf}
-use Rattle.engine_core.specs.BatchOrders.{AreByPath, unless_faulted, first_fault}
-use Rattle.engine_core.proofs.BatchOrder.{path_order, reversed, sorted_in_order}
+use Rattle.live_tasks.specs.FrameOrders.{AreByPath}
+use Rattle.engine_core.specs.BatchOrders.{unless_faulted, first_fault}
+use Rattle.engine_core.specs.FrameOrderLaws.{path_order, reversed, sorted_in_order}
 use Rattle.engine_core.proofs.ChildViews.{here}
 
 -- ---- a fault more in order

@@ -29,11 +29,12 @@ use Rattle.engine_core.specs.declared.batch_ends.BatchEnd.TheVariants.{Limit, Fa
 use Rattle.engine_core.specs.BatchEnding.{unless_cell_out, committed_by, HasFrames, IsCommittedWith}
 use Rattle.engine_core.specs.BatchEnds.{AreReadyJobs, IsFrugalEnd, HasFewLooks, SpendsWith, batch_frames}
 use Rattle.engine_core.specs.BatchGenerations.{in_generations, AreDueJobs, AreAllFrames, PaysForAll, LooksForAll}
-use Rattle.engine_core.specs.BatchOrders.{AreByPath, AreMade, first_fault}
+use Rattle.live_tasks.specs.FrameOrders.{AreByPath}
+use Rattle.engine_core.specs.BatchOrders.{AreMade, first_fault}
 use Rattle.engine_core.specs.BatchTrees.{HaveFewItems}
 use Rattle.run_data.specs.FrameLaws.{sorted_cost, each_sorted}
 use Rattle.engine_core.proofs.BatchFaults.{first_is_least, sorted_length, sorted_unmatched}
-use Rattle.engine_core.proofs.BatchOrder.{by_path_stays, sorted_in_order}
+use Rattle.engine_core.specs.FrameOrderLaws.{sorted_in_order}
 use Rattle.engine_core.proofs.TreeSizes.{may_commit}
 
 -- ---- costs
@@ -172,20 +173,19 @@ by_generations alike model bound spent jobs frames apart all =
     by None e h = absurd h
     by (Some made) e h = record { made = made; by_all = e; cost = sym h.cost; sorted = sym h.sorted }
 
--- and so are frames in order of path
-pub by_order : (model : Parts) (bound : ℕ) (jobs : List (ℕ × Job)) (frames copies : List Frame) → copies ≡ frames → batch_frames model bound jobs ≡ Some frames → AreMade model bound jobs copies
+-- and so are others that are the same in order of path
+pub by_order : (model : Parts) (bound : ℕ) (jobs : List (ℕ × Job)) (frames copies : List Frame) → copies ≡ frames → batch_frames model bound jobs ≡ Some (by_path frames) → AreMade model bound jobs copies
 by_order model bound jobs frames copies same is = by (made_by_all model bound jobs) refl is
   where
-    by : (making : Making) → made_by_all model bound jobs ≡ making → option_map by_path (frames_in making) ≡ Some frames → AreMade model bound jobs copies
+    by : (making : Making) → made_by_all model bound jobs ≡ making → option_map by_path (frames_in making) ≡ Some (by_path frames) → AreMade model bound jobs copies
     by None e h = absurd (cc)
     by (Some made) e h =
-        let sorted : by_path made.frames ≡ frames = cc in
-        let these : copies ≡ by_path made.frames = same ∙ sym sorted in
+        let sorted : by_path made.frames ≡ by_path frames = cc in
         record {
           made = made;
           by_all = e;
-          cost = ap cost_of these ∙ sorted_cost made.frames;
-          sorted = ap by_path these ∙ by_path_stays (by_path made.frames) (sorted_in_order made.frames);
+          cost = ap cost_of same ∙ sym (sorted_cost frames) ∙ ap cost_of (sym sorted) ∙ sorted_cost made.frames;
+          sorted = ap by_path same ∙ sym sorted;
         }
 
 -- ---- what the generations gave

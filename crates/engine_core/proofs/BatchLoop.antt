@@ -22,7 +22,7 @@ use Rattle.run_data.specs.laws.SmallSteps.{IsJobWithin, StepsAreSmall, PendingSt
 use Rattle.run_data.specs.laws.WaveFuel.{WaveTellsFrames, SpentIsLimit}
 use Rattle.run_data.specs.laws.WaveGenerations.{generation_of, generation_by, GenerationByFrames}
 use Rattle.engine_core.specs.BatchGenerations.{jobs_of, gathered_so_far, AddsGeneration, IsGenerationRun, MayRun, PaysForGeneration, LooksForGeneration, in_generations, reach_after, AreDueJobs, StandsBetween, AreAllFrames}
-use Rattle.engine_core.proofs.ChildEffects.{seen_steps}
+use Rattle.engine_core.proofs.SeenSteps.{seen_steps}
 use Rattle.engine_core.proofs.FrameByFrame.{as_many, frame_counts}
 
 -- ---- frames in front

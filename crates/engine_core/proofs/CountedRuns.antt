@@ -1,20 +1,22 @@
 -- A file of lemmas: what it proves need not be read to trust a clause.
 --
 -- The loop over an engine: it is of one plan, and what was run so far is counted.
-use Rattle.std.proofs.Common.{◌≡◌, ℕ, ◌+◌, ◌*◌, ◌<◌, ◌≤◌, List, [], ◌∷◌, map, length, refl, ap, ◌∙◌, subst, arith}
+use Rattle.std.proofs.Common.{◌≡◌, ℕ, ◌+◌, ◌*◌, ◌<◌, ◌≤◌, List, [], length, IsTrue, sym, ◌∙◌, subst}
 use Rattle.aerie_base.specs.declared.models.model.Parts.{Parts}
 use Rattle.aerie_base.specs.declared.plans.Plan.{Plan}
+use Rattle.aerie_base.specs.models.ValidModel.{valid_model}
 use Rattle.run_data.specs.declared.frames.Record.{Record}
-use Rattle.run_data.specs.declared.jobs.Job.{Job}
 use Rattle.run_data.specs.declared.runs.Run.{Run}
 use Rattle.run_data.specs.Fresh.{start, IsFresh}
 use Rattle.run_data.specs.Records.{unmatched}
 use Rattle.run_data.specs.Transitions.{more, finished}
+use Rattle.run_data.specs.laws.PrunedStates.{pruned, PrunedStep}
+use Rattle.run_data.specs.laws.ReachedStates.{ReachedIsOfModel}
 use Rattle.run_data.specs.laws.Weights.{WeightFalls}
 use Rattle.run_data.specs.RunFrames.{PaysForRun, LooksForRun}
 use Rattle.engine_core.specs.EngineStates.{EngineState, IsEngineState, LeadsTo, after_transition, jobs_in, PaysForBatch, LooksForBatch}
-use Rattle.engine_core.proofs.RunCounts.{SoFar, step_pays, step_looks, step_smaller, pays_first, looks_first, at_run}
-use Rattle.engine_core.proofs.Transitions.{point_weight}
+use Rattle.engine_core.proofs.RunCounts.{SoFar, step_pays, step_looks, pays_first, looks_first, at_run}
+use Rattle.engine_core.specs.EnginePoints.{point_weight, step_smaller}
 
 pub record IsCounted (model : Parts) (plan : Plan) (bound : ℕ) (records : List Record) (steps looks : ℕ) (engine : EngineState) (steps_now looks_now : ℕ) : Type 0 where
   pub stands : IsEngineState engine
@@ -25,7 +27,7 @@ pub record IsCounted (model : Parts) (plan : Plan) (bound : ℕ) (records : List
   pub few_looks : SoFar (λ frames. looks_now ≤ looks + 2 * length frames) engine.point
 
 pub counted_first : (model : Parts) (plan : Plan) (bound : ℕ) (records : List Record) (steps looks : ℕ) (engine : EngineState) → IsEngineState engine → engine.model ≡ model → engine.plan ≡ plan →
-    engine.bound ≡ bound → LeadsTo model plan bound (more (start model plan)) engine.point → IsCounted model plan bound records steps looks engine steps looks
+    engine.bound ≡ bound → LeadsTo model plan bound (more (pruned (start model plan))) engine.point → IsCounted model plan bound records steps looks engine steps looks
 counted_first model plan bound records steps looks engine stands same_model same_plan same_bound leads = record {
   stands = stands;
   same_model = same_model;
@@ -51,8 +53,10 @@ module _ (model : Parts) (plan : Plan) (bound : ℕ) (records : List Record) (st
       few_looks = step_looks engine later some leads looks looks_now looks_later few counted.few_looks;
     }
 
-    pub counted_less : WeightFalls → point_weight later.plan later.bound later.point < point_weight engine.plan engine.bound engine.point
-    counted_less falls = step_smaller engine later some leads falls counted.stands.reached same_plan same_bound
+    pub counted_less : PrunedStep → ReachedIsOfModel → WeightFalls → IsTrue (valid_model model) →
+        point_weight later.plan later.bound later.point < point_weight engine.plan engine.bound engine.point
+    counted_less step of_model falls valid =
+        step_smaller engine later some leads step of_model falls (subst (λ (m : Parts). IsTrue (valid_model m)) (sym counted.same_model) valid) counted.stands.plan counted.stands.reached same_plan same_bound
 
   module _ (run : Run) (is : engine.point ≡ finished run) where
     pub run_pays : PaysForRun run records steps steps_now
@@ -66,11 +70,3 @@ module _ (model : Parts) (plan : Plan) (bound : ℕ) (records : List Record) (st
         subst (λ (m : Parts). IsFresh m plan bound run) counted.same_model
         (subst (λ (p : Plan). IsFresh engine.model p bound run) counted.same_plan
         (subst (λ n. IsFresh engine.model engine.plan n run) counted.same_bound fresh))
-
--- no job is there where the list of jobs is empty
-pub no_job : (jobs : List (ℕ × Job)) (listed : List Job) → listed ≡ map (λ job. job.1) jobs → length listed ≡ 0 → jobs ≡ []
-no_job [] listed is none = refl
-no_job (job ∷ rest) listed is none = (let long = ap (λ (l : List Job). length l) is in absurd (omega (arith, long, none)))
-
-pub some_job : (jobs : List (ℕ × Job)) (listed : List Job) → listed ≡ map (λ job. job.1) jobs → (length listed ≡ 0 → ⊥) → jobs ≡ [] → ⊥
-some_job jobs listed is some none = some (ap (λ (l : List Job). length l) is ∙ ap (λ (l : List (ℕ × Job)). length (map (λ job. job.1) l)) none)

@@ -1,61 +1,66 @@
 -- A file of lemmas: what it proves need not be read to trust a clause.
 --
 -- Where a simulation stands after a batch, by how that ended.
-use Rattle.std.proofs.Common.{◌≡◌, ℕ, List, [], ◌∷◌, ◌++◌, sym, ap, ◌∙◌, subst}
+use Rattle.std.proofs.Common.{◌≡◌, ℕ, ◌+◌, List, [], ◌∷◌, ◌++◌, None, refl, sym, ap, ◌∙◌, subst}
 use Rattle.aerie_base.specs.declared.faults.Fault.{Fault}
-use Rattle.aerie_base.specs.declared.models.model.Parts.{Parts}
-use Rattle.effect_cells.specs.declared.effects.CellState.{CellState}
 use Rattle.run_data.specs.TaskFrames.{Frame}
 use Rattle.run_data.specs.declared.runs.Outcome.TheVariants.{Failed as Failed_, StepLimit}
-use Rattle.run_data.specs.declared.runs.Run.{Run}
 use Rattle.run_data.specs.declared.runs.Who.{Who}
+use Rattle.run_data.specs.Batches.{cost_of}
 use Rattle.run_data.specs.Endings.{after_batch}
-use Rattle.run_data.specs.Fresh.{after_outcome}
-use Rattle.run_data.specs.Transitions.{more, finished}
-use Rattle.run_data.specs.laws.NumberedTasks.{sorted_tasks}
-use Rattle.engine_core.specs.BatchEnds.{batch_as, SpendsWith}
-use Rattle.engine_core.specs.Passing.{run_with}
-use Rattle.engine_core.specs.TasksByNumber.{AreKept, AgreeBut}
-use Rattle.engine_core.specs.Stages.{state_of, TouchesAll}
+use Rattle.run_data.specs.Transitions.{more}
+use Rattle.run_data.specs.laws.LiveParts.{live}
+use Rattle.live_tasks.specs.InStep.{table_in, IsInStep}
+use Rattle.live_tasks.specs.Waking.{KeepsWakesBut}
+use Rattle.live_tasks.specs.declared.tasks.LiveTasks.{LiveTasks}
+use Rattle.engine_core.specs.BatchEnds.{SpendsWith}
+use Rattle.engine_core.specs.Simulations.{ending_with, point_by, AreTasksBefore, IsAfterEnd}
 use Rattle.engine_core.specs.declared.batch_ends.BatchEnd.{BatchEnd}
 use Rattle.engine_core.specs.declared.batch_ends.BatchEnd.TheVariants.{Limit, Failed, Committed}
 use Rattle.engine_core.specs.declared.history.History.{History}
 use Rattle.engine_core.specs.declared.present.Present.{Present}
-use Rattle.engine_core.specs.declared.simulation.Request.{Request}
+use Rattle.engine_core.specs.declared.simulation.Simulation.{Simulation}
 
-module _ (model : Parts) (request : Request) (history : History) (present : Present) (end : BatchEnd) where
-  pub limit_point : end ≡ Limit → (run : Run) → run ≡ run_with request history present.time (StepLimit present.time) →
-      finished run ≡ after_outcome model request.plan request.bound (state_of history present) (batch_as end present.cells)
-  limit_point is run same =
-      ap finished same ∙ ap (λ (e : BatchEnd). after_outcome model request.plan request.bound (state_of history present) (batch_as e present.cells)) (sym is)
+pub after_limit : (before after : Simulation) (end : BatchEnd) → end ≡ Limit → after ≡ ending_with before (StepLimit before.present.time) → IsAfterEnd before end after
+after_limit before after end is ended =
+    subst (λ (e : BatchEnd). IsAfterEnd before e after) (sym is)
+    (subst (IsAfterEnd before Limit) (sym ended) (λ model cells kept touches. record { request = refl; point = refl; tasks = tt }))
 
-  pub failed_point : (who : Who) (fault : Fault) → end ≡ Failed who fault → (run : Run) → run ≡ run_with request history present.time (Failed_ present.time who fault) →
-      finished run ≡ after_outcome model request.plan request.bound (state_of history present) (batch_as end present.cells)
-  failed_point who fault is run same =
-      ap finished same ∙ ap (λ (e : BatchEnd). after_outcome model request.plan request.bound (state_of history present) (batch_as e present.cells)) (sym is)
+pub after_failed : (before after : Simulation) (end : BatchEnd) (who : Who) (fault : Fault) → end ≡ Failed who fault → after ≡ ending_with before (Failed_ before.present.time who fault) →
+    IsAfterEnd before end after
+after_failed before after end who fault is ended =
+    subst (λ (e : BatchEnd). IsAfterEnd before e after) (sym is)
+    (subst (IsAfterEnd before (Failed who fault)) (sym ended) (λ model cells kept touches. record { request = refl; point = refl; tasks = tt }))
 
-  pub committed_point : (frames : List Frame) (touched : List ℕ) (spent : ℕ) → end ≡ Committed frames touched spent → SpendsWith present.spent end →
-      (after : History) (later : Present) → later.time ≡ present.time → later.spent ≡ spent → later.cells ≡ present.cells →
-      sorted_tasks later.tasks.tasks ≡ after_batch present.time frames (sorted_tasks present.tasks.tasks) →
-      after.instants ≡ history.instants → after.batches ≡ history.batches ++ frames ∷ [] → after.touched ≡ history.touched ++ touched →
-      more (state_of after later) ≡ after_outcome model request.plan request.bound (state_of history present) (batch_as end present.cells)
-  committed_point frames touched spent is spends after later same_time same_spent same_cells table instants batches touches =
-      (λ i. more (record {
-        time = same_time i;
-        cells = same_cells i;
-        spent = (same_spent ∙ subst (SpendsWith present.spent) is spends) i;
-        table = table i;
-        instants = instants i;
-        batches = batches i;
-        touched = touches i;
-      }))
-      ∙ ap (λ (e : BatchEnd). after_outcome model request.plan request.bound (state_of history present) (batch_as e present.cells)) (sym is)
+module _ (before : Simulation) (end : BatchEnd) (frames : List Frame) (touched : List ℕ) (spent : ℕ) (is : end ≡ Committed frames touched spent) (goes_on : before.ending ≡ None)
+    (spends : SpendsWith before.present.spent end) (tasks : LiveTasks) (history : History) (in_step : IsInStep tasks)
+    (table : table_in tasks ≡ live (after_batch before.present.time frames (table_in before.present.tasks))) (keeps : KeepsWakesBut touched before.present.tasks tasks)
+    (puts : history ≡ record before.history { batches = before.history.batches ++ frames ∷ []; touched = before.history.touched ++ touched }) where
+  abbrev pub next_present : Present
+  next_present = record before.present { spent = spent; tasks = tasks }
 
-pub committed_kept : (last : ℕ) (present : Present) (end : BatchEnd) (frames : List Frame) (touched read : List ℕ) (spent : ℕ) → end ≡ Committed frames touched spent → read ≡ touched → (later : Present) →
-    later.time ≡ present.time → later.cells ≡ present.cells →
-    ((finish : ℕ) (before : List CellState) → AreKept present.time finish before present.tasks → AgreeBut read before present.cells → AreKept present.time finish present.cells later.tasks) →
-    (before : List CellState) → AreKept present.time last before present.tasks → TouchesAll end before present.cells → AreKept later.time last later.cells later.tasks
-committed_kept last present end frames touched read spent is same later same_time same_cells keeps before kept touches =
-    subst (λ t. AreKept t last later.cells later.tasks) (sym same_time)
-    (subst (λ (cs : List CellState). AreKept present.time last cs later.tasks) (sym same_cells)
-    (keeps last before kept (subst (λ (l : List ℕ). AgreeBut l before present.cells) (sym same) (subst (λ (e : BatchEnd). TouchesAll e before present.cells) is touches))))
+  spent_is : spent ≡ before.present.spent + cost_of frames
+  spent_is = subst (SpendsWith before.present.spent) is spends
+
+  after_committed : IsAfterEnd before (Committed frames touched spent) (record before { history = history; present = next_present })
+  after_committed model cells kept touches = record {
+    request = refl;
+    point =
+        ap (point_by before.request history next_present) goes_on
+        ∙ (λ i. more (record {
+          time = before.present.time;
+          cells = before.present.cells;
+          spent = spent_is i;
+          table = table i;
+          instants = (puts i).instants;
+          batches = (puts i).batches;
+          touched = (puts i).touched;
+        }));
+    tasks =
+        subst (AreTasksBefore before.request.plan.duration next_present) (sym goes_on)
+        (record { in_step = in_step; kept = keeps before.present.time before.request.plan.duration cells before.present.cells kept touches });
+  }
+
+  pub after_commit : (after : Simulation) → after ≡ record before { history = history; present = next_present } → IsAfterEnd before end after
+  after_commit after same =
+      subst (λ (e : BatchEnd). IsAfterEnd before e after) (sym is) (subst (IsAfterEnd before (Committed frames touched spent)) (sym same) after_committed)

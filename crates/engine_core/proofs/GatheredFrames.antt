@@ -23,9 +23,10 @@ use Rattle.effect_cells.specs.Cells.{emitted}
 use Rattle.aerie_base.specs.declared.models.model.Parts.{Parts}
 use Rattle.run_data.specs.laws.Generations.{child_jobs}
 use Rattle.engine_core.specs.BatchDues.{fresh}
-use Rattle.engine_core.specs.declared.ready_jobs.Root.{Root}
+use Rattle.live_tasks.specs.declared.ready_jobs.Root.{Root}
 use Rattle.engine_core.proofs.ChildViews.{here}
-use Rattle.engine_core.specs.BatchTrees.{part_by, children_by, children_among, root_of, rebuilt_roots, tree_with, AreGathered, MayGather}
+use Rattle.live_tasks.specs.ReadyJobs.{root_of}
+use Rattle.engine_core.specs.BatchTrees.{part_by, children_by, children_among, rebuilt_roots, tree_with, AreGathered, MayGather}
 
 -- ---- magnitudes and kinds of parts
 

@@ -12,16 +12,23 @@ use Rattle.effect_cells.specs.declared.effects.CellState.{CellState}
 use Rattle.effect_cells.specs.Cells.{passed, first_out}
 use Rattle.effect_cells.specs.WakeTimes.{holds_on}
 use Rattle.run_data.specs.declared.jobs.Job.{Job}
+use Rattle.run_data.specs.declared.runs.Run.{Run}
 use Rattle.run_data.specs.Endings.{is_open}
-use Rattle.run_data.specs.Fresh.{SimulationState, next_state, next_by, woken_or_moved, moved, to_time, to_end, below, least_due, IsReached}
+use Rattle.run_data.specs.Fresh.{SimulationState, next_state, next_by, woken_or_moved, moved, to_time, to_end, below, least_due}
 use Rattle.run_data.specs.Tasks.{TaskPhase, anchored, ready, delayed, waiting, calling, over, Task, Table, on_each, woken, woken_phase, rested, rested_phase, ready_jobs, job_if_ready}
-use Rattle.run_data.specs.Transitions.{more}
-use Rattle.run_data.specs.laws.NextTimes.{least_delay, least_wake, DueSplits, LeastDelayByNumber, LeastWakeByNumber}
-use Rattle.run_data.specs.laws.NumberedTasks.{sorted_tasks, Distinct}
+use Rattle.run_data.specs.TableLaws.{order_each}
+use Rattle.run_data.specs.Transitions.{Next, more}
+use Rattle.run_data.specs.laws.NextTimes.{least_delay, least_wake, DueSplits}
+use Rattle.run_data.specs.laws.LiveTables.{live_order}
+use Rattle.run_data.specs.laws.OrderedTables.{IsOrderedTable}
+use Rattle.run_data.specs.laws.PrunedStates.{pruned_point, PrunedStep}
 use Rattle.run_data.specs.laws.ReachedStates.{ReachedIsOfModel}
-use Rattle.run_data.specs.laws.Weights.{one_if, opens, idle, WeightFalls}
+use Rattle.run_data.specs.laws.Weights.{one_if, opens, idle, weight, WeightFalls}
+use Rattle.live_tasks.specs.LeastTimes.{IsUpToTime}
+use Rattle.engine_core.specs.EngineStates.{IsReachedPruned}
 use Rattle.engine_core.specs.Passing.{GoesOnFrom}
-use Rattle.engine_core.specs.Times.{IsUpToTime}
+use Rattle.engine_core.specs.PrunedPoints.{HasWhole, has_whole, before_end, opens_live}
+use Rattle.engine_core.specs.EnginePoints.{point_weight, transition_less}
 
 -- ---- waking
 
@@ -82,28 +89,34 @@ opens_rested time (entry ∷ rest) = by entry.1.phase (opens_rested time rest)
     by (calling child into state) further = ap (λ n. 1 + n) further
     by (over result) further = ap (λ n. 0 + n) further
 
-module _ (falls : WeightFalls) (of_model : ReachedIsOfModel) (model : Parts) (plan : Plan) (bound : ℕ) (at : SimulationState) (valid : IsTrue (valid_model model)) (good : IsPlanOf model plan)
-    (reached : IsReached model plan bound (more at)) (none : ready_jobs at.cells at.table ≡ []) where
-  at_time : (time : ℕ) (cells : List CellState) (out : Option ℕ) → next_state model plan bound at ≡ to_time model plan bound at time cells out → GoesOnFrom at.time (to_time model plan bound at time cells out)
+module _ (step : PrunedStep) (falls : WeightFalls) (of_model : ReachedIsOfModel) (model : Parts) (plan : Plan) (bound : ℕ) (at : SimulationState) (valid : IsTrue (valid_model model))
+    (good : IsPlanOf model plan) (comes : IsReachedPruned model plan bound (more at)) (none : ready_jobs at.cells at.table ≡ []) where
+  from : HasWhole model plan bound at
+  from = has_whole model plan bound at comes
+
+  order : IsOrderedTable at.table
+  order = subst (λ (s : SimulationState). IsOrderedTable s.table) from.is (live_order from.whole.table (of_model model plan bound from.whole valid good from.reached).table.order)
+
+  at_time : (time : ℕ) (cells : List CellState) (out : Option ℕ) → next_state model plan bound at ≡ to_time model plan bound at time cells out →
+      GoesOnFrom at.time (pruned_point (to_time model plan bound at time cells out))
   at_time time cells (Some cell) is = tt
   at_time time cells None is =
-      let less = falls model plan bound at _ reached is in
-      let state = of_model model plan bound at valid good reached in
-      let before = state.time in
-      let same = opens_rested time at.table in
+      let less = subst (λ (p : Next SimulationState Run). point_weight plan bound (pruned_point p) < weight plan bound at + 1) is (transition_less step model plan bound valid good of_model falls at comes) in
+      let before = before_end of_model model plan bound valid good at from in
+      let same = opens_live (on_each (rested time) at.table) (order_each (rested time) at.table order) ∙ opens_rested time at.table in
       let one : idle (ready_jobs at.cells at.table) ≡ 1 = ap idle none in
       omega (arith, less, before, same, one)
 
-  by_due : (due : Option ℕ) → next_state model plan bound at ≡ moved model plan bound at due → GoesOnFrom at.time (moved model plan bound at due)
+  by_due : (due : Option ℕ) → next_state model plan bound at ≡ moved model plan bound at due → GoesOnFrom at.time (pruned_point (moved model plan bound at due))
   by_due (Some time) is = at_time time (passed at.cells (time - at.time)) (first_out (passed at.cells (time - at.time))) is
   by_due None is = by (first_out (passed at.cells (plan.duration - at.time)))
     where
-      by : (out : Option ℕ) → GoesOnFrom at.time (to_end model plan bound at out)
+      by : (out : Option ℕ) → GoesOnFrom at.time (pruned_point (to_end model plan bound at out))
       by (Some cell) = tt
       by None = tt
 
   pub moves_on : ready_jobs at.cells (on_each (woken at.cells) at.table) ≡ [] →
-      GoesOnFrom at.time (moved model plan bound at (below plan.duration (least_due at.time plan.duration at.cells at.table)))
+      GoesOnFrom at.time (pruned_point (moved model plan bound at (below plan.duration (least_due at.time plan.duration at.cells at.table))))
   moves_on still = by_due (below plan.duration (least_due at.time plan.duration at.cells at.table)) (none_woken model plan bound at none still)
 
 -- ---- the next time
@@ -123,18 +136,14 @@ sooner time (Some a) None e = ((let is : a ≡ time = cc in omega (arith, is)), 
 sooner time (Some a) (Some b) e = (let is : min a b ≡ time = cc in (omega (arith, is), omega (arith, is)))
 
 -- no delay ends and no task wakes before the next time, which is before the horizon
-pub at_next_time : DueSplits → LeastDelayByNumber → LeastWakeByNumber → (now horizon time : ℕ) (cells : List CellState) (tasks : Table) → Distinct tasks →
-    Some time ≡ below horizon (least_due now horizon cells (sorted_tasks tasks)) → IsUpToTime time (least_delay tasks) × IsUpToTime time (least_wake now horizon cells tasks) × (time < horizon)
-at_next_time splits delays waits now horizon time cells tasks distinct is =
-    let due = due_is time horizon (least_due now horizon cells (sorted_tasks tasks)) is in
-    let whole : earlier (least_delay tasks) (least_wake now horizon cells tasks) ≡ Some time =
-    (λ i. earlier (sym (delays tasks distinct) i) (sym (waits now horizon cells tasks distinct) i)) ∙ sym (splits now horizon cells (sorted_tasks tasks)) ∙ due.0
-    in
-    let both = sooner time (least_delay tasks) (least_wake now horizon cells tasks) whole in
+pub at_next_time : DueSplits → (now horizon time : ℕ) (cells : List CellState) (table : Table) → Some time ≡ below horizon (least_due now horizon cells table) →
+    IsUpToTime time (least_delay table) × IsUpToTime time (least_wake now horizon cells table) × (time < horizon)
+at_next_time splits now horizon time cells table is =
+    let due = due_is time horizon (least_due now horizon cells table) is in
+    let both = sooner time (least_delay table) (least_wake now horizon cells table) (sym (splits now horizon cells table) ∙ due.0) in
     (both.0, both.1, due.1)
 
 -- the least of both is the least due time
-pub least_is : DueSplits → LeastDelayByNumber → LeastWakeByNumber → (now horizon : ℕ) (cells : List CellState) (tasks : Table) → Distinct tasks → (delay wake time : Option ℕ) →
-    delay ≡ least_delay tasks → wake ≡ least_wake now horizon cells tasks → time ≡ earlier delay wake → time ≡ least_due now horizon cells (sorted_tasks tasks)
-least_is splits delays waits now horizon cells tasks distinct delay wake time first second is =
-    is ∙ (λ i. earlier ((first ∙ sym (delays tasks distinct)) i) ((second ∙ sym (waits now horizon cells tasks distinct)) i)) ∙ sym (splits now horizon cells (sorted_tasks tasks))
+pub least_is : DueSplits → (now horizon : ℕ) (cells : List CellState) (table : Table) (delay wake time : Option ℕ) → delay ≡ least_delay table → wake ≡ least_wake now horizon cells table →
+    time ≡ earlier delay wake → time ≡ least_due now horizon cells table
+least_is splits now horizon cells table delay wake time first second is = is ∙ (λ i. earlier (first i) (second i)) ∙ sym (splits now horizon cells table)

@@ -1,7 +1,7 @@
 -- A file of lemmas: what it proves need not be read to trust a clause.
 --
 -- What the counts come to over a run.
-use Rattle.std.proofs.Common.{◌≡◌, ℕ, ◌+◌, ◌-◌, ◌*◌, ◌<◌, ◌≤◌, List, [], ◌∷◌, ◌++◌, length, Option, Some, None, refl, sym, ap, ◌∙◌, subst, append_assoc, length-append, arith}
+use Rattle.std.proofs.Common.{◌≡◌, ℕ, ◌+◌, ◌-◌, ◌*◌, ◌≤◌, List, [], ◌∷◌, ◌++◌, length, Option, Some, None, refl, sym, ap, ◌∙◌, subst, append_assoc, length-append, arith}
 use Rattle.std.proofs.lemmas.List.{append-nil}
 use Rattle.aerie_base.specs.declared.models.model.Parts.{Parts}
 use Rattle.aerie_base.specs.declared.plans.Plan.{Plan}
@@ -14,18 +14,15 @@ use Rattle.run_data.specs.declared.runs.Instant.{Instant}
 use Rattle.run_data.specs.declared.runs.Outcome.TheVariants.{Completed}
 use Rattle.run_data.specs.declared.runs.Run.{Run}
 use Rattle.run_data.specs.Batches.{Batch, limit, failed, committed, batch}
-use Rattle.run_data.specs.Fresh.{SimulationState, start, next_state, next_by, woken_or_moved, moved, to_time, to_end, after_outcome, instant_at, settled, below, least_due, IsReached}
+use Rattle.run_data.specs.Fresh.{SimulationState, start, next_state, next_by, woken_or_moved, moved, to_time, to_end, after_outcome, instant_at, settled, below, least_due}
 use Rattle.run_data.specs.Records.{unmatched}
 use Rattle.run_data.specs.Tasks.{on_each, woken, ready_jobs}
-use Rattle.run_data.specs.Transitions.{Next, more, finished, onward}
-use Rattle.run_data.specs.Counts.{unmatched_append, rose_not}
-use Rattle.run_data.specs.Waves.{last_count}
-use Rattle.run_data.specs.laws.Weights.{weight, WeightFalls}
-use Rattle.engine_core.specs.BatchGenerations.{Ran}
+use Rattle.run_data.specs.Transitions.{Next, more, finished}
+use Rattle.run_data.specs.Counts.{unmatched_append}
+use Rattle.run_data.specs.laws.PrunedStates.{pruned, pruned_point}
 use Rattle.run_data.specs.RunFrames.{frames_in_batches, frames_in_instants, frames_in_run}
 use Rattle.engine_core.specs.EngineStates.{EngineState, LeadsTo, there, on, after_transition, jobs_in, OfBatch, PaysForBatch, LooksForBatch}
-use Rattle.engine_core.proofs.ReadyBatches.{next_is_batch}
-use Rattle.engine_core.proofs.Transitions.{point_weight}
+use Rattle.engine_core.specs.ReadyBatches.{next_is_batch}
 
 -- ---- frames
 
@@ -74,9 +71,13 @@ module _ (P : List Frame → Type 0) (model : Parts) (plan : Plan) (bound : ℕ)
       by [] = by_move at (below plan.duration (least_due at.time plan.duration at.cells at.table)) holds
       by (job ∷ rest) = holds
 
+  pub pruned_frames : (point : Next SimulationState Run) → SoFar P point → SoFar P (pruned_point point)
+  pruned_frames (more at) holds = holds
+  pruned_frames (finished run) holds = holds
+
   pub led : (point later : Next SimulationState Run) → LeadsTo model plan bound point later → SoFar P point → SoFar P later
   led point later (there job) holds = holds
-  led point later (on {at} none leads) holds = led (next_state model plan bound at) later leads (idle_on at none holds)
+  led point later (on {at} none leads) holds = led (pruned_point (next_state model plan bound at)) later leads (pruned_frames (next_state model plan bound at) (idle_on at none holds))
 
   -- ---- a batch
 
@@ -105,26 +106,6 @@ pub looks_more : (frames others : List Frame) (before then_ after : ℕ) → the
     after ≤ before + 2 * length (frames ++ others)
 looks_more frames others before then_ after first second = (let whole = length-append frames others in omega (arith, first, second, whole))
 
--- ---- the weight
-
-module _ (model : Parts) (plan : Plan) (bound : ℕ) (falls : WeightFalls) where
-  transition_less : (at : SimulationState) → IsReached model plan bound (more at) → point_weight plan bound (next_state model plan bound at) < point_weight plan bound (more at)
-  transition_less at reached = by (next_state model plan bound at) refl
-    where
-      by : (point : Next SimulationState Run) → next_state model plan bound at ≡ point → point_weight plan bound point < weight plan bound at + 1
-      by (more later) is = omega (arith, falls model plan bound at later reached is)
-      by (finished run) is = omega arith
-
-  led_less : (point later : Next SimulationState Run) → IsReached model plan bound point → LeadsTo model plan bound point later → point_weight plan bound later ≤ point_weight plan bound point
-  led_less point later reached (there job) = omega arith
-  led_less point later reached (on {at} none leads) =
-      omega (arith, transition_less at reached, led_less (next_state model plan bound at) later (onward reached) leads)
-
-  -- a step with a batch leads to a lower weight
-  pub step_less : (at : SimulationState) (later : Next SimulationState Run) → IsReached model plan bound (more at) → LeadsTo model plan bound (next_state model plan bound at) later →
-      point_weight plan bound later < point_weight plan bound (more at)
-  step_less at later reached leads = omega (arith, transition_less at reached, led_less (next_state model plan bound at) later (onward reached) leads)
-
 -- ---- a step of an engine
 
 module _ (engine later : EngineState) (some : jobs_in engine.point ≡ [] → ⊥)
@@ -136,8 +117,9 @@ module _ (engine later : EngineState) (some : jobs_in engine.point ≡ [] → �
       by : (point : Next SimulationState Run) → engine.point ≡ point → (jobs_in point ≡ [] → ⊥) → SoFar P point →
           LeadsTo engine.model engine.plan engine.bound (after_transition engine.model engine.plan engine.bound point) later.point → SoFar Q later.point
       by (more at) is jobs so_far goes =
-          led Q engine.model engine.plan engine.bound (next_state engine.model engine.plan engine.bound at) later.point goes
-          (batched Q engine.model engine.plan engine.bound at jobs (λ cells touched frames whole. more_ at cells touched frames is whole (frames_so_far at) so_far))
+          led Q engine.model engine.plan engine.bound (pruned_point (next_state engine.model engine.plan engine.bound at)) later.point goes
+          (pruned_frames Q engine.model engine.plan engine.bound (next_state engine.model engine.plan engine.bound at)
+          (batched Q engine.model engine.plan engine.bound at jobs (λ cells touched frames whole. more_ at cells touched frames is whole (frames_so_far at) so_far)))
       by (finished run) is jobs so_far goes = absurd (jobs refl)
 
   pub step_pays : (records : List Record) (before then_ after : ℕ) → PaysForBatch engine records then_ after →
@@ -152,39 +134,17 @@ module _ (engine later : EngineState) (some : jobs_in engine.point ≡ [] → �
       step_frames (λ frames. then_ ≤ before + 2 * length frames) (λ frames. after ≤ before + 2 * length frames)
       (λ at cells touched frames is whole earlier first. looks_more earlier frames before then_ after first (looks at cells touched frames is whole))
 
-  pub step_smaller : WeightFalls → IsReached engine.model engine.plan engine.bound engine.point → later.plan ≡ engine.plan → later.bound ≡ engine.bound →
-      point_weight later.plan later.bound later.point < point_weight engine.plan engine.bound engine.point
-  step_smaller falls reached same_plan same_bound =
-      subst (λ n. point_weight later.plan n later.point < point_weight engine.plan engine.bound engine.point) (sym same_bound)
-      (subst (λ (p : Plan). point_weight p engine.bound later.point < point_weight engine.plan engine.bound engine.point) (sym same_plan)
-      (by engine.point some reached leads))
-    where
-      by : (point : Next SimulationState Run) → (jobs_in point ≡ [] → ⊥) → IsReached engine.model engine.plan engine.bound point →
-          LeadsTo engine.model engine.plan engine.bound (after_transition engine.model engine.plan engine.bound point) later.point →
-          point_weight engine.plan engine.bound later.point < point_weight engine.plan engine.bound point
-      by (more at) jobs comes goes = step_less engine.model engine.plan engine.bound falls at later.point comes goes
-      by (finished run) jobs comes goes = absurd (jobs refl)
-
 -- ---- at the start and where nothing is run
 
-pub ran_not : (was : Parts → Type 0) (records : List Record) (address opened steps looks : ℕ) → opened ≤ last_count → Ran was was records records address address opened steps looks opened steps looks
-ran_not was records address opened steps looks small = record {
-  models = λ of. (λ h. h, λ h. h);
-  records = refl;
-  same_address = refl;
-  rose = rose_not opened steps small;
-  looked = omega arith;
-}
-
-pub pays_first : (model : Parts) (plan : Plan) (bound steps : ℕ) (records : List Record) (point : Next SimulationState Run) → LeadsTo model plan bound (more (start model plan)) point →
+pub pays_first : (model : Parts) (plan : Plan) (bound steps : ℕ) (records : List Record) (point : Next SimulationState Run) → LeadsTo model plan bound (more (pruned (start model plan))) point →
     SoFar (λ frames. steps ≤ steps + unmatched frames records) point
 pays_first model plan bound steps records point leads =
-    led (λ frames. steps ≤ steps + unmatched frames records) model plan bound (more (start model plan)) point leads (let none : steps ≤ steps + 0 = omega arith in none)
+    led (λ frames. steps ≤ steps + unmatched frames records) model plan bound (more (pruned (start model plan))) point leads (let none : steps ≤ steps + 0 = omega arith in none)
 
-pub looks_first : (model : Parts) (plan : Plan) (bound looks : ℕ) (point : Next SimulationState Run) → LeadsTo model plan bound (more (start model plan)) point →
+pub looks_first : (model : Parts) (plan : Plan) (bound looks : ℕ) (point : Next SimulationState Run) → LeadsTo model plan bound (more (pruned (start model plan))) point →
     SoFar (λ frames. looks ≤ looks + 2 * length frames) point
 looks_first model plan bound looks point leads =
-    led (λ frames. looks ≤ looks + 2 * length frames) model plan bound (more (start model plan)) point leads (let none : looks ≤ looks + 2 * 0 = omega arith in none)
+    led (λ frames. looks ≤ looks + 2 * length frames) model plan bound (more (pruned (start model plan))) point leads (let none : looks ≤ looks + 2 * 0 = omega arith in none)
 
 -- ---- the run
 

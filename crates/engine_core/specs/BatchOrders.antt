@@ -1,23 +1,11 @@
 -- Frames in order of path, and the first of them that has faulted.
-use Rattle.std.specs.Prelude.{◌≡◌, ℕ, Bool, false, List, [], ◌∷◌, Option, Some, None}
-use Rattle.std.specs.Ordering.{is_lt}
+use Rattle.std.specs.Prelude.{◌≡◌, ℕ, List, [], ◌∷◌, Option, Some, None}
 use Rattle.aerie_base.specs.declared.faults.Fault.{Fault}
-use Rattle.aerie_base.specs.Paths.{path_cmp}
 use Rattle.aerie_base.specs.declared.models.model.Parts.{Parts}
 use Rattle.run_data.specs.TaskFrames.{Frame}
 use Rattle.run_data.specs.declared.jobs.Job.{Job}
 use Rattle.run_data.specs.Batches.{Blame, fault_in, cost_of, by_path}
 use Rattle.run_data.specs.Frames.{Made, made_by_all}
-use Rattle.run_data.specs.laws.Orders.{EachOf}
-
--- whether the path of a frame is before that of another
-abbrev pub is_before : Frame → Frame → Bool
-is_before frame other = is_lt (path_cmp frame.path other.path)
-
--- no frame is before one that it stands behind
-abbrev pub AreByPath : List Frame → Type 0
-AreByPath [] = Unit {0}
-AreByPath (frame ∷ rest) = EachOf (λ other. is_before other frame ≡ false) rest × AreByPath rest
 
 abbrev pub unless_faulted : List ℕ → Option Fault → Option Blame → Option Blame
 unless_faulted path None rest = rest

@@ -11,11 +11,10 @@ use Rattle.effect_cells.specs.Worth.{magnitude_of, worth_of}
 use Rattle.run_data.specs.TaskFrames.{Frame}
 use Rattle.run_data.specs.declared.frames.Item.{Item}
 use Rattle.run_data.specs.declared.frames.Item.TheVariants as item
-use Rattle.run_data.specs.declared.jobs.Job.{Job}
 use Rattle.run_data.specs.Frames.{room_of}
 use Rattle.run_data.specs.laws.Orders.{EachOf}
 use Rattle.run_data.specs.laws.Trees.{rebuilt}
-use Rattle.engine_core.specs.declared.ready_jobs.Root.{Root}
+use Rattle.live_tasks.specs.declared.ready_jobs.Root.{Root}
 
 -- the parts of a child of a path that has room for so many numbers
 abbrev pub parts_below : List Frame → ℕ → List ℕ → List Part
@@ -42,10 +41,6 @@ children_among [] = 0
 children_among (item ∷ rest) = children_by item + children_among rest
 
 -- ---- the ready tasks
-
--- the task of a job
-abbrev pub root_of : ℕ × Job → Root
-root_of job = record { path = job.1.path; made = job.0 }
 
 -- the parts of ready tasks, which are concurrent
 abbrev pub rebuilt_roots : List Frame → List Root → List Part

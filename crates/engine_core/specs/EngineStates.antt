@@ -1,4 +1,4 @@
--- Where an engine stands.
+-- Where an engine stands: at a point of a simulation that holds what is live alone.
 use Rattle.std.specs.Prelude.{◌≡◌, ℕ, ◌+◌, ◌*◌, ◌≤◌, List, [], length}
 use Rattle.aerie_base.specs.Ranges.{step_limit}
 use Rattle.aerie_base.specs.declared.models.model.Parts.{Parts}
@@ -8,14 +8,16 @@ use Rattle.effect_cells.specs.declared.effects.CellState.{CellState}
 use Rattle.run_data.specs.declared.jobs.Job.{Job}
 use Rattle.run_data.specs.TaskFrames.{Frame}
 use Rattle.run_data.specs.declared.frames.Record.{Record}
+use Rattle.run_data.specs.declared.runs.Instant.{Instant}
 use Rattle.run_data.specs.declared.runs.Run.{Run}
 use Rattle.run_data.specs.Batches.{batch, committed}
 use Rattle.run_data.specs.Fresh.{SimulationState, next_state, IsReached}
 use Rattle.run_data.specs.Records.{unmatched}
 use Rattle.run_data.specs.Tasks.{ready_jobs}
 use Rattle.run_data.specs.Transitions.{Next, more, finished}
+use Rattle.run_data.specs.laws.PrunedStates.{pruned_point}
 
--- a model, a plan, a bound, and a point of the simulation of the plan: a state or the run
+-- a model, a plan, a bound, and a point of the simulation of the plan without what has ended: a state or the run
 pub record EngineState : Type 0 where
   pub model : Parts
   pub plan : Plan
@@ -36,28 +38,44 @@ abbrev pub batches_in : Next SimulationState Run → List (List Frame)
 batches_in (more at) = at.batches
 batches_in (finished run) = []
 
+-- the instants that are settled at a point
+abbrev pub instants_in : Next SimulationState Run → List Instant
+instants_in (more at) = at.instants
+instants_in (finished run) = run.instants
+
+-- what the costs come to at a point
+abbrev pub spent_in : Next SimulationState Run → ℕ
+spent_in (more at) = at.spent
+spent_in (finished run) = 0
+
 -- some job is ready, or the run is there
 abbrev pub HasJob : Next SimulationState Run → Type 0
 HasJob (more at) = ready_jobs at.cells at.table ≡ [] → ⊥
 HasJob (finished run) = Unit {0}
 
+-- the simulation of the plan comes to a point that is this one once all that has ended is left out
+pub record IsReachedPruned (model : Parts) (plan : Plan) (bound : ℕ) (point : Next SimulationState Run) : Type 0 where
+  pub whole : Next SimulationState Run
+  pub reached : IsReached model plan bound whole
+  pub is : pruned_point whole ≡ point
+
 -- the simulation of the plan comes there, before a batch or at the run
 pub record IsEngineState (engine : EngineState) : Type 0 where
   pub plan : IsPlanOf engine.model engine.plan
   pub bound : engine.bound ≤ step_limit
-  pub reached : IsReached engine.model engine.plan engine.bound engine.point
+  pub reached : IsReachedPruned engine.model engine.plan engine.bound engine.point
   pub has_job : HasJob engine.point
 
--- a transition from a point
+-- a transition from a point, after which what has ended is left out
 abbrev pub after_transition : Parts → Plan → ℕ → Next SimulationState Run → Next SimulationState Run
-after_transition model plan bound (more at) = next_state model plan bound at
+after_transition model plan bound (more at) = pruned_point (next_state model plan bound at)
 after_transition model plan bound (finished run) = finished run
 
 -- from a point on, without a batch, to the next that has a job, or to the run
 pub data LeadsTo (model : Parts) (plan : Plan) (bound : ℕ) : Next SimulationState Run → Next SimulationState Run → Type 0 where
   there : {point : Next SimulationState Run} → HasJob point → LeadsTo model plan bound point point
-  on : {at : SimulationState} {later : Next SimulationState Run} → ready_jobs at.cells at.table ≡ [] → LeadsTo model plan bound (next_state model plan bound at) later →
-      LeadsTo model plan bound (more at) later
+  on : {at : SimulationState} {later : Next SimulationState Run} → ready_jobs at.cells at.table ≡ [] →
+      LeadsTo model plan bound (pruned_point (next_state model plan bound at)) later → LeadsTo model plan bound (more at) later
 
 -- the transition from one point leads to another
 abbrev pub IsNextOf : EngineState → EngineState → Type 0

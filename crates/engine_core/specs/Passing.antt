@@ -1,29 +1,18 @@
 -- Where an instant is settled and time passes.
-use Rattle.std.specs.Prelude.{◌≡◌, ℕ, ◌-◌, ◌≤◌, List, Option, Result, OnOk}
+use Rattle.std.specs.Prelude.{◌≡◌, ℕ, ◌-◌, ◌≤◌, List, length, Option, None, Result, OnOk}
 use Rattle.aerie_base.specs.declared.models.model.Parts.{Parts}
 use Rattle.aerie_base.specs.declared.plans.Plan.{Plan}
 use Rattle.effect_cells.specs.declared.cells.OutOfRange.{OutOfRange}
 use Rattle.effect_cells.specs.declared.effects.CellState.{CellState}
-use Rattle.effect_cells.specs.Cells.{passed, first_out, verdict}
-use Rattle.run_data.specs.declared.runs.Outcome.{Outcome}
+use Rattle.effect_cells.specs.Cells.{passed, first_out, verdict, AreInRange}
 use Rattle.run_data.specs.declared.runs.Run.{Run}
 use Rattle.run_data.specs.Fresh.{SimulationState, moved, to_time, to_end, below, least_due}
 use Rattle.run_data.specs.Transitions.{Next, more, finished}
-use Rattle.engine_core.specs.declared.history.History.{History}
-use Rattle.engine_core.specs.declared.simulation.Request.{Request}
-use Rattle.engine_core.specs.Stages.{state_of, StandsAt}
-use Rattle.engine_core.specs.declared.present.Present.{Present}
-use Rattle.engine_core.specs.declared.simulation.Stage.{Stage}
-
--- the run of what is simulated, which reached a time and ended so
-abbrev pub run_with : Request → History → ℕ → Outcome → Run
-run_with request history reach outcome = record {
-  plan = request.plan;
-  bound = request.bound;
-  instants = history.instants;
-  reach = reach;
-  outcome = outcome;
-}
+use Rattle.run_data.specs.laws.PrunedStates.{pruned_point}
+use Rattle.live_tasks.specs.InStep.{IsInStep}
+use Rattle.live_tasks.specs.Waking.{AreFound}
+use Rattle.engine_core.specs.Simulations.{state_of}
+use Rattle.engine_core.specs.declared.simulation.Simulation.{Simulation}
 
 -- the next time at which some task goes on by itself, if it is below the plan's end
 abbrev pub next_due : Plan → SimulationState → Option ℕ
@@ -52,18 +41,28 @@ abbrev pub GoesOnFrom : ℕ → Next SimulationState Run → Type 0
 GoesOnFrom time (more later) = time ≤ later.time
 GoesOnFrom time (finished run) = Unit {0}
 
--- ---- of what is simulated
+-- ---- of a simulation
 
--- where time passes to the next time of a simulation, to a time, and to the end
-abbrev pub point_of_next : Parts → Request → History → Present → Next SimulationState Run
-point_of_next model request history present = point_moved model request.plan request.bound (state_of history present)
+-- it goes on, its cells are those of the model and in range, and its wake times are found
+pub record IsOpen (model : Parts) (simulation : Simulation) : Type 0 where
+  pub open_ : simulation.ending ≡ None
+  pub count : length model.cells ≡ length simulation.present.cells
+  pub range : AreInRange simulation.present.cells
+  pub in_step : IsInStep simulation.present.tasks
+  pub found : AreFound simulation.present.time simulation.request.plan.duration simulation.present.cells simulation.present.tasks
 
-abbrev pub point_then : Parts → Request → History → Present → ℕ → Next SimulationState Run
-point_then model request history present time = point_at_time model request.plan request.bound (state_of history present) time
+abbrev pub next_due_of : Simulation → Option ℕ
+next_due_of simulation = next_due simulation.request.plan (state_of simulation.history simulation.present)
 
-abbrev pub point_last : Parts → Request → History → Present → Next SimulationState Run
-point_last model request history present = point_at_end model request.plan request.bound (state_of history present)
+-- where time passes to its next time, to a time, and to the end, what has ended being left out
+abbrev pub point_of_next : Parts → Simulation → Next SimulationState Run
+point_of_next model simulation =
+    pruned_point (point_moved model simulation.request.plan simulation.request.bound (state_of simulation.history simulation.present))
 
--- a transition of what is simulated stands there
-abbrev pub IsStageAt : Request → Next SimulationState Run → Stage → Type 0
-IsStageAt request point stage = StandsAt request.plan request.bound point stage
+abbrev pub point_then : Parts → Simulation → ℕ → Next SimulationState Run
+point_then model simulation time =
+    pruned_point (point_at_time model simulation.request.plan simulation.request.bound (state_of simulation.history simulation.present) time)
+
+abbrev pub point_last : Parts → Simulation → Next SimulationState Run
+point_last model simulation =
+    pruned_point (point_at_end model simulation.request.plan simulation.request.bound (state_of simulation.history simulation.present))

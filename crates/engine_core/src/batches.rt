@@ -11,7 +11,8 @@ ghost use Rattle.run_data.specs.laws.Orders.{EachOf};
 ghost use Rattle.run_data.specs.laws.Trees.{tree_by_frames};
 ghost use Rattle.engine_core.specs.BatchEnding.{committed_by, IsCommittedWith, HasFrames};
 ghost use Rattle.engine_core.specs.BatchEnds.{batch_as, batch_frames, AreReadyJobs, SpendsWith, IsFrugalEnd, HasFewLooks};
-ghost use Rattle.engine_core.specs.BatchOrders.{AreByPath, AreMade};
+ghost use Rattle.live_tasks.specs.FrameOrders.{AreByPath};
+ghost use Rattle.engine_core.specs.BatchOrders.{AreMade};
 ghost use Rattle.engine_core.specs.BatchTrees.{HaveFewItems, tree_with, rebuilt_roots};
 ghost use Rattle.engine_core.specs.EngineStates.{OfSameModels};
 
@@ -23,9 +24,9 @@ mod ordering;
 
 use self::gathering::gather_all;
 use crate::batch_ends::BatchEnd;
-use crate::ready_jobs::{ReadyJobs, Root};
 use aerie_base::{Fault, List, Model, OutOfMemory, Shared, Steps};
 use effect_cells::{Cells, effects_are_gathered};
+use live_tasks::ready_jobs::{ReadyJobs, Root};
 use run_data::laws::{
     order_does_not_matter, same_by_generations, steps_are_small, tree_is_rebuilt,
 };
@@ -47,7 +48,8 @@ fn commit_on(
     requires range { AreInRange cells.old }
     requires fits { IsTrue (fits_cells cells.old (tree_with (rebuilt_roots frames.items roots.now))) }
     requires worth { magnitude_of (tree_with (rebuilt_roots frames.items roots.now)) < sum_limit }
-    ensures end { IfOk result (λ end. batch_as end cells.new ≡ committed_by (tree_with (rebuilt_roots frames.items roots.now)) cells.old frames.items) }
+    ensures end { IfOk result (λ end. batch_as end cells.new
+        ≡ committed_by (tree_with (rebuilt_roots frames.items roots.now)) cells.old frames.items) }
     ensures with_ { IfOk result (λ end. IsCommittedWith frames.items spent end) }
 {
     effects_are_gathered();
@@ -82,7 +84,8 @@ fn commit(
     requires range { AreInRange cells.old }
     requires fits { IsTrue (fits_cells cells.old (tree_by_frames frames.items jobs)) }
     requires worth { magnitude_of (tree_by_frames frames.items jobs) < sum_limit }
-    ensures end { IfOk result (λ end. batch_as end cells.new ≡ committed_by (tree_by_frames frames.items jobs) cells.old frames.items) }
+    ensures end { IfOk result (λ end. batch_as end cells.new
+        ≡ committed_by (tree_by_frames frames.items jobs) cells.old frames.items) }
     ensures with_ { IfOk result (λ end. IsCommittedWith frames.items spent end) }
 {
     let roots = jobs.into_roots();
@@ -182,7 +185,7 @@ fn shared(alloc: Global, frames: &[Frame]) -> Result<Vec<Frame>, OutOfMemory>
     Ok(shared)
 }
 
-/// The batch of the ready jobs, whose frames the caller has, in order of path. They are shared.
+/// The batch of the ready jobs, whose frames the caller has, in any order. They are shared.
 pub(crate) fn take_batch(
     alloc: Global,
     model: &Model,
@@ -195,7 +198,7 @@ pub(crate) fn take_batch(
     requires bound { bound ≤ step_limit }
     requires spent { spent ≤ bound }
     requires ready { AreReadyJobs model.now spent cells.old ready }
-    requires frames { batch_frames model.now bound ready ≡ Some frames.now }
+    requires frames { batch_frames model.now bound ready ≡ Some (by_path frames.now) }
     ensures end { IfOk result (λ end. batch_as end cells.new ≡ batch model.now bound spent cells.old ready) }
     ensures spends { IfOk result (λ end. SpendsWith spent end) }
 {

@@ -1,18 +1,23 @@
-ghost use Rattle.std.specs.Prelude.{◌≡◌, ◌≤◌, ◌<◌, [], Some, IfOk, map, length, slice_get};
+ghost use Rattle.std.specs.Prelude.{◌≡◌, ◌≤◌, ◌<◌, ◌++◌, [], Some, IfOk, map, length, slice_get};
 ghost use Rattle.aerie_base.specs.Ranges.{step_limit};
 ghost use Rattle.aerie_base.specs.plans.OfModel.{IsPlanOf};
+ghost use Rattle.run_data.specs.Batches.{by_path};
 ghost use Rattle.run_data.specs.Fresh.{start, IsFresh};
 ghost use Rattle.run_data.specs.Transitions.{more, finished};
+ghost use Rattle.run_data.specs.laws.PrunedStates.{pruned};
+ghost use Rattle.run_data.specs.laws.RestOfRuns.{completed_run};
 ghost use Rattle.run_data.specs.Waves.{RoseAlike};
 ghost use Rattle.engine_core.specs.BatchEnds.{batch_frames};
-ghost use Rattle.engine_core.specs.EngineStates.{jobs_in, time_in, batches_in, IsEngineState, LeadsTo, IsNextOf, PaysForBatch, LooksForBatch, OfSameModels};
-ghost use Rattle.engine_core.specs.Stages.{point_in, plan_in, bound_in, IsOnCourse};
+ghost use Rattle.engine_core.specs.EngineStates.{jobs_in, time_in, batches_in, instants_in, spent_in, IsEngineState, LeadsTo, IsNextOf, PaysForBatch, LooksForBatch, OfSameModels};
+ghost use Rattle.engine_core.specs.Simulations.{point_in, IsOnCourse};
 
-use crate::ready_jobs::ReadyJobs;
-use crate::simulation::{Simulation, Stage};
+use crate::simulation::Simulation;
 use aerie_base::{List, Model, OutOfMemory, Plan, Shared, Steps, Time};
-use run_data::laws::weight_falls;
-use run_data::{Frame, Job, Run, Stepper};
+use live_tasks::ready_jobs::ReadyJobs;
+use run_data::laws::{
+    reached_states_are_of_the_model, weight_falls, what_has_ended_may_be_left_out,
+};
+use run_data::{Frame, Instant, Job, Run, Stepper};
 use std::alloc::Global;
 use std::sync::ledger::Ledger;
 
@@ -21,7 +26,7 @@ use std::sync::ledger::Ledger;
 #[derive(Drop)]
 pub struct Engine<'a> {
     model: &'a Model,
-    stage: Stage,
+    simulation: Simulation,
     ready: ReadyJobs,
 }
 
@@ -32,36 +37,46 @@ impl<'a> std::marker::Model for Engine<'a> {
     ghost use Rattle.aerie_base.specs.contracts.conditions.Cond as cond;
     ghost use Rattle.aerie_base.specs.contracts.statements.Stmt as stmt;
     ghost use Rattle.engine_core.specs.EngineStates.{EngineState, HasJob, jobs_in};
-    ghost use Rattle.engine_core.specs.Stages.{point_in, engine_state_of, IsOnCourse};
+    ghost use Rattle.engine_core.specs.Simulations.{point_in, engine_state_of, IsOnCourse};
 
     ghost Value = { EngineState };
 
     ghost coded = { Prim.hlevel (codes, expr.the_row.coded, cond.the_row.coded, stmt.the_row.coded) };
 
-    ghost view = { λ engine. engine_state_of engine.model.now engine.stage };
+    ghost view = { λ engine. engine_state_of engine.model.now engine.simulation };
 
     ghost invariant = { λ engine.
-        IsOnCourse engine.model.now engine.stage × HasJob (point_in engine.stage) × (engine.ready ≡ jobs_in (point_in engine.stage)) };
+        IsOnCourse engine.model.now engine.simulation × HasJob (point_in engine.simulation)
+        × (engine.ready ≡ jobs_in (point_in engine.simulation)) };
 }
 
-/// From a transition on to the next point that has a job, or to the outcome.
-fn engine_from<'a>(alloc: Global, model: &'a Model, stage: Stage) -> Result<Engine<'a>, OutOfMemory>
-    requires { IsOnCourse model.now stage }
+/// From where a simulation is on to the next point that has a job, or to the outcome.
+fn engine_from<'a>(
+    alloc: Global,
+    model: &'a Model,
+    simulation: Simulation,
+) -> Result<Engine<'a>, OutOfMemory>
+    requires { IsOnCourse model.now simulation }
     ensures model { IfOk result (λ engine. engine.model ≡ model.now) }
-    ensures plan { IfOk result (λ engine. engine.plan ≡ plan_in stage) }
-    ensures bound { IfOk result (λ engine. engine.bound ≡ bound_in stage) }
+    ensures plan { IfOk result (λ engine. engine.plan ≡ simulation.request.plan) }
+    ensures bound { IfOk result (λ engine. engine.bound ≡ simulation.request.bound) }
     ensures stands { IfOk result (λ engine. IsEngineState engine) }
-    ensures leads { IfOk result (λ engine. LeadsTo model.now (plan_in stage) (bound_in stage) (point_in stage) engine.point) }
+    ensures leads { IfOk result (λ engine.
+        LeadsTo model.now simulation.request.plan simulation.request.bound
+        (point_in simulation) engine.point) }
 {
+    reached_states_are_of_the_model();
+    what_has_ended_may_be_left_out();
     weight_falls();
-    let mut stage = stage;
-    while stage.is_idle() {
-        stage = stage.on(alloc, model)?;
+    let _ = model.cells();
+    let mut simulation = simulation;
+    while simulation.is_idle() {
+        simulation.on(alloc, model)?;
     }
-    let ready = stage.ready(alloc)?;
+    let ready = simulation.ready(alloc)?;
     Ok(Engine {
         model,
-        stage,
+        simulation,
         ready,
     })
 }
@@ -80,10 +95,11 @@ impl<'a> Engine<'a> {
         ensures plan { IfOk result (λ engine. engine.plan ≡ plan.now) }
         ensures bound { IfOk result (λ engine. engine.bound ≡ bound) }
         ensures stands { IfOk result (λ engine. IsEngineState engine) }
-        ensures first { IfOk result (λ engine. LeadsTo model.now plan.now bound (more (start model.now plan.now)) engine.point) }
+        ensures first { IfOk result (λ engine.
+            LeadsTo model.now plan.now bound (more (pruned (start model.now plan.now))) engine.point) }
     {
         let simulation = Simulation::begin(alloc, model, plan, bound)?;
-        let engine = engine_from(alloc, model, Stage::On(simulation))?;
+        let engine = engine_from(alloc, model, simulation)?;
         Ok(engine)
     }
 
@@ -109,7 +125,7 @@ impl<'a> Engine<'a> {
         requires { jobs_in self.now.point ≡ [] → ⊥ }
         ensures { result ≡ time_in self.now.point }
     {
-        self.stage.time()
+        self.simulation.time()
     }
 
     /// The batches already committed at this time. It takes no memory.
@@ -117,7 +133,22 @@ impl<'a> Engine<'a> {
         requires { jobs_in self.now.point ≡ [] → ⊥ }
         ensures { result.now ≡ batches_in self.now.point }
     {
-        self.stage.batches()
+        self.simulation.batches()
+    }
+
+    /// The instants that are settled: those before the next batch's, or all of the outcome. It takes no memory.
+    pub fn instants(&self) -> &[Shared<Instant>]
+        ensures { result.now ≡ instants_in self.now.point }
+    {
+        self.simulation.instants()
+    }
+
+    /// What the costs of the batches before the next one come to. It takes no memory.
+    pub fn spent(&self) -> u64
+        requires { jobs_in self.now.point ≡ [] → ⊥ }
+        ensures { result ≡ spent_in self.now.point }
+    {
+        self.simulation.spent()
     }
 
     /// The next batch, whose frames the stepper gives by waves, and on to the next batch that has a job, or to the outcome.
@@ -137,7 +168,8 @@ impl<'a> Engine<'a> {
         ensures bound { IfOk result (λ engine. engine.bound ≡ self.entry.bound) }
         ensures stands { IfOk result (λ engine. IsEngineState engine) }
         ensures next { IfOk result (IsNextOf self.entry) }
-        ensures frugal { IfOk result (λ engine. PaysForBatch self.entry (S.records stepper.old) steps.old steps.new) }
+        ensures frugal { IfOk result (λ engine.
+            PaysForBatch self.entry (S.records stepper.old) steps.old steps.new) }
         ensures looks { looks.old ≤ looks.new }
         ensures few_looks { IfOk result (λ engine. LooksForBatch self.entry looks.old looks.new) }
         ensures opened { RoseAlike (S.opened stepper.old) steps.old (S.opened stepper.new) steps.new }
@@ -147,19 +179,22 @@ impl<'a> Engine<'a> {
     {
         let Engine {
             model,
-            stage,
+            mut simulation,
             ready,
         } = self;
-        let stage = stage.batch(alloc, model, ready, stepper, steps, looks)?;
-        let engine = engine_from(alloc, model, stage)?;
+        what_has_ended_may_be_left_out();
+        let _ = model.cells();
+        simulation.batch(alloc, model, ready, stepper, steps, looks)?;
+        let engine = engine_from(alloc, model, simulation)?;
         Ok(engine)
     }
 
-    /// The next batch, whose frames the caller has in order of path, and on to the next batch that has a job, or to the
-    /// outcome. After want of memory the engine is dropped.
+    /// The next batch, whose frames the caller has, in any order, and on to the next batch that has a job, or to the outcome.
+    /// After want of memory the engine is dropped.
     pub fn take_over(self, alloc: Global, frames: &[Frame]) -> Result<Engine<'a>, OutOfMemory>
         requires job { jobs_in self.point ≡ [] → ⊥ }
-        requires frames { batch_frames self.model self.bound (jobs_in self.point) ≡ Some frames.now }
+        requires frames { batch_frames self.model self.bound (jobs_in self.point)
+            ≡ Some (by_path frames.now) }
         ensures model { IfOk result (λ engine. engine.model ≡ self.entry.model) }
         ensures plan { IfOk result (λ engine. engine.plan ≡ self.entry.plan) }
         ensures bound { IfOk result (λ engine. engine.bound ≡ self.entry.bound) }
@@ -168,11 +203,13 @@ impl<'a> Engine<'a> {
     {
         let Engine {
             model,
-            stage,
+            mut simulation,
             ready,
         } = self;
-        let stage = stage.batch_of(alloc, model, ready, frames)?;
-        let engine = engine_from(alloc, model, stage)?;
+        what_has_ended_may_be_left_out();
+        let _ = model.cells();
+        simulation.batch_of(alloc, model, ready, frames)?;
+        let engine = engine_from(alloc, model, simulation)?;
         Ok(engine)
     }
 
@@ -182,6 +219,16 @@ impl<'a> Engine<'a> {
         ensures fresh { IsFresh self.entry.model self.entry.plan self.entry.bound result }
         ensures point { self.entry.point ≡ finished result }
     {
-        self.stage.into_run()
+        self.simulation.into_run()
+    }
+
+    /// The completed run of the settled instants and others behind them, which are shared: what a caller takes that knows how
+    /// the simulation goes on.
+    pub fn end_with(self, rest: &[Shared<Instant>]) -> Result<Run, OutOfMemory>
+        ensures { IfOk result (λ run. run
+            ≡ completed_run self.entry.plan self.entry.bound (instants_in self.entry.point ++ rest.now)) }
+    {
+        let run = self.simulation.end_with(rest)?;
+        Ok(run)
     }
 }

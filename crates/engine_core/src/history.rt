@@ -1,15 +1,17 @@
 //! What has happened in a simulation.
 
-ghost use Rattle.std.specs.Prelude.{◌≡◌, ◌≤◌, ◌<◌, ◌++◌, ◌∷◌, [], true, false, length, replicate, slice_get, slice_set, Some, IfOk, OnOk};
+ghost use Rattle.std.specs.Prelude.{◌≡◌, ◌++◌, ◌∷◌, ℕ, [], length, slice_get, nat_eq, IfOk, OnOk};
+ghost use Rattle.std.specs.List.{list_any};
+ghost use Rattle.std.specs.List.Sorted.{IsStrictlyIncreasing};
 ghost use Rattle.run_data.specs.Fresh.{states_from};
-ghost use Rattle.run_data.specs.Frames.{read_from};
-ghost use Rattle.engine_core.specs.Flags.{flagged_by_numbers, KeepsState};
+ghost use Rattle.engine_core.specs.Simulations.{with_batch, instant_on};
+ghost use Rattle.engine_core.specs.TouchedStates.{states_at, with_state};
 
-use crate::flags::{is_set, no_flags};
 use aerie_base::{List, OutOfMemory, Shared, Time};
 use effect_cells::{CellState, Cells};
 use run_data::{Frame, Instant};
 use std::alloc::Global;
+use std::mem;
 
 /// The settled instants, the batches of the time at hand, and the cells on which they had an effect.
 #[derive(Drop)]
@@ -19,84 +21,87 @@ pub(crate) struct History {
     pub(crate) touched: List<u16>,
 }
 
-/// The numbers, and others behind them. Where there are none, as at the first batch of a time, the others stay as they are.
-fn joined(mut numbers: List<u16>, others: List<u16>) -> Result<List<u16>, OutOfMemory>
-    ensures { IfOk result (λ all. all ≡ numbers ++ others) }
+/// Puts numbers behind others. Where there are none, as at the first batch of a time, they take their place.
+fn put_behind(numbers: &mut List<u16>, others: List<u16>) -> Result<(), OutOfMemory>
+    ensures { OnOk result (numbers.new ≡ numbers.old ++ others) }
 {
     if numbers.is_empty() {
-        return Ok(others);
+        *numbers = others;
+        return Ok(());
     }
     numbers.items.extend_from_slice(others.as_slice())?;
-    Ok(numbers)
+    Ok(())
 }
 
-/// Sets the flag of a number, if there is one.
-fn set_flag(flags: &mut [bool], number: u16)
-    ensures { flags.new ≡ slice_set flags.old number true }
+/// Puts instants behind others. They are shared.
+pub(crate) fn put_shared(
+    instants: &mut List<Shared<Instant>>,
+    rest: &[Shared<Instant>],
+) -> Result<(), OutOfMemory>
+    ensures { OnOk result (instants.new ≡ instants.old ++ rest.now) }
 {
-    let number = usize::from(number);
-    if number < flags.len() {
-        flags[number] = true;
+    for instant in rest {
+        instants.push(instant.share()?)?;
     }
+    Ok(())
 }
 
-/// Sets the flags of some numbers.
-fn set_flags(flags: &mut [bool], touched: &[u16])
-    ensures { flags.new ≡ flagged_by_numbers flags.old touched.now }
-{
-    for number in touched {
-        set_flag(flags, *number);
-    }
-}
-
-/// Puts the state of a cell with its number behind others where its flag is set.
-fn keep_state(
+/// Puts the state of a cell with its number behind others, if there is such a cell.
+fn put_state(
     states: &mut List<(u16, CellState)>,
     cells: &Cells,
+    count: usize,
     number: u16,
-    flag: bool,
 ) -> Result<(), OutOfMemory>
-    requires { number < length cells.now }
-    ensures { OnOk result (KeepsState flag number cells.now states.old states.new) }
+    requires { count ≡ length cells.now }
+    ensures { OnOk result (states.new ≡ states.old ++ with_state number (slice_get cells.now number) []) }
 {
-    if flag {
+    if usize::from(number) < count {
         states.push((number, cells.state(number)))?;
     }
     Ok(())
 }
 
-/// The states of the cells whose flags are set, each with its number.
-fn flagged_states(
+/// The numbers in order, each once.
+fn in_order(numbers: List<u16>) -> Vec<u16>
+    ensures rise { IsStrictlyIncreasing result.items }
+    ensures same { (number : ℕ) → list_any (nat_eq number) result.items ≡ list_any (nat_eq number) numbers }
+{
+    let mut ordered = numbers.into_vec();
+    ordered.sort_unstable();
+    ordered.dedup();
+    ordered
+}
+
+/// The states of the cells of these numbers, one after another.
+fn states_at(
     alloc: Global,
     cells: &Cells,
-    flags: &[bool],
+    count: usize,
+    numbers: &[u16],
 ) -> Result<List<(u16, CellState)>, OutOfMemory>
-    requires count { length flags.now ≡ length cells.now }
-    requires few { length flags.now ≤ 256 }
-    ensures { IfOk result (λ states. states ≡ read_from 0 flags.now cells.now) }
+    requires { count ≡ length cells.now }
+    ensures { IfOk result (λ states. states ≡ states_at cells.now numbers.now) }
 {
-    let mut states = List::new(alloc);
-    for at in 0..flags.len() {
-        keep_state(&mut states, cells, at as u16, is_set(flags, at))?;
+    let mut states = List::with_capacity(alloc, numbers.len())?;
+    for number in numbers {
+        put_state(&mut states, cells, count, *number)?;
     }
     Ok(states)
 }
 
-/// The cells of these numbers, in order, each with its state.
+/// The cells of these numbers, in order, each with its state. Most often the numbers are in order already.
 fn changed_states(
     alloc: Global,
     cells: &Cells,
     count: usize,
-    touched: &[u16],
+    touched: List<u16>,
 ) -> Result<List<(u16, CellState)>, OutOfMemory>
-    requires count { count ≡ length cells.now }
-    requires few { count ≤ 256 }
-    ensures { IfOk result (λ states. states ≡ states_from 0 touched.now cells.now) }
+    requires { count ≡ length cells.now }
+    ensures { IfOk result (λ states. states ≡ states_from 0 touched cells.now) }
 {
-    let mut room = no_flags();
-    let flags = &mut room[..count];
-    set_flags(flags, touched);
-    let states = flagged_states(alloc, cells, flags)?;
+    let numbers = in_order(touched);
+    let states = states_at(alloc, cells, count, numbers.as_slice())?;
     Ok(states)
 }
 
@@ -112,61 +117,42 @@ impl History {
         }
     }
 
-    /// With one more batch, and the cells on which it had an effect.
-    pub(crate) fn with_batch(
-        self,
+    /// One more batch, and the cells on which it had an effect.
+    pub(crate) fn put_batch(
+        &mut self,
         frames: List<Frame>,
         touched: List<u16>,
-    ) -> Result<History, OutOfMemory>
-        ensures instants { IfOk result (λ all. all.instants ≡ self.instants) }
-        ensures batches { IfOk result (λ all. all.batches ≡ self.batches ++ frames ∷ []) }
-        ensures touched { IfOk result (λ all. all.touched ≡ self.touched ++ touched) }
+    ) -> Result<(), OutOfMemory>
+        ensures { OnOk result (self.new ≡ with_batch frames touched self.old) }
     {
-        let History {
-            instants,
-            mut batches,
-            touched: earlier,
-        } = self;
-        batches.push(frames)?;
-        let touched = joined(earlier, touched)?;
-        Ok(History {
-            instants,
-            batches,
-            touched,
-        })
+        self.batches.push(frames)?;
+        put_behind(&mut self.touched, touched)?;
+        Ok(())
     }
 
-    /// With the instant at hand settled on these cells, of which there are so many.
-    pub(crate) fn settled(
-        self,
+    /// The instant at hand is settled on these cells, of which there are so many.
+    pub(crate) fn settle(
+        &mut self,
         alloc: Global,
         time: Time,
         cells: &Cells,
         count: usize,
-    ) -> Result<History, OutOfMemory>
-        requires count { count ≡ length cells.now }
-        requires few { count ≤ 256 }
-        ensures instants { IfOk result (λ all. all.instants ≡
-            self.instants ++ (record { time = time; batches = self.batches; changed = states_from 0 self.touched cells.now }) ∷ []) }
-        ensures batches { IfOk result (λ all. all.batches ≡ []) }
-        ensures touched { IfOk result (λ all. all.touched ≡ []) }
+    ) -> Result<(), OutOfMemory>
+        requires { count ≡ length cells.now }
+        ensures instants { OnOk result (self.new.instants
+            ≡ self.old.instants ++ instant_on time self.old cells.now ∷ []) }
+        ensures batches { OnOk result (self.new.batches ≡ []) }
+        ensures touched { OnOk result (self.new.touched ≡ []) }
     {
-        let History {
-            mut instants,
-            batches,
-            touched,
-        } = self;
-        let changed = changed_states(alloc, cells, count, touched.as_slice())?;
+        let touched = mem::replace(&mut self.touched, List::new(alloc));
+        let changed = changed_states(alloc, cells, count, touched)?;
+        let batches = mem::replace(&mut self.batches, List::new(alloc));
         let instant = Instant {
             time,
             batches,
             changed,
         };
-        instants.push(Shared::new(alloc, instant)?)?;
-        Ok(History {
-            instants,
-            batches: List::new(alloc),
-            touched: List::new(alloc),
-        })
+        self.instants.push(Shared::new(alloc, instant)?)?;
+        Ok(())
     }
 }

@@ -8,7 +8,9 @@ ghost use Rattle.engine_core.specs.EngineStates.{OfSameModels};
 
 use crate::engine::Engine;
 use aerie_base::{Model, OutOfMemory, Plan, Shared, Steps};
-use run_data::laws::weight_falls;
+use run_data::laws::{
+    reached_states_are_of_the_model, weight_falls, what_has_ended_may_be_left_out,
+};
 use run_data::{Run, Stepper};
 use std::alloc::Global;
 use std::sync::ledger::Ledger;
@@ -38,7 +40,10 @@ pub fn simulate<S: Stepper, L: Ledger, K: Ledger>(
     ensures same_records { S.records stepper.new ≡ S.records stepper.old }
     ensures address { S.address stepper.new ≡ S.address stepper.old }
 {
+    reached_states_are_of_the_model();
+    what_has_ended_may_be_left_out();
     weight_falls();
+    let _ = model.cells();
     let mut engine = Engine::begin(alloc, model, plan, bound)?;
     while !engine.ready().is_empty() {
         engine = engine.step(alloc, stepper, steps, looks)?;

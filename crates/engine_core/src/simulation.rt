@@ -1,32 +1,35 @@
 //! A simulation, a transition at a time.
 
-ghost use Rattle.std.specs.Prelude.{◌≡◌, ◌≤◌, [], List, Some, IfOk};
+ghost use Rattle.std.specs.Prelude.{◌≡◌, ◌≤◌, ◌++◌, [], true, Some, None, IfOk, OnOk};
+ghost use Rattle.aerie_base.specs.Ranges.{step_limit};
 ghost use Rattle.aerie_base.specs.declared.models.model.Parts.{Parts};
+ghost use Rattle.aerie_base.specs.plans.OfModel.{IsPlanOf};
 ghost use Rattle.effect_cells.specs.declared.effects.CellState.{CellState};
-ghost use Rattle.run_data.specs.Fresh.{start, after_outcome};
+ghost use Rattle.run_data.specs.Batches.{by_path};
+ghost use Rattle.run_data.specs.Fresh.{start};
+ghost use Rattle.run_data.specs.Transitions.{more, finished};
 ghost use Rattle.run_data.specs.Waves.{RoseAlike};
-ghost use Rattle.run_data.specs.laws.GoingOn.{AllQuiet};
-ghost use Rattle.run_data.specs.laws.NumberedTasks.{sorted_tasks};
-ghost use Rattle.engine_core.specs.BatchEnds.{batch_as, batch_frames, SpendsWith};
-ghost use Rattle.engine_core.specs.EngineStates.{OfSameModels};
-ghost use Rattle.engine_core.specs.TasksByNumber.{AreKept};
-ghost use Rattle.engine_core.specs.Stages.{state_of, point_in, plan_in, bound_in, are_none, AreKeptBefore, AreKeptIn, IsOnCourse, IsTransitionFrom, TouchesAll, MakesFew, jobs_at, PaysFrom, LooksFrom};
-ghost use Rattle.engine_core.specs.declared.simulation.Stage.TheVariants as stage_;
+ghost use Rattle.run_data.specs.laws.PrunedStates.{pruned};
+ghost use Rattle.run_data.specs.laws.RestOfRuns.{completed_run};
+ghost use Rattle.live_tasks.specs.InStep.{IsInStep};
+ghost use Rattle.engine_core.specs.BatchEnds.{batch_frames, SpendsWith};
+ghost use Rattle.engine_core.specs.EngineStates.{jobs_in, time_in, batches_in, instants_in, spent_in, HasJob, OfSameModels};
+ghost use Rattle.engine_core.specs.Simulations.{ending_with, point_in, is_idle_at, AreTasksIn, IsOnCourse, StandsAt, IsTransitionFrom, IsAfterEnd, MayTakeEnd, PaysFrom, LooksFrom};
 
 use crate::batch_ends::BatchEnd;
 use crate::batches::{run_batch, take_batch};
-use crate::history::History;
-use crate::passing::{moved, run_with};
-use crate::planned_tasks::planned_tasks;
+use crate::history::{History, put_shared};
 use crate::present::Present;
-use crate::ready_jobs::ReadyJobs;
-use aerie_base::{Model, OutOfMemory, Plan, Shared, Steps, Time};
+use aerie_base::{List, Model, OutOfMemory, Plan, Shared, Steps, Time};
 use effect_cells::Cells;
+use live_tasks::readies::{live_tasks_are_live, live_tasks_live_on};
+use live_tasks::ready_jobs::ReadyJobs;
+use live_tasks::tasks::LiveTasks;
 use run_data::laws::{
-    reached_states_are_of_the_model, reached_states_are_quiet, tasks_stand_by_number,
-    waits_go_by_the_cells, weight_falls,
+    reached_states_are_of_the_model, tasks_stand_by_number, waits_go_by_the_cells, weight_falls,
+    what_has_ended_may_be_left_out,
 };
-use run_data::{Frame, Outcome, Run, Stepper};
+use run_data::{Frame, Instant, Outcome, Run, Stepper};
 use std::alloc::Global;
 use std::sync::ledger::Ledger;
 
@@ -46,65 +49,20 @@ impl Request {
     }
 }
 
-/// A simulation at some time.
+/// How a simulation has ended, and the time that it reached.
+#[derive(Drop)]
+pub(crate) struct RunEnd {
+    pub(crate) reach: Time,
+    pub(crate) outcome: Outcome,
+}
+
+/// A simulation at some time, or where it has ended.
 #[derive(Drop)]
 pub(crate) struct Simulation {
     pub(crate) request: Request,
     pub(crate) history: History,
     pub(crate) present: Present,
-}
-
-/// What a transition gives: where the simulation stands then, or the run.
-#[derive(Drop)]
-pub(crate) enum Stage {
-    /// It stands there.
-    On(Simulation),
-    /// It has ended.
-    Over(Run),
-}
-
-/// The simulation after a batch that ended so. Its effects are on the cells.
-fn after_end(
-    alloc: Global,
-    request: Request,
-    history: History,
-    present: Present,
-    end: BatchEnd,
-) -> Result<Stage, OutOfMemory>
-    requires made { MakesFew end present }
-    requires quiet { AllQuiet (sorted_tasks present.tasks.tasks) (sorted_tasks present.tasks.tasks) }
-    requires spends { SpendsWith present.spent end }
-    ensures point { IfOk result (λ stage. (model : Parts) →
-        point_in stage ≡ after_outcome model request.plan request.bound (state_of history present) (batch_as end present.cells)) }
-    ensures plan { IfOk result (λ stage. plan_in stage ≡ request.plan) }
-    ensures bound { IfOk result (λ stage. bound_in stage ≡ request.bound) }
-    ensures kept { IfOk result (λ stage. (before : List CellState) →
-        AreKept present.time request.plan.duration before present.tasks → TouchesAll end before present.cells → AreKeptIn stage) }
-{
-    let time = present.time;
-    match end {
-        BatchEnd::Limit => {
-            let outcome = Outcome::StepLimit { time };
-            Ok(Stage::Over(run_with(request, history, time, outcome)))
-        }
-        BatchEnd::Failed { who, fault } => {
-            let outcome = Outcome::Failed { time, who, fault };
-            Ok(Stage::Over(run_with(request, history, time, outcome)))
-        }
-        BatchEnd::Committed {
-            frames,
-            touched,
-            spent,
-        } => {
-            let present = present.after_batch(alloc, frames.as_slice(), touched.as_slice(), spent)?;
-            let history = history.with_batch(frames, touched)?;
-            Ok(Stage::On(Simulation {
-                request,
-                history,
-                present,
-            }))
-        }
-    }
+    pub(crate) ending: Option<RunEnd>,
 }
 
 impl Simulation {
@@ -115,14 +73,15 @@ impl Simulation {
         plan: &Shared<Plan>,
         bound: u64,
     ) -> Result<Simulation, OutOfMemory>
-        ensures state { IfOk result (λ simulation. state_of simulation.history simulation.present ≡ start model.now plan.now) }
-        ensures plan { IfOk result (λ simulation. simulation.request.plan ≡ plan.now) }
-        ensures bound { IfOk result (λ simulation. simulation.request.bound ≡ bound) }
-        ensures kept { IfOk result (λ simulation. AreKeptBefore plan.now.duration simulation.present) }
+        requires plan { IsPlanOf model.now plan.now }
+        requires bound { bound ≤ step_limit }
+        ensures { IfOk result (λ simulation.
+            StandsAt (record { plan = plan.now; bound = bound })
+            (more (pruned (start model.now plan.now))) simulation) }
     {
         let time = Time::zero();
         let cells = Shared::new(alloc, Cells::initial(alloc, model)?)?;
-        let tasks = planned_tasks(alloc, model, plan.get(), time)?;
+        let tasks = LiveTasks::begin(alloc, model, plan.get())?;
         let plan = plan.share()?;
         Ok(Simulation {
             request: Request { plan, bound },
@@ -133,135 +92,253 @@ impl Simulation {
                 cells,
                 tasks,
             },
+            ending: None,
         })
     }
 
-    /// Whether no task is ready.
+    /// Whether it goes on, and no task is ready.
     pub(crate) fn is_idle(&self) -> bool
-        ensures { result ≡ are_none (jobs_at self.now.present) }
+        requires { AreTasksIn self.now }
+        ensures { result ≡ is_idle_at (point_in self.now) }
     {
-        !self.present.tasks.is_ready()
+        match self.ending {
+            Some(_) => false,
+            None => !self.present.tasks.is_ready(),
+        }
     }
 
-    /// The jobs of the ready tasks, all with one view of the cells, which is shared.
-    pub(crate) fn ready(&self, alloc: Global) -> Result<ReadyJobs, OutOfMemory>
-        ensures { IfOk result (λ jobs. jobs ≡ jobs_at self.now.present) }
+    /// The jobs of the ready tasks, all with one view of the cells, which is shared; none where it has ended.
+    pub(crate) fn ready(&mut self, alloc: Global) -> Result<ReadyJobs, OutOfMemory>
+        requires { AreTasksIn self.old }
+        ensures jobs { IfOk result (λ jobs. jobs ≡ jobs_in (point_in self.old)) }
+        ensures stands { OnOk result (StandsAt self.old.request (point_in self.old) self.new) }
     {
-        let view = self.present.cells.share()?;
-        self.present.tasks.ready(alloc, &view)
+        match self.ending {
+            Some(_) => Ok(ReadyJobs::new(alloc)),
+            None => {
+                let jobs = self.present.tasks.ready(alloc, &self.present.cells)?;
+                Ok(jobs)
+            }
+        }
+    }
+
+    /// The time at hand.
+    pub(crate) fn time(&self) -> Time
+        requires { jobs_in (point_in self.now) ≡ [] → ⊥ }
+        ensures { result ≡ time_in (point_in self.now) }
+    {
+        self.present.time
+    }
+
+    /// The batches of this time.
+    pub(crate) fn batches(&self) -> &[List<Frame>]
+        requires { jobs_in (point_in self.now) ≡ [] → ⊥ }
+        ensures { result.now ≡ batches_in (point_in self.now) }
+    {
+        self.history.batches.as_slice()
+    }
+
+    /// The settled instants.
+    pub(crate) fn instants(&self) -> &[Shared<Instant>]
+        ensures { result.now ≡ instants_in (point_in self.now) }
+    {
+        self.history.instants.as_slice()
+    }
+
+    /// What the costs come to so far.
+    pub(crate) fn spent(&self) -> u64
+        requires { jobs_in (point_in self.now) ≡ [] → ⊥ }
+        ensures { result ≡ spent_in (point_in self.now) }
+    {
+        self.present.spent
+    }
+
+    /// Ends at the time at hand.
+    pub(crate) fn end_now(&mut self, outcome: Outcome)
+        ensures { self.new ≡ ending_with self.old outcome }
+    {
+        let reach = self.present.time;
+        self.ending = Some(RunEnd { reach, outcome });
+    }
+
+    /// Goes on after a batch that ended so. Its effects are on the cells.
+    fn take_end(&mut self, alloc: Global, end: BatchEnd) -> Result<(), OutOfMemory>
+        requires open { self.old.ending ≡ None }
+        requires in_step { IsInStep self.old.present.tasks }
+        requires may { MayTakeEnd end self.old.present }
+        requires spends { SpendsWith self.old.present.spent end }
+        ensures { OnOk result (IsAfterEnd self.old end self.new) }
+    {
+        let time = self.present.time;
+        match end {
+            BatchEnd::Limit => {
+                self.end_now(Outcome::StepLimit { time });
+                Ok(())
+            }
+            BatchEnd::Failed { who, fault } => {
+                self.end_now(Outcome::Failed { time, who, fault });
+                Ok(())
+            }
+            BatchEnd::Committed {
+                frames,
+                touched,
+                spent,
+            } => {
+                self.present
+                    .tasks
+                    .after_batch(alloc, time, frames.as_slice(), touched.as_slice())?;
+                self.present.spent = spent;
+                self.history.put_batch(frames, touched)?;
+                Ok(())
+            }
+        }
     }
 
     /// The batch of the ready jobs, whose frames the stepper gives by waves.
+    #[allow(clippy::too_many_arguments)]
     pub(crate) fn batch<S: Stepper, L: Ledger, K: Ledger>(
-        self,
+        &mut self,
         alloc: Global,
         model: &Model,
         ready: ReadyJobs,
         stepper: &mut S,
         steps: &mut Steps<L>,
         looks: &mut Steps<K>,
-    ) -> Result<Stage, OutOfMemory>
-        requires course { IsOnCourse model.now (stage_.On self) }
-        requires ready { ready ≡ jobs_at self.present }
+    ) -> Result<(), OutOfMemory>
+        requires course { IsOnCourse model.now self.old }
+        requires ready { ready ≡ jobs_in (point_in self.old) }
         requires job { ready ≡ [] → ⊥ }
         requires shares { S.shares }
         requires stepper { S.is_of stepper.old model.now }
-        ensures stage { IfOk result (IsTransitionFrom model.now (stage_.On self)) }
-        ensures frugal { IfOk result (λ stage. PaysFrom model.now (stage_.On self) (S.records stepper.old) steps.old steps.new) }
+        ensures stage { OnOk result (IsTransitionFrom model.now self.old self.new) }
+        ensures frugal { OnOk result
+            (PaysFrom model.now self.old (S.records stepper.old) steps.old steps.new) }
         ensures looks { looks.old ≤ looks.new }
-        ensures few_looks { IfOk result (λ stage. LooksFrom model.now (stage_.On self) looks.old looks.new) }
+        ensures few_looks { OnOk result (LooksFrom model.now self.old looks.old looks.new) }
         ensures opened { RoseAlike (S.opened stepper.old) steps.old (S.opened stepper.new) steps.new }
         ensures same_models { OfSameModels (S.is_of stepper.old) (S.is_of stepper.new) }
         ensures same_records { S.records stepper.new ≡ S.records stepper.old }
         ensures address { S.address stepper.new ≡ S.address stepper.old }
     {
         reached_states_are_of_the_model();
-        reached_states_are_quiet();
+        what_has_ended_may_be_left_out();
+        live_tasks_live_on();
         tasks_stand_by_number();
         let _ = model.cells();
-        let Simulation {
-            request,
-            history,
-            mut present,
-        } = self;
         let end = run_batch(
             alloc,
             model,
-            request.bound,
-            present.spent,
-            &mut present.cells,
+            self.request.bound,
+            self.present.spent,
+            &mut self.present.cells,
             ready,
             stepper,
             steps,
             looks,
         )?;
-        let stage = after_end(alloc, request, history, present, end)?;
-        Ok(stage)
+        self.take_end(alloc, end)?;
+        Ok(())
     }
 
-    /// The batch of the ready jobs, whose frames the caller has, in order of path.
+    /// The batch of the ready jobs, whose frames the caller has, in any order.
     pub(crate) fn batch_of(
-        self,
+        &mut self,
         alloc: Global,
         model: &Model,
         ready: ReadyJobs,
         frames: &[Frame],
-    ) -> Result<Stage, OutOfMemory>
-        requires course { IsOnCourse model.now (stage_.On self) }
-        requires ready { ready ≡ jobs_at self.present }
+    ) -> Result<(), OutOfMemory>
+        requires course { IsOnCourse model.now self.old }
+        requires ready { ready ≡ jobs_in (point_in self.old) }
         requires job { ready ≡ [] → ⊥ }
-        requires frames { batch_frames model.now self.request.bound ready ≡ Some frames.now }
-        ensures { IfOk result (IsTransitionFrom model.now (stage_.On self)) }
+        requires frames { batch_frames model.now self.old.request.bound ready ≡ Some (by_path frames.now) }
+        ensures { OnOk result (IsTransitionFrom model.now self.old self.new) }
     {
         reached_states_are_of_the_model();
-        reached_states_are_quiet();
+        what_has_ended_may_be_left_out();
+        live_tasks_live_on();
         tasks_stand_by_number();
         let _ = model.cells();
-        let Simulation {
-            request,
-            history,
-            mut present,
-        } = self;
         let end = take_batch(
             alloc,
             model,
-            request.bound,
-            present.spent,
-            &mut present.cells,
+            self.request.bound,
+            self.present.spent,
+            &mut self.present.cells,
             ready,
             frames,
         )?;
-        let stage = after_end(alloc, request, history, present, end)?;
-        Ok(stage)
+        self.take_end(alloc, end)?;
+        Ok(())
     }
 
     /// Where no task is ready: the waiting ones are judged, and where none goes on the instant is settled and time passes.
-    pub(crate) fn on(self, alloc: Global, model: &Model) -> Result<Stage, OutOfMemory>
-        requires course { IsOnCourse model.now (stage_.On self) }
-        requires idle { jobs_at self.present ≡ [] }
-        ensures { IfOk result (IsTransitionFrom model.now (stage_.On self)) }
+    pub(crate) fn on(&mut self, alloc: Global, model: &Model) -> Result<(), OutOfMemory>
+        requires course { IsOnCourse model.now self.old }
+        requires idle { is_idle_at (point_in self.old) ≡ true }
+        ensures { OnOk result (IsTransitionFrom model.now self.old self.new) }
     {
         reached_states_are_of_the_model();
+        what_has_ended_may_be_left_out();
+        live_tasks_are_live();
         waits_go_by_the_cells();
-        tasks_stand_by_number();
         weight_falls();
         let _ = model.cells();
+        let end = self.request.end();
+        self.present
+            .tasks
+            .wake_all(self.present.time, end, self.present.cells.get())?;
+        if self.present.tasks.is_ready() {
+            return Ok(());
+        }
+        self.move_on(alloc, model)?;
+        Ok(())
+    }
+
+    /// The run, where it has ended.
+    pub(crate) fn into_run(self) -> Run
+        requires none { jobs_in (point_in self) ≡ [] }
+        requires job { HasJob (point_in self) }
+        ensures { point_in self ≡ finished result }
+    {
         let Simulation {
             request,
             history,
-            present,
+            present: _,
+            ending,
         } = self;
-        present.tasks.note_distinct();
-        let end = request.end();
-        let present = present.woken(alloc, end)?;
-        if present.tasks.is_ready() {
-            return Ok(Stage::On(Simulation {
-                request,
-                history,
-                present,
-            }));
+        match ending {
+            Some(ending) => Run {
+                plan: request.plan,
+                bound: request.bound,
+                instants: history.instants,
+                reach: ending.reach,
+                outcome: ending.outcome,
+            },
+            None => unreachable!(),
         }
-        let stage = moved(alloc, model, request, history, present)?;
-        Ok(stage)
+    }
+
+    /// The completed run of the settled instants and others behind them, which are shared.
+    pub(crate) fn end_with(self, rest: &[Shared<Instant>]) -> Result<Run, OutOfMemory>
+        ensures { IfOk result (λ run. run
+            ≡ completed_run self.request.plan self.request.bound (instants_in (point_in self) ++ rest.now)) }
+    {
+        let Simulation {
+            request,
+            history,
+            present: _,
+            ending: _,
+        } = self;
+        let reach = request.end();
+        let mut instants = history.instants;
+        put_shared(&mut instants, rest)?;
+        Ok(Run {
+            plan: request.plan,
+            bound: request.bound,
+            instants,
+            reach,
+            outcome: Outcome::Completed,
+        })
     }
 }

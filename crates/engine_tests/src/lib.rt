@@ -5,8 +5,12 @@
 #[cfg(test)]
 mod changes;
 #[cfg(test)]
+mod meeting;
+#[cfg(test)]
 mod plans;
 #[cfg(test)]
 mod runs;
+#[cfg(test)]
+mod spreads;
 #[cfg(test)]
 mod telling;

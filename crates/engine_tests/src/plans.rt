@@ -42,3 +42,13 @@ pub(crate) fn put(start: i64, value: i64) -> Planned {
         anchor: None,
     }
 }
+
+/// `Div(by)`.
+pub(crate) fn divide(start: i64, by: i64) -> Planned {
+    Planned {
+        start,
+        kind: "Div",
+        argument: Some(("by", by)),
+        anchor: None,
+    }
+}

@@ -1,9 +1,10 @@
 //! Instants of runs: their times, their batches and what changed, which the program does not print.
 
-ghost use Rattle.std.specs.Prelude.{◌≡◌, ◌<◌};
+ghost use Rattle.std.specs.Prelude.{◌≡◌, ◌<◌, ◌≤◌};
 ghost use Rattle.aerie_base.specs.plans.OfModel.{IsPlanOf};
 
 use crate::plans::{bare, bump, bump_after, put};
+use crate::spreads::told_twice;
 use crate::telling;
 use aerie_base::{Edge, Model, OutOfMemory, Plan, Shared, Steps};
 use body_code::compile_all;
@@ -13,6 +14,7 @@ use std::alloc::Global;
 use std::marker::Brand;
 use std::process::Abort;
 use std::sync::ledger::{Blank, Ledger};
+use std::thread::Threads;
 use task_step::Direct;
 use test_worlds::{Outline, Planned, model_in, plan_of};
 
@@ -57,7 +59,7 @@ fn simulated<L: Ledger, K: Ledger>(
     )
 }
 
-/// The instants of the run of a plan of a copy of the model.
+/// The instants of the run of a plan of a copy of the model, over the plain stepper.
 fn told<L: Ledger, K: Ledger>(
     steps: Blank,
     looks: Blank,
@@ -78,11 +80,37 @@ fn told<L: Ledger, K: Ledger>(
     telling::instants(alloc, &run).ok()
 }
 
-/// A plan has these instants.
-fn gives<R: Abort>(rt: &R, alloc: Global, planned: &[Planned], expected: &str) {
+/// The instants of two runs of a plan of the model, over two books and in so many pieces: the first over empty books, the second
+/// over the book of the first; and how many statements and tests were run for the second.
+fn spread<R: Threads + Sync>(
+    rt: &R,
+    alloc: Global,
+    planned: &[Planned],
+    pieces: usize,
+) -> Option<(String, String, u64)>
+    requires { (1 ≤ pieces) × (pieces ≤ 64) }
+{
+    let outline = Outline {
+        duration: 100,
+        first_id: 1,
+        planned,
+    };
+    let model = Shared::new(alloc, model_in(alloc, TRIED)?).ok()?;
+    let plan = Shared::new(alloc, plan_of(alloc, model.get(), &outline)?).ok()?;
+    told_twice(rt, alloc, &model, &plan, pieces)
+}
+
+/// A plan has these instants, over the plain stepper and over books, and whatever is found no step is run twice.
+fn gives<R: Abort + Threads + Sync>(rt: &R, alloc: Global, planned: &[Planned], expected: &str) {
     let (steps, looks) = (Blank::new(1), Blank::new(1));
     let told = told::<Brand, Brand>(steps, looks, alloc, planned).expect(rt, "memory");
     assert_eq!(rt; told.as_str(), expected);
+    for pieces in [1, 64] {
+        let (first, second, statements) = spread(rt, alloc, planned, pieces).expect(rt, "memory");
+        assert_eq!(rt; first.as_str(), expected);
+        assert_eq!(rt; second.as_str(), expected);
+        assert_eq!(rt; statements, 0);
+    }
 }
 
 #[test]

@@ -10,6 +10,10 @@ pub record PublishedChapter : Type 0 where
   pub store : Shelves
   pub chapter : StoredSteps
 
+-- what the receipt of a chapter shows
+abbrev pub receipt_of : Shelves → StoredSteps → PublishedChapter
+receipt_of store chapter = record { store = store; chapter = chapter }
+
 -- how many chapters one shelf may publish
 abbrev pub most_published : ℕ
 most_published = 16

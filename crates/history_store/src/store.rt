@@ -2,7 +2,7 @@
 
 ghost use Rattle.std.specs.Prelude.{◌≡◌, ◌+◌, ◌≤◌, IfOk, IfErr, OnOk, OnErr};
 ghost use Rattle.history_store.specs.Learning.{HasLearnt};
-ghost use Rattle.history_store.specs.Publishing.{IsCause, most_published};
+ghost use Rattle.history_store.specs.Publishing.{IsCause, most_published, receipt_of};
 
 use crate::shelf::{MOST_PUBLISHED, Shelf};
 use aerie_base::OutOfMemory;
@@ -88,7 +88,7 @@ impl Store {
         shelf: &mut Shelf,
         chapter: Chapter,
     ) -> Result<Receipt, Returned>
-        ensures published { IfOk result (λ receipt. receipt ≡ record { store = self.now; chapter = chapter }) }
+        ensures published { IfOk result (λ receipt. receipt ≡ receipt_of self.now chapter) }
         ensures counted { OnOk result (shelf.new ≡ shelf.old + 1) }
         ensures few { shelf.new ≤ most_published }
         ensures returned { IfErr result (λ returned. returned.chapter ≡ chapter) }

@@ -6,6 +6,4 @@ mod chapters;
 #[cfg(test)]
 mod publishing;
 #[cfg(test)]
-mod refused_growth;
-#[cfg(test)]
 mod threads;

@@ -10,7 +10,9 @@ use Rattle.run_data.specs.laws.BatchFrames.{HasPath, AreFramesOf}
 use Rattle.run_data.specs.laws.LiveParts.{live}
 use Rattle.live_tasks.specs.declared.slots.Slot.{Slot}
 use Rattle.live_tasks.specs.Slots.{Slots, slot_at, table_of}
-use Rattle.live_tasks.specs.Endings.{FallDue, IsEnding, AreLive, IsTaking, AreFollowers}
+use Rattle.live_tasks.specs.declared.followers.Follower.{Follower}
+use Rattle.live_tasks.specs.Followers.{AreFollowers}
+use Rattle.live_tasks.specs.Endings.{FallDue, IsEnding, AreLive, IsTaking}
 use Rattle.live_tasks.proofs.Falling.{same_place, fall_place, none_anchored, stays_in_place}
 use Rattle.live_tasks.proofs.Settled.{undone, is_live_part}
 use Rattle.live_tasks.proofs.Tabled.{are_table}
@@ -113,7 +115,7 @@ starts_all now table frames numbers first slots live_ are is = (all_taken now ta
         let found = frame_of_path path frames has in
         ap has_begun (ap (task_at (after_frames now frames table)) (sym found.2) ∙ at_one_frame now frames table found.0 are.differ found.1)
 
-pub start_followers : (now : ℕ) (frame : Frame) (old new : Slots) (followers : List ℕ) → ((to : ℕ) → frame.path ≡ root to → FallDue now to Start old new) → (((to : ℕ) → frame.path ≡ root to → ⊥) → new ≡ old) →
+pub start_followers : (now : ℕ) (frame : Frame) (old new : Slots) (followers : List Follower) → ((to : ℕ) → frame.path ≡ root to → FallDue now to Start old new) → (((to : ℕ) → frame.path ≡ root to → ⊥) → new ≡ old) →
     AreFollowers old followers → AreFollowers new followers
 start_followers now frame old new followers falls same are = by (root_or_not frame.path)
   where

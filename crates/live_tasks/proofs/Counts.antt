@@ -28,7 +28,7 @@ count_split parent (found ∷ rest) = refl
 
 -- ---- the same tasks
 
-none_count : (parent : ℕ) (slots : Slots) → ((number : ℕ) → child_in parent (slot_at slots number) ≡ 0) → live_children_of parent slots ≡ 0
+pub none_count : (parent : ℕ) (slots : Slots) → ((number : ℕ) → child_in parent (slot_at slots number) ≡ 0) → live_children_of parent slots ≡ 0
 none_count parent [] none = refl
 none_count parent (found ∷ rest) none =
     let a : child_in parent found ≡ 0 = none 0 in

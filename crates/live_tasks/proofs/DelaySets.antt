@@ -7,7 +7,7 @@ use Rattle.std.specs.Ordering.{nat_cmp, is_eq, is_gt, ordering_then}
 use Rattle.std.specs.BTreeMap.{is_at}
 use Rattle.std.specs.BTreeSet as set
 use Rattle.std.specs.BTreeSet.{BTreeSet}
-use Rattle.live_tasks.specs.Listing.{delay_cmp, has_delay, ends_at, IsNoneBefore}
+use Rattle.live_tasks.specs.Listing.{delay_cmp, has_delay, ends_at, IsNoneBefore, IsLeastEnd}
 
 then_eq : (a b : Ordering) → is_eq (ordering_then a b) ≡ (is_eq a && is_eq b)
 then_eq Less b = refl
@@ -70,6 +70,10 @@ none_there delays now t n has low apart none number = by (has_delay delays now n
         let below = not_above t now (nat_cmp n number) (low (now, number) e) in
         let above = none t n has in
         absurd (apart (omega (arith, below, above)))
+
+-- none ends before the first
+pub first_is_least : (delays : BTreeSet (ℕ × ℕ)) (t n : ℕ) → has_delay delays t n ≡ true → set.IsLowerBound delay_cmp delays (t, n) → IsLeastEnd delays (Some t)
+first_is_least delays t n has low = ((n, has), λ time number e. not_above t time (nat_cmp n number) (low (time, number) e))
 
 pub none_at_all : (delays : BTreeSet (ℕ × ℕ)) → delays.keys ≡ [] → (time number : ℕ) → has_delay delays time number ≡ false
 none_at_all delays e time number = rw e refl

@@ -80,7 +80,7 @@ module _ (whole : Table) (now : ℕ) (path : List ℕ) where
   pub same_result : (task first : Task) → gone_on whole now path task ≡ gone_on whole now path first → result_of_phase task.phase ≡ result_of_phase first.phase
   same_result task first e = sym (gone_result task.phase) ∙ ap (λ (t : Task). result_of_phase t.phase) e ∙ gone_result first.phase
 
-  -- ---- a caller is slot_after_child_end
+  -- ---- a caller is told
 
   pub data Came (own : ℕ) (phase new : TaskPhase) : Type 0 where
     came : new ≡ due_phase whole now (back whole path phase) → IsFree new → Came own phase new
@@ -112,7 +112,7 @@ module _ (whole : Table) (now : ℕ) (path : List ℕ) where
   comes_back own result ended is (waiting condition state) = stayed refl (λ c i s f. absurd (cc))
   comes_back own result ended is (over value) = stayed refl (λ c i s f. absurd (cc))
 
-  -- ---- an anchored task is slot_after_child_end
+  -- ---- an anchored task is told
 
   pub data Fell (to : ℕ) (edge : Edge) (phase new : TaskPhase) : Type 0 where
     fell : new ≡ due_phase whole now (back whole path phase) → IsFree new → Fell to edge phase new

@@ -45,11 +45,11 @@ among_more number one (first ∷ rest) (inl e) = inr (among_more number one rest
 among_more number one (first ∷ rest) (inr (inl e)) = inl e
 among_more number one (first ∷ rest) (inr (inr h)) = inr (among_more number one rest (inr h))
 
-data LastOr (numbers : List ℕ) (one : ℕ) (place number : ℕ) : Type 0 where
+pub data LastOr {X : Type 0} (numbers : List X) (one : X) (place : ℕ) (number : X) : Type 0 where
   earlier_ : slice_get numbers place ≡ Some number → LastOr numbers one place number
   last : place ≡ length numbers → number ≡ one → LastOr numbers one place number
 
-last_or : (numbers : List ℕ) (one place number : ℕ) → slice_get (numbers ++ one ∷ []) place ≡ Some number → LastOr numbers one place number
+pub last_or : {X : Type 0} (numbers : List X) (one : X) (place : ℕ) (number : X) → slice_get (numbers ++ one ∷ []) place ≡ Some number → LastOr numbers one place number
 last_or [] one zero number at = last refl (let k : one ≡ number = cc in sym k)
 last_or [] one (suc place) number at = absurd (cc)
 last_or (first ∷ rest) one zero number at = earlier_ at

@@ -1,5 +1,5 @@
 -- Ready tasks by number in order of path are those of the table.
-use Rattle.std.proofs.Common.{◌≡◌, ◌≢◌, inl, inr, ℕ, suc, Bool, true, false, cond, List, [], ◌∷◌, Option, Some, None, refl, sym, ap, ◌∙◌, slice_get}
+use Rattle.std.proofs.Common.{◌≡◌, inl, inr, ℕ, suc, Bool, true, false, cond, List, [], ◌∷◌, Option, Some, None, refl, sym, ap, ◌∙◌, slice_get}
 use Rattle.std.proofs.lemmas.Bool.{false≢true}
 use Rattle.std.specs.BTreeMap.{is_at}
 use Rattle.aerie_base.specs.Paths.{path_cmp}
@@ -16,7 +16,7 @@ use Rattle.live_tasks.specs.Readies.{slot_entry, entries_at, ReadyInOrder}
 
 module _ (slots : Slots) where
   -- where a number is among some, its task is among theirs
-  in_at : (numbers : List ℕ) (number : ℕ) (slot : Slot) → IsNumberAmong number numbers → slot_at slots number ≡ Some slot → (place : ℕ) × (slice_get (entries_at slots numbers) place ≡ Some (slot.path, slot.task))
+  pub in_at : (numbers : List ℕ) (number : ℕ) (slot : Slot) → IsNumberAmong number numbers → slot_at slots number ≡ Some slot → (place : ℕ) × (slice_get (entries_at slots numbers) place ≡ Some (slot.path, slot.task))
   in_at [] number slot never at = absurd never
   in_at (first ∷ rest) number slot (inl e) at =
       (0, ap (λ o. slice_get (slot_entry o (entries_at slots rest)) 0) (ap (slot_at slots) (sym e) ∙ at))

@@ -1,15 +1,15 @@
 -- All live tasks changed, each by itself: rested, woken.
-use Rattle.std.proofs.Common.{◌≡◌, ℕ, nat_eq, Bool, true, false, List, Option, Some, None, is_some, option_map, refl, sym, ap, ◌∙◌, subst, if◌then◌else◌}
-use Rattle.std.proofs.lemmas.Bool.{false≢true}
+use Rattle.std.proofs.Common.{◌≡◌, ℕ, nat_eq, Bool, true, false, List, Option, Some, None, option_map, refl, sym, ap, ◌∙◌, subst, if◌then◌else◌}
 use Rattle.aerie_base.specs.declared.plans.Edge.{Edge}
 use Rattle.run_data.specs.declared.tasks.TaskState.{TaskState}
 use Rattle.run_data.specs.Tasks.{TaskPhase, anchored, ready, delayed, waiting, calling, over, Task, Table, task_at, on_each, rested, rested_phase}
 use Rattle.run_data.specs.laws.OpenTasks.{rested_open}
 use Rattle.run_data.specs.laws.TableParts.{same_tables}
 use Rattle.live_tasks.specs.declared.slots.Slot.{Slot}
-use Rattle.live_tasks.specs.Phases.{anchor_of_start}
+use Rattle.live_tasks.specs.declared.followers.Follower.{Follower}
+use Rattle.live_tasks.specs.Followers.{Follows, AreFollowers}
 use Rattle.live_tasks.specs.Slots.{Slots, slot_at, AreTable, table_of}
-use Rattle.live_tasks.specs.Endings.{AreFollowers, IsNumberAmong, AreLive}
+use Rattle.live_tasks.specs.Endings.{AreLive}
 use Rattle.live_tasks.specs.Changes.{slot_changed, KeepsKinds, AreChanged}
 use Rattle.live_tasks.proofs.Changes.{mild_keeps_live}
 use Rattle.live_tasks.proofs.Tabled.{are_table}
@@ -48,25 +48,18 @@ module _ (change : List ℕ → Task → Task) (mild : KeepsKinds change) (old n
 
 -- ---- who is anchored was
 
-anchored_by : (phase : TaskPhase) → is_some (anchor_of_start phase) ≡ true → (to : ℕ) × (edge : Edge) × (start : ℕ) × (state : TaskState) × (phase ≡ anchored to edge start state)
-anchored_by (anchored to edge start state) e = (to, edge, start, state, refl)
-anchored_by (ready state) e = absurd (false≢true e)
-anchored_by (delayed until state) e = absurd (false≢true e)
-anchored_by (waiting condition state) e = absurd (false≢true e)
-anchored_by (calling child into state) e = absurd (false≢true e)
-anchored_by (over result) e = absurd (false≢true e)
-
-pub changed_followers : (change : List ℕ → Task → Task) → KeepsKinds change → (old new : Slots) (followers : List ℕ) → AreChanged change old new → AreFollowers old followers → AreFollowers new followers
-changed_followers change mild old new followers changed follow number slot at anchor = by (slot_at old number) refl
+pub changed_followers : (change : List ℕ → Task → Task) → KeepsKinds change → (old new : Slots) (followers : List Follower) → AreChanged change old new → AreFollowers old followers → AreFollowers new followers
+changed_followers change mild old new followers changed are = record { by_id = are.by_id; all = all }
   where
-    by : (o : Option Slot) → slot_at old number ≡ o → IsNumberAmong number followers
-    by None e = let f : Some slot ≡ None = sym at ∙ changed number ∙ ap (option_map (slot_changed change)) e in absurd (cc)
-    by (Some before) e =
-        let f : Some slot ≡ Some (slot_changed change before) = sym at ∙ changed number ∙ ap (option_map (slot_changed change)) e in
-        let g : slot ≡ slot_changed change before = cc in
-        let a = anchored_by slot.task.phase anchor in
-        let h : before.task.phase ≡ anchored a.0 a.1 a.2 a.3 = mild.anchor before.path before.task a.0 a.1 a.2 a.3 (ap (λ (s : Slot). s.task.phase) (sym g) ∙ a.4) in
-        follow number before e (ap (λ p. is_some (anchor_of_start p)) h)
+    all : (number : ℕ) (slot : Slot) → slot_at new number ≡ Some slot → (to : ℕ) (edge : Edge) (start : ℕ) (state : TaskState) → slot.task.phase ≡ anchored to edge start state → Follows number to followers
+    all number slot at to edge start state anchor = by (slot_at old number) refl
+      where
+        by : (o : Option Slot) → slot_at old number ≡ o → Follows number to followers
+        by None e = let f : Some slot ≡ None = sym at ∙ changed number ∙ ap (option_map (slot_changed change)) e in absurd (cc)
+        by (Some before) e =
+            let f : Some slot ≡ Some (slot_changed change before) = sym at ∙ changed number ∙ ap (option_map (slot_changed change)) e in
+            let g : slot ≡ slot_changed change before = cc in
+            are.all number before e to edge start state (mild.anchor before.path before.task to edge start state (ap (λ (s : Slot). s.task.phase) (sym g) ∙ anchor))
 
 -- ---- delays that end
 

@@ -1,14 +1,17 @@
 -- One task after another ends, upwards.
-use Rattle.std.proofs.Common.{◌≡◌, ◌≢◌, ◌⊎◌, inl, inr, ℕ, Bool, true, false, nat_eq, List, ◌∷◌, Option, Some, None, is_some, option_map, refl, sym, ap, ◌∙◌, subst, if◌then◌else◌}
+use Rattle.std.proofs.Common.{◌≡◌, ◌≢◌, ◌⊎◌, inl, inr, ℕ, zero, suc, Bool, true, false, ◌&&◌, nat_eq, List, ◌∷◌, Option, Some, None, Result, Ok, Err, OnOk, option_map, refl, sym, ap, ◌∙◌, subst, if◌then◌else◌}
 use Rattle.aerie_base.specs.declared.values.Value.{Value}
 use Rattle.aerie_base.specs.declared.plans.Edge.{Edge}
 use Rattle.run_data.specs.TaskFrames.{Frame}
 use Rattle.run_data.specs.Endings.{with_result}
-use Rattle.run_data.specs.Tasks.{TaskPhase, anchored, ready, delayed, waiting, calling, over, Table}
+use Rattle.run_data.specs.declared.tasks.TaskState.{TaskState}
+use Rattle.run_data.specs.Tasks.{TaskPhase, anchored, ready, delayed, waiting, calling, over, after_delay, Table}
 use Rattle.live_tasks.specs.declared.slots.Slot.{Slot}
-use Rattle.live_tasks.specs.Phases.{anchor_of_start, phase_with_return, phase_when_due}
+use Rattle.live_tasks.specs.declared.followers.Follower.{Follower}
+use Rattle.live_tasks.specs.Followers.{Follows, AreFollowers}
+use Rattle.live_tasks.specs.Phases.{phase_with_return, phase_when_due, is_same_edge}
 use Rattle.live_tasks.specs.Slots.{Slots, slot_at, Becomes, StandsUnder}
-use Rattle.live_tasks.specs.Endings.{slot_has_ended, slot_after_child_end, slot_when_due, FallDue, LeavesBehind, OneEnds, IsNumberAmong, with_next, AreFollowers, IsEnding}
+use Rattle.live_tasks.specs.Endings.{slot_has_ended, slot_after_child_end, slot_when_due, FallDue, LeavesBehind, OneEnds, IsNumberAmong, with_next, IsEnding}
 use Rattle.live_tasks.proofs.Forests.{same_or_not}
 use Rattle.live_tasks.proofs.Upwards.{above_there, goes_up}
 use Rattle.live_tasks.proofs.Falling.{root_ends}
@@ -69,60 +72,83 @@ module _ (now : ℕ) (whole : Table) (frames : List Frame) (todo : List ℕ) (ol
 
 -- ---- followers
 
-given_anchor : (own : ℕ) (result : Option Value) (phase : TaskPhase) → is_some (anchor_of_start (phase_with_return own result phase)) ≡ true → is_some (anchor_of_start phase) ≡ true
-given_anchor own result (calling child into state) e = by (nat_eq child own) e
+given_anchor : (own : ℕ) (result : Option Value) (phase : TaskPhase) (to : ℕ) (edge : Edge) (start : ℕ) (state : TaskState) →
+    phase_with_return own result phase ≡ anchored to edge start state → phase ≡ anchored to edge start state
+given_anchor own result (calling child into other) to edge start state e = by (nat_eq child own) e
   where
-    by : (b : Bool) → is_some (anchor_of_start (if b then ready (with_result into result state) else calling child into state)) ≡ true → is_some (anchor_of_start (calling child into state)) ≡ true
-    by true f = f
+    by : (b : Bool) → (if b then ready (with_result into result other) else calling child into other) ≡ anchored to edge start state → calling child into other ≡ anchored to edge start state
+    by true f = absurd (cc)
     by false f = f
-given_anchor own result (anchored to edge start state) e = refl
-given_anchor own result (ready state) e = e
-given_anchor own result (delayed until state) e = e
-given_anchor own result (waiting condition state) e = e
-given_anchor own result (over value) e = e
+given_anchor own result (anchored id at long other) to edge start state e = e
+given_anchor own result (ready other) to edge start state e = e
+given_anchor own result (delayed until other) to edge start state e = e
+given_anchor own result (waiting condition other) to edge start state e = e
+given_anchor own result (over value) to edge start state e = e
 
-fallen_anchor : (now to : ℕ) (edge : Edge) (phase : TaskPhase) → is_some (anchor_of_start (phase_when_due now to edge phase)) ≡ true → is_some (anchor_of_start phase) ≡ true
-fallen_anchor now to edge (anchored id at start state) e = refl
-fallen_anchor now to edge (ready state) e = e
-fallen_anchor now to edge (delayed until state) e = e
-fallen_anchor now to edge (waiting condition state) e = e
-fallen_anchor now to edge (calling child into state) e = e
-fallen_anchor now to edge (over value) e = e
+delay_no_anchor : (now by : ℕ) (other : TaskState) (to : ℕ) (edge : Edge) (start : ℕ) (state : TaskState) → after_delay now by other ≡ anchored to edge start state → ⊥
+delay_no_anchor now zero other to edge start state e = cc
+delay_no_anchor now (suc by) other to edge start state e = cc
 
-pub fall_followers : (now to : ℕ) (edge : Edge) (old new : Slots) (followers : List ℕ) → FallDue now to edge old new → AreFollowers old followers → AreFollowers new followers
-fall_followers now to edge old new followers falls are number slot at e = by (slot_at old number) refl
+fallen_anchor : (now id : ℕ) (at : Edge) (phase : TaskPhase) (to : ℕ) (edge : Edge) (start : ℕ) (state : TaskState) →
+    phase_when_due now id at phase ≡ anchored to edge start state → phase ≡ anchored to edge start state
+fallen_anchor now id at (anchored its point long other) to edge start state e = by (nat_eq its id && is_same_edge point at) e
   where
-    by : (o : Option Slot) → slot_at old number ≡ o → IsNumberAmong number followers
-    by None f = let g : Some slot ≡ None = sym at ∙ falls number ∙ ap (option_map (slot_when_due now to edge)) f in absurd (cc)
-    by (Some before) f =
-        let g : Some slot ≡ Some (slot_when_due now to edge before) = sym at ∙ falls number ∙ ap (option_map (slot_when_due now to edge)) f in
-        let h : slot ≡ slot_when_due now to edge before = cc in
-        are number before f (fallen_anchor now to edge before.task.phase (ap (λ (s : Slot). is_some (anchor_of_start s.task.phase)) (sym h) ∙ e))
+    by : (b : Bool) → (if b then after_delay now long other else anchored its point long other) ≡ anchored to edge start state → anchored its point long other ≡ anchored to edge start state
+    by true f = absurd (delay_no_anchor now long other to edge start state f)
+    by false f = f
+fallen_anchor now id at (ready other) to edge start state e = e
+fallen_anchor now id at (delayed until other) to edge start state e = e
+fallen_anchor now id at (waiting condition other) to edge start state e = e
+fallen_anchor now id at (calling child into other) to edge start state e = e
+fallen_anchor now id at (over value) to edge start state e = e
 
-becomes_followers : (old new : Slots) (number : ℕ) (followers : List ℕ) (found : Option Slot) → Becomes old new number found →
-    ((slot : Slot) → found ≡ Some slot → is_some (anchor_of_start slot.task.phase) ≡ true → IsNumberAmong number followers) → AreFollowers old followers → AreFollowers new followers
-becomes_followers old new number followers found is has are n s at e = by (same_or_not n number)
+pub fall_followers : (now to : ℕ) (edge : Edge) (old new : Slots) (followers : List Follower) → FallDue now to edge old new → AreFollowers old followers → AreFollowers new followers
+fall_followers now to edge old new followers falls are = record { by_id = are.by_id; all = all }
   where
-    by : (n ≡ number) ⊎ (n ≢ number) → IsNumberAmong n followers
-    by (inl f) = subst (λ m. IsNumberAmong m followers) (sym f) (has s (sym is.is_there ∙ ap (slot_at new) (sym f) ∙ at) e)
-    by (inr apart) = are n s (sym (is.others n apart) ∙ at) e
+    all : (number : ℕ) (slot : Slot) → slot_at new number ≡ Some slot → (id : ℕ) (at : Edge) (start : ℕ) (state : TaskState) → slot.task.phase ≡ anchored id at start state → Follows number id followers
+    all number slot there id at start state e = by (slot_at old number) refl
+      where
+        by : (o : Option Slot) → slot_at old number ≡ o → Follows number id followers
+        by None f = let g : Some slot ≡ None = sym there ∙ falls number ∙ ap (option_map (slot_when_due now to edge)) f in absurd (cc)
+        by (Some before) f =
+            let g : Some slot ≡ Some (slot_when_due now to edge before) = sym there ∙ falls number ∙ ap (option_map (slot_when_due now to edge)) f in
+            let h : slot ≡ slot_when_due now to edge before = cc in
+            are.all number before f id at start state (fallen_anchor now to edge before.task.phase id at start state (ap (λ (s : Slot). s.task.phase) (sym h) ∙ e))
 
-pub out_followers : (old new : Slots) (number : ℕ) (followers : List ℕ) → Becomes old new number None → AreFollowers old followers → AreFollowers new followers
-out_followers old new number followers is are = becomes_followers old new number followers None is (λ s e f. absurd (cc)) are
+becomes_followers : (old new : Slots) (number : ℕ) (followers : List Follower) (found : Option Slot) → Becomes old new number found →
+    ((slot : Slot) → found ≡ Some slot → (to : ℕ) (edge : Edge) (start : ℕ) (state : TaskState) → slot.task.phase ≡ anchored to edge start state → Follows number to followers) →
+    AreFollowers old followers → AreFollowers new followers
+becomes_followers old new number followers found is has are = record { by_id = are.by_id; all = all }
+  where
+    all : (n : ℕ) (s : Slot) → slot_at new n ≡ Some s → (to : ℕ) (edge : Edge) (start : ℕ) (state : TaskState) → s.task.phase ≡ anchored to edge start state → Follows n to followers
+    all n s at to edge start state e = by (same_or_not n number)
+      where
+        by : (n ≡ number) ⊎ (n ≢ number) → Follows n to followers
+        by (inl f) = subst (λ m. Follows m to followers) (sym f) (has s (sym is.is_there ∙ ap (slot_at new) (sym f) ∙ at) to edge start state e)
+        by (inr apart) = are.all n s (sym (is.others n apart) ∙ at) to edge start state e
 
-pub told_followers : (old new : Slots) (number own : ℕ) (result : Option Value) (followers : List ℕ) →
+pub out_followers : (old new : Slots) (number : ℕ) (followers : List Follower) → Becomes old new number None → AreFollowers old followers → AreFollowers new followers
+out_followers old new number followers is are = becomes_followers old new number followers None is (λ s e to edge start state f. absurd (cc)) are
+
+pub told_followers : (old new : Slots) (number own : ℕ) (result : Option Value) (followers : List Follower) →
     Becomes old new number (option_map (slot_after_child_end own result) (slot_at old number)) → AreFollowers old followers → AreFollowers new followers
 told_followers old new number own result followers is are = becomes_followers old new number followers (option_map (slot_after_child_end own result) (slot_at old number)) is has are
   where
-    has : (s : Slot) → option_map (slot_after_child_end own result) (slot_at old number) ≡ Some s → is_some (anchor_of_start s.task.phase) ≡ true → IsNumberAmong number followers
-    has s e f = by (slot_at old number) refl
+    has : (s : Slot) → option_map (slot_after_child_end own result) (slot_at old number) ≡ Some s → (to : ℕ) (edge : Edge) (start : ℕ) (state : TaskState) →
+        s.task.phase ≡ anchored to edge start state → Follows number to followers
+    has s e to edge start state f = by (slot_at old number) refl
       where
-        by : (o : Option Slot) → slot_at old number ≡ o → IsNumberAmong number followers
+        by : (o : Option Slot) → slot_at old number ≡ o → Follows number to followers
         by None g = let h : None ≡ Some s = sym (ap (option_map (slot_after_child_end own result)) g) ∙ e in absurd (cc)
         by (Some above) g =
             let h : Some (slot_after_child_end own result above) ≡ Some s = sym (ap (option_map (slot_after_child_end own result)) g) ∙ e in
             let k : slot_after_child_end own result above ≡ s = cc in
-            are number above g (given_anchor own result above.task.phase (ap (λ (s : Slot). is_some (anchor_of_start s.task.phase)) k ∙ f))
+            are.all number above g to edge start state (given_anchor own result above.task.phase to edge start state (ap (λ (s : Slot). s.task.phase) k ∙ f))
+
+-- what holds whatever a call answers
+pub on_ok : {X Y P : Type 0} (result : Result X Y) → P → OnOk result P
+on_ok (Ok x) h = h
+on_ok (Err e) h = tt
 
 -- ---- the walk ends
 

@@ -100,7 +100,7 @@ in_order_from (one ∷ rest) h = (
   in_order_from rest (λ i j d most less. h (suc i) (suc j) d (omega (arith, most)) (omega (arith, less))),
 )
 
-strictly : (p q : List ℕ) → is_lt (path_cmp q p) ≡ false → (p ≡ q → ⊥) → path_cmp p q ≡ Less
+pub strictly : (p q : List ℕ) → is_lt (path_cmp q p) ≡ false → (p ≡ q → ⊥) → path_cmp p q ≡ Less
 strictly p q not_less apart = by (path_cmp p q) refl
   where
     by : (o : Ordering) → path_cmp p q ≡ o → path_cmp p q ≡ Less

@@ -1,20 +1,21 @@
 -- Once all frames of a batch are taken, the tasks are before its end.
-use Rattle.std.proofs.Common.{◌≡◌, ◌⊎◌, inl, inr, ℕ, ◌+◌, ◌-◌, true, false, List, [], ◌∷◌, ◌++◌, Option, Some, None, is_some, refl, sym, ap, ◌∙◌, arith}
+use Rattle.std.proofs.Common.{◌≡◌, ◌⊎◌, inl, inr, ℕ, ◌+◌, ◌-◌, false, List, [], ◌∷◌, ◌++◌, Option, Some, None, refl, sym, ap, ◌∙◌, arith}
 use Rattle.aerie_base.specs.declared.plans.Edge.{Edge}
 use Rattle.aerie_base.specs.declared.plans.Edge.TheVariants.{Start, End}
 use Rattle.aerie_base.specs.Paths.{root, child_path}
 use Rattle.run_data.specs.declared.tasks.TaskState.{TaskState}
 use Rattle.run_data.specs.TaskFrames.{Frame}
 use Rattle.run_data.specs.Endings.{has_begun}
-use Rattle.run_data.specs.Tasks.{TaskPhase, anchored, ready, delayed, waiting, calling, over, Task, Table, task_at, after_frames, children_made, children_in}
+use Rattle.run_data.specs.Tasks.{anchored, calling, Task, Table, task_at, after_frames, children_made, children_in}
 use Rattle.run_data.specs.laws.BatchFrames.{Among, HasPath, AreFramesOf}
 use Rattle.run_data.specs.laws.OpenTasks.{order_frames}
 use Rattle.run_data.specs.laws.FramesByPath.{either_path, frame_of_path, new_at, at_no_frame, at_one_frame}
 use Rattle.run_data.specs.laws.LiveAfterFrames.{calls_by, anchors_never}
 use Rattle.live_tasks.specs.declared.slots.Slot.{Slot}
-use Rattle.live_tasks.specs.Phases.{anchor_of_start}
+use Rattle.live_tasks.specs.declared.followers.Follower.{Follower}
+use Rattle.live_tasks.specs.Followers.{AreFollowers}
 use Rattle.live_tasks.specs.Slots.{Slots, slot_at, StandsUnder, HasSlot}
-use Rattle.live_tasks.specs.Endings.{IsNumberAmong, HasCalledChild, IsEnding, AreFollowers, AreLive, IsTaking}
+use Rattle.live_tasks.specs.Endings.{HasCalledChild, IsEnding, AreLive, IsTaking}
 use Rattle.live_tasks.proofs.Forests.{root_length, below_length, long_path}
 use Rattle.live_tasks.proofs.Taking.{has_through}
 
@@ -154,18 +155,13 @@ module _ (now : ℕ) (table : Table) (frames : List Frame) (numbers : List ℕ) 
   }
 
   -- who is anchored was so before
-  pub taken_followers : (followers : List ℕ) → AreFollowers first followers → AreFollowers slots followers
-  taken_followers followers all number slot at e = by slot.task.phase refl e
-    where
-      by : (phase : TaskPhase) → slot.task.phase ≡ phase → is_some (anchor_of_start phase) ≡ true → IsNumberAmong number followers
-      by (anchored to edge start state) f g =
-          let u = unframed_where_anchored number slot at to edge start state f in
-          all number u.was u.there (ap (λ (t : Task). is_some (anchor_of_start t.phase)) (sym u.task) ∙ ap (λ p. is_some (anchor_of_start p)) f ∙ g)
-      by (ready state) f g = absurd (cc)
-      by (delayed until state) f g = absurd (cc)
-      by (waiting condition state) f g = absurd (cc)
-      by (calling child into state) f g = absurd (cc)
-      by (over result) f g = absurd (cc)
+  pub taken_followers : (followers : List Follower) → AreFollowers first followers → AreFollowers slots followers
+  taken_followers followers are = record {
+    by_id = are.by_id;
+    all = λ number slot at to edge start state e.
+        let u = unframed_where_anchored number slot at to edge start state e in
+        are.all number u.was u.there to edge start state (ap (λ (t : Task). t.phase) (sym u.task) ∙ e);
+  }
 
 -- before any frame
 pub none_taken : (table : Table) (slots : Slots) → AreLive table slots → IsTaking slots [] table slots

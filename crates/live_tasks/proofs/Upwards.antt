@@ -1,4 +1,4 @@
--- A task that has ended is taken out and its parent slot_after_child_end.
+-- A task that has ended is taken out and its parent is told.
 use Rattle.std.proofs.Common.{◌≡◌, ◌≢◌, ◌⊎◌, inl, inr, ℕ, ◌+◌, ◌-◌, true, false, List, ◌∷◌, length, Option, Some, None, refl, sym, ap, ◌∙◌, subst, arith}
 use Rattle.aerie_base.specs.declared.values.Value.{Value}
 use Rattle.aerie_base.specs.Paths.{root, child_path}

@@ -1,5 +1,5 @@
 -- Tasks that have ended are left out, and tell those who wait for them.
-use Rattle.std.specs.Prelude.{◌≡◌, ◌⊎◌, ℕ, ◌+◌, ◌-◌, ◌<◌, nat_eq, Bool, true, false, not, ◌&&◌, List, [], ◌∷◌, length, Option, Some, None, is_some, option_map, slice_get, take, ◌^◌}
+use Rattle.std.specs.Prelude.{◌≡◌, ◌⊎◌, ℕ, ◌+◌, ◌-◌, ◌<◌, nat_eq, Bool, true, false, not, ◌&&◌, List, [], ◌∷◌, length, Option, Some, None, option_map, slice_get, take, ◌^◌}
 use Rattle.aerie_base.specs.declared.values.Value.{Value}
 use Rattle.aerie_base.specs.declared.plans.Edge.{Edge}
 use Rattle.aerie_base.specs.declared.plans.Edge.TheVariants.{Start, End}
@@ -15,7 +15,7 @@ use Rattle.run_data.specs.laws.LiveParts.{live}
 use Rattle.live_tasks.specs.declared.slots.Slot.{Slot}
 use Rattle.live_tasks.specs.declared.origins.Origin.{Origin}
 use Rattle.live_tasks.specs.declared.origins.Origin.TheVariants.{Ready, Child}
-use Rattle.live_tasks.specs.Phases.{anchor_of_start, task_with_return, fall_due}
+use Rattle.live_tasks.specs.Phases.{task_with_return, fall_due}
 use Rattle.live_tasks.specs.Slots.{Slots, slot_at, Becomes, IsForest, HasSlot, AreTable, table_of}
 
 -- ---- one task
@@ -36,11 +36,15 @@ slot_when_due now to edge slot = record slot { task = fall_due now to edge slot.
 abbrev pub FallDue : ℕ → ℕ → Edge → Slots → Slots → Type 0
 FallDue now to edge old new = (number : ℕ) → slot_at new number ≡ option_map (slot_when_due now to edge) (slot_at old number)
 
+-- what a root that begins leaves: those who are anchored to its start fall due
+abbrev pub RootStarts : ℕ → List ℕ → Slots → Slots → Type 0
+RootStarts now path old new = (to : ℕ) → path ≡ root to → FallDue now to Start old new
+
 -- what a root that has ended leaves: with a directive those who are anchored to its end fall due
 abbrev pub RootEnds : ℕ → List ℕ → Slots → Slots → Type 0
 RootEnds now path old new = (comes_from_daemon path ≡ true → new ≡ old) × (comes_from_daemon path ≡ false → FallDue now (id_of path) End old new)
 
--- what the end of a task leaves, where it is taken out: its parent is slot_after_child_end
+-- what the end of a task leaves, where it is taken out: its parent is told
 abbrev pub LeavesBehind : ℕ → Slot → Option ℕ → Slots → Slots → Type 0
 LeavesBehind now slot None out new = RootEnds now slot.path out new
 LeavesBehind now slot (Some parent) out new =
@@ -76,7 +80,7 @@ pub record HasCalledChild (slots : Slots) (parent child : ℕ) : Type 0 where
   pub own_is : slot.own ≡ child
 
 -- All that is live in the table with all frames is there; who waits for a child or for the end of a directive waits for one
--- that is there. Of these frames nobody was slot_after_child_end yet that a directive has begun, and of these numbers a task may have ended.
+-- that is there. Of these frames nobody was told yet that a directive has begun, and of these numbers a task may have ended.
 pub record IsEnding (now : ℕ) (whole : Table) (frames : List Frame) (todo : List ℕ) (slots : Slots) : Type 0 where
   pub order : IsOrderedTable whole
   pub forest : IsForest slots
@@ -89,10 +93,6 @@ pub record IsEnding (now : ℕ) (whole : Table) (frames : List Frame) (todo : Li
   pub starts : (number : ℕ) (slot : Slot) → slot_at slots number ≡ Some slot → (to start : ℕ) (state : TaskState) →
       slot.task.phase ≡ anchored to Start start state → (has_begun (task_at whole (root to)) ≡ false) ⊎ HasPath (root to) frames
   pub settled : (number : ℕ) (slot : Slot) → slot_at slots number ≡ Some slot → (slot_has_ended (Some slot) ≡ false) ⊎ IsNumberAmong number todo
-
--- each that is anchored is among the followers
-abbrev pub AreFollowers : Slots → List ℕ → Type 0
-AreFollowers slots followers = (number : ℕ) (slot : Slot) → slot_at slots number ≡ Some slot → is_some (anchor_of_start slot.task.phase) ≡ true → IsNumberAmong number followers
 
 -- what an operation makes of tasks
 abbrev pub Settles : ℕ → List Frame → List ℕ → List Frame → List ℕ → Slots → Slots → Type 0
@@ -131,6 +131,14 @@ pub record IsTaking (first : Slots) (numbers : List ℕ) (table : Table) (slots 
 
 abbrev pub slot_after_step : ℕ → Frame → Slot → Slot
 slot_after_step now frame slot = record slot { task = task_after now frame.status (slot.task.made + children_in frame.items) }
+
+-- the task of a number, after a frame of it
+abbrev pub StepsOne : ℕ → Frame → Slots → Slots → ℕ → Type 0
+StepsOne now frame old new number = (slot : Slot) → slot_at old number ≡ Some slot → Becomes old new number (Some (slot_after_step now frame slot))
+
+-- the task of a number may make so many children more
+abbrev pub MayMake : Slots → ℕ → ℕ → Type 0
+MayMake slots number children = (slot : Slot) → slot_at slots number ≡ Some slot → slot.task.made + children < 2 ^ 32
 
 abbrev pub slot_with_child : Slot → Slot
 slot_with_child above = record above { live_below = above.live_below + 1 }
@@ -196,6 +204,10 @@ pub record AreOrigins (first : Slots) (frames : List Frame) (origins : List Orig
 abbrev pub ChildrenAreFew : Table → Type 0
 ChildrenAreFew table = (path : List ℕ) → children_made (task_at table path) < 2 ^ 32
 
+-- all frames were taken, and these are the numbers of their tasks
+abbrev pub HasTakenAll : ℕ → List Frame → Slots → List ℕ → Slots → Type 0
+HasTakenAll now frames first numbers slots = IsTaking first numbers (after_frames now frames (table_of first)) slots
+
 -- the frames up to a place were taken, and these are the numbers of their tasks
 pub record HasTakenUpTo (now : ℕ) (first : Slots) (frames : List Frame) (place : ℕ) (numbers : List ℕ) (slots : Slots) : Type 0 where
   pub taking : IsTaking first numbers (after_frames now (take place frames) (table_of first)) slots
@@ -207,6 +219,10 @@ pub record MayTake (now : ℕ) (first : Slots) (frames : List Frame) (origins : 
   pub are : AreFramesOf (table_of first) frames
   pub origins_ : AreOrigins first frames origins
   pub small : ChildrenAreFew (after_frames now frames (table_of first))
+
+-- this holds of the task that a frame is of, if that was ready
+abbrev pub IfReady : Origin → (ℕ → Type 0) → Type 0
+IfReady origin holds = (number : ℕ) → origin ≡ Ready number → holds number
 
 abbrev pub TakesOne : ℕ → Frame → Origin → List ℕ → Slots → Slots → ℕ → Type 0
 TakesOne now frame (Ready mine) numbers old new number = (number ≡ mine) × TakesStep now mine frame old new

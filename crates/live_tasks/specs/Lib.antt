@@ -1,6 +1,7 @@
 pub mod Phases
 pub mod Slots
 pub mod Endings
+pub mod Followers
 pub mod Readies
 pub mod Sorting
 pub mod Reached
@@ -8,4 +9,16 @@ pub mod Changes
 pub mod Listing
 pub mod ListedSlots
 pub mod AnyOrder
+pub mod Conditions
+pub mod WakeTimes
+pub mod Watchers
+pub mod Waits
+pub mod Waking
+pub mod LeastTimes
+pub mod ReadyJobs
+pub mod FrameOrders
+pub mod BatchOrigins
+pub mod InStep
+pub mod PlannedTasks
+pub mod WaitCases
 pub mod Cases

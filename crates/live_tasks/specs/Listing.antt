@@ -71,6 +71,10 @@ pub record AreDelays (slots : Slots) (delays : BTreeSet (ℕ × ℕ)) : Type 0 w
   pub sorted : set.IsOrdered delay_cmp delays
   pub exact : (time number : ℕ) → has_delay delays time number ≡ ends_at time (delay_of_slot (slot_at slots number))
 
+-- a change of the set leaves it in order
+abbrev pub KeepsSorted : BTreeSet (ℕ × ℕ) → BTreeSet (ℕ × ℕ) → Type 0
+KeepsSorted before after = set.IsOrdered delay_cmp before → set.IsOrdered delay_cmp after
+
 -- the set with the end of one more delay
 abbrev pub HasDelayToo : ℕ → Option ℕ → BTreeSet (ℕ × ℕ) → BTreeSet (ℕ × ℕ) → Type 0
 HasDelayToo number delay before after =
@@ -84,6 +88,11 @@ HasDelayNoMore number time before after =
 -- no delay ends before a time
 abbrev pub IsNoneBefore : ℕ → BTreeSet (ℕ × ℕ) → Type 0
 IsNoneBefore now delays = (time number : ℕ) → has_delay delays time number ≡ true → now ≤ time
+
+-- the least end of a delay, if there is one
+abbrev pub IsLeastEnd : BTreeSet (ℕ × ℕ) → Option ℕ → Type 0
+IsLeastEnd delays None = (time number : ℕ) → has_delay delays time number ≡ false
+IsLeastEnd delays (Some time) = ((number : ℕ) × (has_delay delays time number ≡ true)) × IsNoneBefore time delays
 
 -- ---- both
 

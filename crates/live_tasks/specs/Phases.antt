@@ -1,5 +1,5 @@
 -- What a task is doing, as the engine has it, and what is asked of it.
-use Rattle.std.specs.Prelude.{ℕ, Bool, true, false, ◌&&◌, Option, Some, None, nat_eq, if◌then◌else◌}
+use Rattle.std.specs.Prelude.{ℕ, Bool, true, false, ◌&&◌, List, Option, Some, None, nat_eq, if◌then◌else◌}
 use Rattle.aerie_base.specs.declared.values.Value.{Value}
 use Rattle.aerie_base.specs.declared.conditions.Cond.{Cond}
 use Rattle.aerie_base.specs.declared.plans.Anchor.{Anchor}
@@ -87,6 +87,18 @@ task_with_return own result task = record task { phase = phase_with_return own r
 
 abbrev pub fall_due : ℕ → ℕ → Edge → Task → Task
 fall_due now id at task = record task { phase = phase_when_due now id at task.phase }
+
+-- a task that waits for a condition goes on
+abbrev pub phase_after_wait : TaskPhase → TaskPhase
+phase_after_wait (waiting condition state) = ready state
+phase_after_wait (anchored to edge start state) = anchored to edge start state
+phase_after_wait (ready state) = ready state
+phase_after_wait (delayed until state) = delayed until state
+phase_after_wait (calling child into state) = calling child into state
+phase_after_wait (over result) = over result
+
+abbrev pub after_wait : List ℕ → Task → Task
+after_wait path task = record task { phase = phase_after_wait task.phase }
 
 -- whether an item is a child
 abbrev pub is_child_item : Item → Bool

@@ -1,5 +1,7 @@
 -- The ready tasks by number, in order of path.
-use Rattle.std.specs.Prelude.{◌≡◌, ℕ, true, List, [], ◌∷◌, Option, Some, None}
+use Rattle.std.specs.Prelude.{◌≡◌, ℕ, Bool, true, false, List, [], ◌∷◌, Option, Some, None}
+use Rattle.std.specs.Ordering.{is_lt}
+use Rattle.aerie_base.specs.Paths.{path_cmp}
 use Rattle.effect_cells.specs.declared.effects.CellState.{CellState}
 use Rattle.run_data.specs.Tasks.{Table, ready_jobs}
 use Rattle.run_data.specs.laws.OrderedTables.{IsOrderedTable}
@@ -18,6 +20,12 @@ slot_entry (Some slot) rest = (slot.path, slot.task) ∷ rest
 abbrev pub entries_at : Slots → List ℕ → Table
 entries_at slots [] = []
 entries_at slots (number ∷ rest) = slot_entry (slot_at slots number) (entries_at slots rest)
+
+-- whether a task comes before another in order of path
+abbrev pub is_slot_before : Option Slot → Option Slot → Bool
+is_slot_before None second = false
+is_slot_before (Some slot) None = false
+is_slot_before (Some slot) (Some second) = is_lt (path_cmp slot.path second.path)
 
 -- the numbers are those of the ready tasks, and their paths rise
 pub record AreReadyNumbers (slots : Slots) (numbers : List ℕ) : Type 0 where

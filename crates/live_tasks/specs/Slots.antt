@@ -1,5 +1,5 @@
 -- Tasks that are live, by number: what stands at a number, and when that is a table of tasks.
-use Rattle.std.specs.Prelude.{◌≡◌, ◌≢◌, ◌⊎◌, ℕ, ◌+◌, nat_eq, List, [], ◌∷◌, Option, Some, None, slice_index_or, if◌then◌else◌}
+use Rattle.std.specs.Prelude.{◌≡◌, ◌≢◌, ◌⊎◌, ℕ, ◌+◌, nat_eq, List, [], ◌∷◌, Option, Some, None, option_map, slice_index_or, if◌then◌else◌}
 use Rattle.aerie_base.specs.Paths.{root, daemon_root, child_path}
 use Rattle.run_data.specs.Tasks.{Task, Table, task_at}
 use Rattle.run_data.specs.laws.NumberedTasks.{sorted_tasks}
@@ -18,6 +18,10 @@ slot_at slots number = slice_index_or slots number None
 pub record Becomes (old new : Slots) (number : ℕ) (found : Option Slot) : Type 0 where
   pub is_there : slot_at new number ≡ found
   pub others : (other : ℕ) → other ≢ number → slot_at new other ≡ slot_at old other
+
+-- the task of a number, if there is one, is changed
+abbrev pub ChangesOne : (Slot → Slot) → Slots → Slots → ℕ → Type 0
+ChangesOne change old new number = Becomes old new number (option_map change (slot_at old number))
 
 -- ---- the children of a number
 

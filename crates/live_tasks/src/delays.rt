@@ -2,7 +2,7 @@
 
 ghost use Rattle.std.specs.Prelude.{◌≡◌, ◌<◌, ℕ, true, false, None, IfSome, OnOk};
 ghost use Rattle.std.specs.BTreeSet as set;
-ghost use Rattle.live_tasks.specs.Listing.{has_delay, HasDelayToo, HasDelayNoMore, IsNoneBefore, delay_cmp};
+ghost use Rattle.live_tasks.specs.Listing.{has_delay, HasDelayToo, HasDelayNoMore, IsNoneBefore, IsLeastEnd, KeepsSorted};
 
 use crate::phases::micros;
 use aerie_base::{OutOfMemory, Time};
@@ -15,7 +15,7 @@ pub fn list_delay(
     delay: Option<u64>,
 ) -> Result<(), OutOfMemory>
     ensures more { OnOk result (HasDelayToo number delay delays.old delays.new) }
-    ensures sorted { set.IsOrdered delay_cmp delays.old → set.IsOrdered delay_cmp delays.new }
+    ensures sorted { KeepsSorted delays.old delays.new }
 {
     let Some(time) = delay else {
         return Ok(());
@@ -27,8 +27,9 @@ pub fn list_delay(
 /// Takes the end of a delay at a time out of others.
 pub fn end_delay(delays: &mut BTreeSet<(u64, usize)>, number: usize, now: Time)
     ensures less { HasDelayNoMore number now delays.old delays.new }
-    ensures fewer { has_delay delays.old now number ≡ true → set.btree_set_len delays.new < set.btree_set_len delays.old }
-    ensures sorted { set.IsOrdered delay_cmp delays.old → set.IsOrdered delay_cmp delays.new }
+    ensures fewer { has_delay delays.old now number ≡ true →
+        set.btree_set_len delays.new < set.btree_set_len delays.old }
+    ensures sorted { KeepsSorted delays.old delays.new }
 {
     delays.remove(&(micros(now), number));
 }
@@ -36,7 +37,8 @@ pub fn end_delay(delays: &mut BTreeSet<(u64, usize)>, number: usize, now: Time)
 /// The number of a task whose delay ends at a time, where none ends earlier.
 pub fn first_due(delays: &BTreeSet<(u64, usize)>, now: Time) -> Option<usize>
     ensures found { IfSome result (λ number. has_delay delays.now now number ≡ true) }
-    ensures none { result ≡ None → IsNoneBefore now delays.now → (number : ℕ) → has_delay delays.now now number ≡ false }
+    ensures none { result ≡ None → IsNoneBefore now delays.now →
+        (number : ℕ) → has_delay delays.now now number ≡ false }
 {
     match delays.first() {
         Some((time, number)) => {
@@ -46,6 +48,16 @@ pub fn first_due(delays: &BTreeSet<(u64, usize)>, now: Time) -> Option<usize>
                 None
             }
         }
+        None => None,
+    }
+}
+
+/// The least end of a delay.
+pub fn least_end(delays: &BTreeSet<(u64, usize)>) -> Option<u64>
+    ensures { IsLeastEnd delays.now result }
+{
+    match delays.first() {
+        Some((time, _)) => Some(*time),
         None => None,
     }
 }

@@ -1,33 +1,34 @@
 //! The live tasks by number, with lists of those that are ready and of the ends of delays.
 
-ghost use Rattle.std.specs.Prelude.{◌≡◌, ◌<◌, ◌^◌, ◌+◌, ℕ, [], true, false, None, Some, IfOk, OnOk, option_map};
+ghost use Rattle.std.specs.Prelude.{◌≡◌, ◌<◌, ◌+◌, ℕ, [], true, false, None, Some, IfOk, OnOk};
 ghost use Rattle.std.specs.BTreeSet as set;
 ghost use Rattle.slab.specs.Slab.{slab_len};
 ghost use Rattle.run_data.specs.Tasks.{children_in, rested};
-ghost use Rattle.live_tasks.specs.declared.slots.Slot.{Slot as Live};
-ghost use Rattle.live_tasks.specs.Slots.{slot_at, Becomes, IsForest};
-ghost use Rattle.live_tasks.specs.Readies.{AreReadyTasks};
-ghost use Rattle.live_tasks.specs.Endings.{slot_has_ended, slot_after_child_end, slot_when_due, slot_after_step, slot_with_child};
+ghost use Rattle.live_tasks.specs.Slots.{slot_at, Becomes, ChangesOne, IsForest};
+ghost use Rattle.live_tasks.specs.Readies.{AreReadyTasks, AreReadyNumbers};
+ghost use Rattle.live_tasks.specs.Endings.{slot_has_ended, slot_after_child_end, slot_when_due, slot_with_child, StepsOne, MayMake};
 ghost use Rattle.live_tasks.specs.Changes.{slot_changed, AreChanged};
-ghost use Rattle.live_tasks.specs.Listing.{is_ready_slot, delay_of_slot, is_newly_ready, listed_if, ready_among, delay_cmp, has_delay, HasDelayToo, HasDelayNoMore, IsNoneBefore};
-ghost use Rattle.live_tasks.specs.ListedSlots.{ListsExactly, ListsAll, KeepsAll, KeepsExactly};
+ghost use Rattle.live_tasks.specs.Listing.{is_ready_slot, delay_of_slot, is_newly_ready, listed_if, ready_among, has_delay, KeepsSorted, HasDelayToo, HasDelayNoMore, IsNoneBefore};
+ghost use Rattle.live_tasks.specs.ListedSlots.{ListsExactly, ListsAll, KeepsAll, KeepsExactly, KeepsWaits, AreWaitsKeptFor, slot_in};
 
 use crate::delays::{end_delay, first_due, list_delay};
-use crate::readies::{ReadyTask, in_order, of_numbers};
+use crate::readies::{ReadyTask, in_order, numbers_of, of_numbers, rise};
 use crate::slots::{Slot, count, delay, fall_due, insert, is_ready, rest, step, take_out, tell};
+use crate::waits::{Waits, begin_wait};
 use aerie_base::{Edge, OutOfMemory, Time, Value};
 use run_data::Frame;
 use slab::Slab;
 use std::alloc::Global;
 use std::collections::BTreeSet;
 
-/// The live tasks by number; the numbers of those that are ready, in no order; and the ends of delays in microseconds, each
-/// with the number of its task.
+/// The live tasks by number; the numbers of those that are ready, in no order; the ends of delays in microseconds, each with
+/// the number of its task; and what is kept of those that wait for conditions.
 #[derive(Drop)]
 pub struct ListedSlots {
     pub slots: Slab<Slot>,
     pub readies: Vec<usize>,
     pub delays: BTreeSet<(u64, usize)>,
+    pub waits: Waits,
 }
 
 /// Puts a number behind others, if it is to be listed.
@@ -56,25 +57,31 @@ fn still_ready(
 }
 
 impl ListedSlots {
-    /// No task.
-    pub fn new(alloc: Global) -> ListedSlots
-        ensures slots { result.slots.slots ≡ [] }
-        ensures listed { ListsExactly result }
+    /// No task; so many cells may be waited for.
+    pub fn new(alloc: Global, cells: usize) -> Result<ListedSlots, OutOfMemory>
+        ensures slots { IfOk result (λ tables. tables.slots.slots ≡ []) }
+        ensures listed { IfOk result ListsExactly }
+        ensures kept { IfOk result (AreWaitsKeptFor cells) }
     {
-        ListedSlots {
-            slots: Slab::new(alloc),
+        let waits = Waits::new(alloc, cells)?;
+        let slots = Slab::new(alloc);
+        Ok(ListedSlots {
+            slots,
             readies: Vec::new(alloc),
             delays: BTreeSet::new(alloc),
-        }
+            waits,
+        })
     }
 
     /// Lists the task of a number as it is now; it may have been ready before.
     fn list(&mut self, number: usize, was_ready: bool) -> Result<(), OutOfMemory>
         ensures slots { self.new.slots ≡ self.old.slots }
         ensures readies { OnOk result (self.new.readies.items
-            ≡ listed_if (is_newly_ready was_ready (slot_at self.old.slots.slots number)) number self.old.readies.items) }
-        ensures delays { OnOk result (HasDelayToo number (delay_of_slot (slot_at self.old.slots.slots number)) self.old.delays self.new.delays) }
-        ensures sorted { OnOk result (set.IsOrdered delay_cmp self.old.delays → set.IsOrdered delay_cmp self.new.delays) }
+            ≡ listed_if (is_newly_ready was_ready (slot_in self.old number)) number self.old.readies.items) }
+        ensures delays { OnOk result (
+            HasDelayToo number (delay_of_slot (slot_in self.old number)) self.old.delays self.new.delays) }
+        ensures sorted { OnOk result (KeepsSorted self.old.delays self.new.delays) }
+        ensures waits { self.new.waits ≡ self.old.waits }
     {
         let is_new = is_ready(&self.slots, number) && !was_ready;
         push_if(&mut self.readies, number, is_new)?;
@@ -91,33 +98,38 @@ impl ListedSlots {
         number: usize,
         frame: &Frame,
     ) -> Result<(), OutOfMemory>
-        requires few { (slot : Live) → slot_at self.old.slots.slots number ≡ Some slot → slot.task.made + children_in frame.now.items < 2 ^ 32 }
+        requires few { MayMake self.old.slots.slots number (children_in frame.now.items) }
         requires ready { is_ready_slot (slot_at self.old.slots.slots number) ≡ true }
-        ensures is { OnOk result ((slot : Live) → slot_at self.old.slots.slots number ≡ Some slot →
-            Becomes self.old.slots.slots self.new.slots.slots number (Some (slot_after_step now frame.now slot))) }
+        ensures is { OnOk result (StepsOne now frame.now self.old.slots.slots self.new.slots.slots number) }
         ensures listed { OnOk result (KeepsAll self.old self.new) }
+        ensures waits { OnOk result (KeepsWaits self.old self.new) }
     {
         step(&mut self.slots, alloc, now, number, frame)?;
         self.list(number, true)?;
+        begin_wait(&mut self.waits, &self.slots, number)?;
         Ok(())
     }
 
     /// Puts a task where none is.
     pub fn insert(&mut self, slot: Slot) -> Result<usize, OutOfMemory>
         ensures vacant { IfOk result (λ number. slot_at self.old.slots.slots number ≡ None) }
-        ensures is { IfOk result (λ number. Becomes self.old.slots.slots self.new.slots.slots number (Some slot)) }
+        ensures is { IfOk result (λ number.
+            Becomes self.old.slots.slots self.new.slots.slots number (Some slot)) }
         ensures listed { OnOk result (KeepsAll self.old self.new) }
+        ensures waits { OnOk result (KeepsWaits self.old self.new) }
     {
         let number = insert(&mut self.slots, slot)?;
         self.list(number, false)?;
+        begin_wait(&mut self.waits, &self.slots, number)?;
         Ok(number)
     }
 
     /// One child more of the task of a number is live.
     pub fn count(&mut self, number: usize) -> Result<(), OutOfMemory>
-        ensures is { OnOk result (Becomes self.old.slots.slots self.new.slots.slots number
-            (option_map slot_with_child (slot_at self.old.slots.slots number))) }
+        ensures is { OnOk result (
+            ChangesOne slot_with_child self.old.slots.slots self.new.slots.slots number) }
         ensures listed { OnOk result (KeepsAll self.old self.new) }
+        ensures waits { OnOk result (KeepsWaits self.old self.new) }
     {
         count(&mut self.slots, number)?;
         Ok(())
@@ -127,6 +139,7 @@ impl ListedSlots {
     pub fn relist(&mut self, alloc: Global) -> Result<(), OutOfMemory>
         ensures slots { self.new.slots ≡ self.old.slots }
         ensures listed { OnOk result (ListsAll self.old → ListsExactly self.new) }
+        ensures waits { OnOk result (KeepsWaits self.old self.new) }
     {
         let still = still_ready(alloc, &self.slots, self.readies.as_slice())?;
         self.readies = still;
@@ -140,6 +153,7 @@ impl ListedSlots {
         ensures is { Becomes self.old.slots.slots self.new.slots.slots number None }
         ensures fewer { slab_len self.new.slots + 1 ≡ slab_len self.old.slots }
         ensures listed { KeepsExactly self.old self.new }
+        ensures waits { KeepsWaits self.old self.new }
     {
         let ended = take_out(&mut self.slots, number);
         ended
@@ -153,10 +167,11 @@ impl ListedSlots {
         own: u32,
         value: Option<Value>,
     ) -> Result<(), OutOfMemory>
-        ensures is { OnOk result (Becomes self.old.slots.slots self.new.slots.slots number
-            (option_map (slot_after_child_end own value) (slot_at self.old.slots.slots number))) }
+        ensures is { OnOk result (
+            ChangesOne (slot_after_child_end own value) self.old.slots.slots self.new.slots.slots number) }
         ensures length { slab_len self.new.slots ≡ slab_len self.old.slots }
         ensures listed { OnOk result (KeepsExactly self.old self.new) }
+        ensures waits { OnOk result (KeepsWaits self.old self.new) }
     {
         let was_ready = is_ready(&self.slots, number);
         tell(&mut self.slots, alloc, number, own, value)?;
@@ -172,10 +187,11 @@ impl ListedSlots {
         to: u32,
         edge: Edge,
     ) -> Result<(), OutOfMemory>
-        ensures is { OnOk result (Becomes self.old.slots.slots self.new.slots.slots number
-            (option_map (slot_when_due now to edge) (slot_at self.old.slots.slots number))) }
+        ensures is { OnOk result (
+            ChangesOne (slot_when_due now to edge) self.old.slots.slots self.new.slots.slots number) }
         ensures length { slab_len self.new.slots ≡ slab_len self.old.slots }
         ensures listed { OnOk result (KeepsExactly self.old self.new) }
+        ensures waits { OnOk result (KeepsWaits self.old self.new) }
     {
         let was_ready = is_ready(&self.slots, number);
         fall_due(&mut self.slots, number, now, to, edge);
@@ -187,12 +203,13 @@ impl ListedSlots {
     fn resume(&mut self, number: usize, now: Time) -> Result<(), OutOfMemory>
         requires due { has_delay self.old.delays now number ≡ true }
         requires listed { ListsExactly self.old }
-        ensures is { OnOk result (Becomes self.old.slots.slots self.new.slots.slots number
-            (option_map (slot_changed (rested now)) (slot_at self.old.slots.slots number))) }
+        ensures is { OnOk result (
+            ChangesOne (slot_changed (rested now)) self.old.slots.slots self.new.slots.slots number) }
         ensures length { slab_len self.new.slots ≡ slab_len self.old.slots }
         ensures less { HasDelayNoMore number now self.old.delays self.new.delays }
         ensures fewer { set.btree_set_len self.new.delays < set.btree_set_len self.old.delays }
         ensures listed { OnOk result (ListsExactly self.new) }
+        ensures waits { OnOk result (KeepsWaits self.old self.new) }
     {
         rest(&mut self.slots, number, now);
         end_delay(&mut self.delays, number, now);
@@ -207,6 +224,7 @@ impl ListedSlots {
         ensures are { OnOk result (AreChanged (rested now) self.old.slots.slots self.new.slots.slots) }
         ensures length { OnOk result (slab_len self.new.slots ≡ slab_len self.old.slots) }
         ensures listed { OnOk result (ListsExactly self.new) }
+        ensures waits { OnOk result (KeepsWaits self.old self.new) }
     {
         while let Some(number) = first_due(&self.delays, now) {
             self.resume(number, now)?;
@@ -217,8 +235,8 @@ impl ListedSlots {
     /// Whether a task is ready.
     pub fn is_ready(&self) -> bool
         requires { ListsExactly self.now }
-        ensures some { result ≡ true → (number : ℕ) × (is_ready_slot (slot_at self.now.slots.slots number) ≡ true) }
-        ensures none { result ≡ false → (number : ℕ) → is_ready_slot (slot_at self.now.slots.slots number) ≡ false }
+        ensures some { result ≡ true → (number : ℕ) × (is_ready_slot (slot_in self.now number) ≡ true) }
+        ensures none { result ≡ false → (number : ℕ) → is_ready_slot (slot_in self.now number) ≡ false }
     {
         !self.readies.is_empty()
     }
@@ -232,5 +250,23 @@ impl ListedSlots {
         let ready = of_numbers(alloc, &self.slots, self.readies.as_slice())?;
         let sorted = in_order(ready)?;
         Ok(sorted)
+    }
+
+    /// Puts the list of ready tasks in order of path, where it is not.
+    pub fn order(&mut self, alloc: Global) -> Result<(), OutOfMemory>
+        requires forest { IsForest self.old.slots.slots }
+        requires listed { ListsExactly self.old }
+        ensures slots { self.new.slots ≡ self.old.slots }
+        ensures order { OnOk result (AreReadyNumbers self.new.slots.slots self.new.readies.items) }
+        ensures listed { OnOk result (ListsExactly self.new) }
+        ensures waits { OnOk result (KeepsWaits self.old self.new) }
+    {
+        if rise(&self.slots, self.readies.as_slice()) {
+            return Ok(());
+        }
+        let sorted = self.ready(alloc)?;
+        let numbers = numbers_of(alloc, sorted.as_slice())?;
+        self.readies = numbers;
+        Ok(())
     }
 }

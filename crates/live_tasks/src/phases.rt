@@ -1,13 +1,15 @@
-ghost use Rattle.std.specs.Prelude.{◌≡◌, ◌<◌, ◌^◌, [], Some, IfOk, OnOk, nat_abs};
+ghost use Rattle.std.specs.Prelude.{◌≡◌, ◌<◌, ◌^◌, ◌++◌, [], Some, IfOk, OnOk, nat_abs};
 ghost use Rattle.std.specs.Option.{option_copied};
 ghost use Rattle.run_data.specs.Endings.{is_open, result_of_phase, with_result};
-ghost use Rattle.run_data.specs.Tasks.{children_in, after_delay, task_after, rested, rested_phase};
+ghost use Rattle.run_data.specs.Tasks.{children_in, after_delay, job_if_ready, task_after, rested, rested_phase};
 ghost use Rattle.run_data.specs.laws.NextTimes.{delay_in};
 ghost use Rattle.run_data.specs.laws.ReadyTasks.{is_ready_phase};
-ghost use Rattle.live_tasks.specs.Phases.{task_phase_of, waits_for_condition, condition_of_wait, called_child, anchor_of_start, is_child_item, is_same_edge, phase_with_return, phase_when_due, task_with_return, fall_due};
+ghost use Rattle.live_tasks.specs.Phases.{task_phase_of, waits_for_condition, condition_of_wait, called_child, anchor_of_start, is_child_item, is_same_edge, phase_with_return, phase_when_due, phase_after_wait, after_wait, task_with_return, fall_due};
 
-use aerie_base::{Anchor, Cond, Edge, List, Number, OutOfMemory, Shared, Time, Value};
-use run_data::{Item, Status, TaskState};
+use crate::ready_jobs::ReadyJobs;
+use aerie_base::{Anchor, Cond, Edge, List, Number, OutOfMemory, Path, Shared, Time, Value};
+use effect_cells::Cells;
+use run_data::{Item, Job, Status, TaskState};
 use std::alloc::Global;
 use std::marker::Model;
 use std::mem;
@@ -251,6 +253,27 @@ impl LiveTask {
         }
     }
 
+    /// Puts its job behind others, if it is ready.
+    pub fn push_job(
+        &self,
+        path: &Shared<Path>,
+        view: &Shared<Cells>,
+        jobs: &mut ReadyJobs,
+    ) -> Result<(), OutOfMemory>
+        ensures { OnOk result (
+            jobs.new ≡ jobs.old ++ job_if_ready view.now path.now self.now self.now.phase []) }
+    {
+        let LivePhase::Ready(state) = &self.phase else {
+            return Ok(());
+        };
+        let job = Job {
+            path: path.share()?,
+            state: state.share()?,
+            view: view.share()?,
+        };
+        jobs.push(self.made, job)
+    }
+
     /// Whether it waits for a condition.
     pub fn waits_for_condition(&self) -> bool
         ensures { result ≡ waits_for_condition self.now.phase }
@@ -340,6 +363,14 @@ impl LiveTask {
         self.phase = phase.rested(now);
     }
 
+    /// Where it waits for a condition, it goes on.
+    pub fn wake(&mut self)
+        ensures { self.new ≡ after_wait [] self.old }
+    {
+        let phase = mem::replace(&mut self.phase, LivePhase::Over(None));
+        self.phase = phase.woken();
+    }
+
     /// An edge of the directive with an id has come: where it is anchored to that, it has its due time.
     pub fn fall_due(&mut self, now: Time, to: u32, edge: Edge)
         ensures { self.new ≡ fall_due now to edge self.old }
@@ -368,7 +399,8 @@ impl LivePhase {
         own: u32,
         value: Option<Value>,
     ) -> Result<LivePhase, OutOfMemory>
-        ensures { IfOk result (λ phase. task_phase_of phase ≡ phase_with_return own value (task_phase_of self)) }
+        ensures { IfOk result (λ phase.
+            task_phase_of phase ≡ phase_with_return own value (task_phase_of self)) }
     {
         match self {
             LivePhase::Calling { child, into, state } => {
@@ -395,6 +427,19 @@ impl LivePhase {
                     LivePhase::Delayed { until, state }
                 }
             }
+            other => other,
+        }
+    }
+
+    /// What a task does whose condition holds, if it waits for one.
+    fn woken(self) -> LivePhase
+        ensures { task_phase_of result ≡ phase_after_wait (task_phase_of self) }
+    {
+        match self {
+            LivePhase::Waiting {
+                condition: _,
+                state,
+            } => LivePhase::Ready(state),
             other => other,
         }
     }

@@ -1,12 +1,12 @@
 //! The tasks that are live, by number.
 
-ghost use Rattle.std.specs.Prelude.{◌≡◌, ◌-◌, ◌+◌, ◌<◌, ◌^◌, ℕ, true, false, None, Some, IsSome, IfOk, IfSome, OnOk, option_map};
+ghost use Rattle.std.specs.Prelude.{◌≡◌, ◌-◌, ◌+◌, ◌<◌, ◌^◌, true, false, None, Some, IfOk, OnOk};
 ghost use Rattle.slab.specs.Slab.{get, slab_len};
-ghost use Rattle.run_data.specs.Endings.{is_open, result_of_phase};
-ghost use Rattle.run_data.specs.Tasks.{children_in, task_after, rested};
-ghost use Rattle.live_tasks.specs.Slots.{slot_at, Becomes};
-ghost use Rattle.live_tasks.specs.declared.slots.Slot.{Slot as Live};
-ghost use Rattle.live_tasks.specs.Endings.{slot_has_ended, slot_after_child_end, slot_when_due, slot_after_step, slot_with_child, IsFirst};
+ghost use Rattle.run_data.specs.Endings.{is_open};
+ghost use Rattle.run_data.specs.Tasks.{children_in, rested};
+ghost use Rattle.live_tasks.specs.Phases.{after_wait};
+ghost use Rattle.live_tasks.specs.Slots.{slot_at, Becomes, ChangesOne};
+ghost use Rattle.live_tasks.specs.Endings.{slot_has_ended, slot_after_child_end, slot_when_due, slot_after_step, slot_with_child, StepsOne, MayMake, IsFirst};
 ghost use Rattle.live_tasks.specs.Changes.{slot_changed};
 ghost use Rattle.live_tasks.specs.Listing.{is_ready_slot, delay_of_slot};
 
@@ -95,6 +95,13 @@ impl Slot {
         self.task.rest(now);
     }
 
+    /// Where it waits for a condition, it goes on.
+    pub fn wake(&mut self)
+        ensures { self.new ≡ slot_changed after_wait self.old }
+    {
+        self.task.wake();
+    }
+
     /// An edge of a directive has come.
     pub fn fall_due(&mut self, now: Time, to: u32, edge: Edge)
         ensures { self.new ≡ slot_when_due now to edge self.old }
@@ -151,7 +158,8 @@ pub fn tell(
     own: u32,
     value: Option<Value>,
 ) -> Result<(), OutOfMemory>
-    ensures is { OnOk result (Becomes slots.old.slots slots.new.slots number (option_map (slot_after_child_end own value) (slot_at slots.old.slots number))) }
+    ensures is { OnOk result (
+        ChangesOne (slot_after_child_end own value) slots.old.slots slots.new.slots number) }
     ensures length { slab_len slots.new ≡ slab_len slots.old }
 {
     if let Some(slot) = slots.get_mut(number) {
@@ -162,7 +170,7 @@ pub fn tell(
 
 /// Where the delay of the task of a number ends at a time, it goes on.
 pub fn rest(slots: &mut Slab<Slot>, number: usize, now: Time)
-    ensures is { Becomes slots.old.slots slots.new.slots number (option_map (slot_changed (rested now)) (slot_at slots.old.slots number)) }
+    ensures is { ChangesOne (slot_changed (rested now)) slots.old.slots slots.new.slots number }
     ensures length { slab_len slots.new ≡ slab_len slots.old }
 {
     if let Some(slot) = slots.get_mut(number) {
@@ -170,9 +178,19 @@ pub fn rest(slots: &mut Slab<Slot>, number: usize, now: Time)
     }
 }
 
+/// The task of a number goes on, where it waits for a condition.
+pub fn wake(slots: &mut Slab<Slot>, number: usize)
+    ensures is { ChangesOne (slot_changed after_wait) slots.old.slots slots.new.slots number }
+    ensures length { slab_len slots.new ≡ slab_len slots.old }
+{
+    if let Some(slot) = slots.get_mut(number) {
+        slot.wake();
+    }
+}
+
 /// An edge of a directive has come, to which the task of a number may be anchored.
 pub fn fall_due(slots: &mut Slab<Slot>, number: usize, now: Time, to: u32, edge: Edge)
-    ensures is { Becomes slots.old.slots slots.new.slots number (option_map (slot_when_due now to edge) (slot_at slots.old.slots number)) }
+    ensures is { ChangesOne (slot_when_due now to edge) slots.old.slots slots.new.slots number }
     ensures length { slab_len slots.new ≡ slab_len slots.old }
 {
     if let Some(slot) = slots.get_mut(number) {
@@ -188,8 +206,8 @@ pub fn step(
     number: usize,
     frame: &Frame,
 ) -> Result<(), OutOfMemory>
-    requires { (slot : Live) → slot_at slots.old.slots number ≡ Some slot → slot.task.made + children_in frame.now.items < 2 ^ 32 }
-    ensures { OnOk result ((slot : Live) → slot_at slots.old.slots number ≡ Some slot → Becomes slots.old.slots slots.new.slots number (Some (slot_after_step now frame.now slot))) }
+    requires { MayMake slots.old.slots number (children_in frame.now.items) }
+    ensures { OnOk result (StepsOne now frame.now slots.old.slots slots.new.slots number) }
 {
     if let Some(slot) = slots.get_mut(number) {
         slot.step(alloc, now, frame)?;
@@ -208,7 +226,7 @@ pub fn insert(slots: &mut Slab<Slot>, slot: Slot) -> Result<usize, OutOfMemory>
 
 /// One child more of the task of a number is live.
 pub fn count(slots: &mut Slab<Slot>, number: usize) -> Result<(), OutOfMemory>
-    ensures { OnOk result (Becomes slots.old.slots slots.new.slots number (option_map slot_with_child (slot_at slots.old.slots number))) }
+    ensures { OnOk result (ChangesOne slot_with_child slots.old.slots slots.new.slots number) }
 {
     if let Some(slot) = slots.get_mut(number) {
         slot.count()?;

@@ -1,83 +1,77 @@
 //! The tasks of a run that are live, by number, and what a batch does to them.
 
-ghost use Rattle.std.specs.Prelude.{◌≡◌, ◌≢◌, ◌<◌, ◌≤◌, ◌^◌, ◌+◌, ◌∷◌, ℕ, [], true, false, None, Some, List, IfOk, OnOk, option_map};
+ghost use Rattle.std.specs.Prelude.{◌≡◌, ◌≢◌, ◌<◌, ◌≤◌, ◌^◌, ◌∷◌, ℕ, [], true, false, None, Some, List, length, IfOk, OnOk};
 ghost use Rattle.aerie_base.specs.Paths.{root};
 ghost use Rattle.aerie_base.specs.declared.plans.Edge.TheVariants.{Start};
-ghost use Rattle.run_data.specs.Tasks.{Table, children_in};
-ghost use Rattle.live_tasks.specs.declared.slots.Slot.{Slot as Live};
-ghost use Rattle.slab.specs.Slab.{slab_len};
-ghost use Rattle.run_data.specs.TaskFrames.{Frame as FrameOf};
-ghost use Rattle.live_tasks.specs.Slots.{slot_at, Becomes};
-ghost use Rattle.live_tasks.specs.Endings.{slot_has_ended, slot_after_child_end, FallDue, OneEnds, AreFollowers, IsEnding, Settles, TakesStep, TakesChild, TakesOne, EndsBatch, MayTake, IsTaking, AreLive};
-ghost use Rattle.run_data.specs.laws.LiveParts.{live};
+ghost use Rattle.effect_cells.specs.declared.effects.CellState.{CellState};
 ghost use Rattle.run_data.specs.Endings.{after_batch};
+ghost use Rattle.run_data.specs.TaskFrames.{Frame as FrameOf};
+ghost use Rattle.run_data.specs.Tasks.{children_in, after_frames, on_each, rested, ready_jobs};
+ghost use Rattle.run_data.specs.laws.BatchFrames.{AreFramesOf};
+ghost use Rattle.run_data.specs.laws.LiveParts.{live};
+ghost use Rattle.run_data.specs.laws.NextTimes.{least_delay};
 ghost use Rattle.live_tasks.specs.declared.origins.Origin.TheVariants.{Ready, Child};
-ghost use Rattle.live_tasks.specs.Slots.{table_of};
-ghost use Rattle.run_data.specs.Tasks.{after_frames};
-ghost use Rattle.std.specs.Prelude.{length};
-ghost use Rattle.live_tasks.specs.Listing.{is_ready_slot, IsNoneBefore};
-ghost use Rattle.run_data.specs.Tasks.{on_each, rested};
-ghost use Rattle.live_tasks.specs.ListedSlots.{ListsExactly, KeepsAll, KeepsExactly};
+ghost use Rattle.live_tasks.specs.Endings.{FallDue, OneEnds, RootStarts, Settles, TakesStep, TakesChild, TakesOne, EndsBatch, MayTake, MayMake, IfReady, HasTakenAll, ChildrenAreFew};
+ghost use Rattle.live_tasks.specs.Followers.{AreFollowers};
+ghost use Rattle.live_tasks.specs.FrameOrders.{AreByPath};
+ghost use Rattle.live_tasks.specs.ListedSlots.{ListsExactly, KeepsAll, KeepsExactly, KeepsWaits, AreWaitsKeptFor};
+ghost use Rattle.live_tasks.specs.Listing.{is_ready_slot};
+ghost use Rattle.live_tasks.specs.Slots.{slot_at};
+ghost use Rattle.live_tasks.specs.InStep.{slots_in, live_count, table_in, IsInStep};
+ghost use Rattle.live_tasks.specs.Waking.{KeepsWakesBut};
+ghost use Rattle.live_tasks.specs.LeastTimes.{IsUpToTime};
 
+use crate::batch_origins::origins_of;
+use crate::delays::least_end;
+use crate::followers::{Follower, fall_all};
 use crate::listed_slots::ListedSlots;
 use crate::origins::Origin;
+use crate::readies::jobs_of;
+use crate::ready_jobs::ReadyJobs;
 use crate::slots::{Slot, has_ended};
 use aerie_base::{Edge, OutOfMemory, Path, Shared, Time, Value};
+use effect_cells::{Cells, waiting_depends_on_cells_read};
 use run_data::Frame;
 use std::alloc::Global;
 
-/// The live tasks by number, and the numbers of those that are or were anchored.
+/// The live tasks by number, and those that are or were anchored, in order of the ids of the directives that they follow.
 #[derive(Drop)]
 pub struct LiveTasks {
     pub tables: ListedSlots,
-    pub followers: Vec<usize>,
-}
-
-/// The same of these numbers.
-fn fall_all(
-    tables: &mut ListedSlots,
-    followers: &[usize],
-    now: Time,
-    to: u32,
-    edge: Edge,
-) -> Result<(), OutOfMemory>
-    requires { AreFollowers tables.old.slots.slots followers.now }
-    ensures falls { OnOk result (FallDue now to edge tables.old.slots.slots tables.new.slots.slots) }
-    ensures length { OnOk result (slab_len tables.new.slots ≡ slab_len tables.old.slots) }
-    ensures listed { OnOk result (KeepsExactly tables.old tables.new) }
-{
-    for number in followers {
-        tables.fall_due(*number, now, to, edge)?;
-    }
-    Ok(())
+    pub followers: Vec<Follower>,
 }
 
 impl LiveTasks {
-    /// No task.
-    pub fn new(alloc: Global) -> LiveTasks
-        ensures slots { result.tables.slots.slots ≡ [] }
-        ensures listed { ListsExactly result.tables }
-        ensures followers { AreFollowers result.tables.slots.slots result.followers.items }
+    /// No task; so many cells may be waited for.
+    pub fn new(alloc: Global, cells: usize) -> Result<LiveTasks, OutOfMemory>
+        ensures slots { IfOk result (λ tasks. slots_in tasks ≡ []) }
+        ensures listed { IfOk result (λ tasks. ListsExactly tasks.tables) }
+        ensures followers { IfOk result (λ tasks. AreFollowers (slots_in tasks) tasks.followers.items) }
+        ensures waits { IfOk result (λ tasks. AreWaitsKeptFor cells tasks.tables) }
     {
-        LiveTasks {
-            tables: ListedSlots::new(alloc),
+        let tables = ListedSlots::new(alloc, cells)?;
+        Ok(LiveTasks {
+            tables,
             followers: Vec::new(alloc),
-        }
+        })
     }
 
-    /// An edge of the directive with an id has come: who is anchored to it falls due.
+    /// An edge of the directive with an id has come: who is anchored to it falls due. It takes a time in the order of the number of those
+    /// that follow that directive.
     pub fn come(&mut self, now: Time, to: u32, edge: Edge) -> Result<(), OutOfMemory>
-        requires { AreFollowers self.old.tables.slots.slots self.old.followers.items }
+        requires { AreFollowers (slots_in self.old) self.old.followers.items }
         ensures followers { self.new.followers ≡ self.old.followers }
-        ensures falls { OnOk result (FallDue now to edge self.old.tables.slots.slots self.new.tables.slots.slots) }
-        ensures length { OnOk result (slab_len self.new.tables.slots ≡ slab_len self.old.tables.slots) }
+        ensures falls { OnOk result (FallDue now to edge (slots_in self.old) (slots_in self.new)) }
+        ensures length { OnOk result (live_count self.new ≡ live_count self.old) }
+        ensures stay { OnOk result (AreFollowers (slots_in self.new) self.new.followers.items) }
         ensures listed { OnOk result (KeepsExactly self.old.tables self.new.tables) }
+        ensures waits { OnOk result (KeepsWaits self.old.tables self.new.tables) }
     {
         fall_all(&mut self.tables, self.followers.as_slice(), now, to, edge)?;
         Ok(())
     }
 
-    /// The task of a number, if it has ended, is taken out, and its parent slot_after_child_end, or where it has none who follows its end.
+    /// The task of a number, if it has ended, is taken out, and its parent is told, or where it has none who follows its end.
     /// The parent is the next that may have ended.
     pub fn end_one(
         &mut self,
@@ -85,13 +79,14 @@ impl LiveTasks {
         now: Time,
         number: usize,
     ) -> Result<Option<usize>, OutOfMemory>
-        requires { AreFollowers self.old.tables.slots.slots self.old.followers.items }
+        requires { AreFollowers (slots_in self.old) self.old.followers.items }
         ensures followers { self.new.followers ≡ self.old.followers }
-        ensures ends { IfOk result (OneEnds now self.old.tables.slots.slots number self.new.tables.slots.slots) }
-        ensures stay { OnOk result (AreFollowers self.new.tables.slots.slots self.new.followers.items) }
-        ensures fewer { IfOk result (λ next. next ≢ None → slab_len self.new.tables.slots < slab_len self.old.tables.slots) }
-        ensures most { OnOk result (slab_len self.new.tables.slots ≤ slab_len self.old.tables.slots) }
+        ensures ends { IfOk result (OneEnds now (slots_in self.old) number (slots_in self.new)) }
+        ensures stay { OnOk result (AreFollowers (slots_in self.new) self.new.followers.items) }
+        ensures fewer { IfOk result (λ next. next ≢ None → live_count self.new < live_count self.old) }
+        ensures most { OnOk result (live_count self.new ≤ live_count self.old) }
         ensures listed { OnOk result (KeepsExactly self.old.tables self.new.tables) }
+        ensures waits { OnOk result (KeepsWaits self.old.tables self.new.tables) }
     {
         if !has_ended(&self.tables.slots, number) {
             return Ok(None);
@@ -115,12 +110,13 @@ impl LiveTasks {
 
     /// The task of a number may have ended: if it has, it is taken out, and those above it that have ended with it.
     pub fn settle(&mut self, alloc: Global, now: Time, number: usize) -> Result<(), OutOfMemory>
-        requires { AreFollowers self.old.tables.slots.slots self.old.followers.items }
+        requires { AreFollowers (slots_in self.old) self.old.followers.items }
         ensures followers { self.new.followers ≡ self.old.followers }
-        ensures stay { OnOk result (AreFollowers self.new.tables.slots.slots self.new.followers.items) }
+        ensures stay { OnOk result (AreFollowers (slots_in self.new) self.new.followers.items) }
         ensures ends { OnOk result ((frames : List FrameOf) (todo : List ℕ) →
-            Settles now frames (number ∷ todo) frames todo self.old.tables.slots.slots self.new.tables.slots.slots) }
+            Settles now frames (number ∷ todo) frames todo (slots_in self.old) (slots_in self.new)) }
         ensures listed { OnOk result (KeepsExactly self.old.tables self.new.tables) }
+        ensures waits { OnOk result (KeepsWaits self.old.tables self.new.tables) }
     {
         let mut next = Some(number);
         while let Some(here) = next {
@@ -137,18 +133,19 @@ impl LiveTasks {
         number: usize,
         frame: &Frame,
     ) -> Result<(), OutOfMemory>
-        requires few { (slot : Live) → slot_at self.old.tables.slots.slots number ≡ Some slot → slot.task.made + children_in frame.now.items < 2 ^ 32 }
-        requires ready { is_ready_slot (slot_at self.old.tables.slots.slots number) ≡ true }
+        requires few { MayMake (slots_in self.old) number (children_in frame.now.items) }
+        requires ready { is_ready_slot (slot_at (slots_in self.old) number) ≡ true }
         ensures followers { self.new.followers ≡ self.old.followers }
-        ensures takes { OnOk result (TakesStep now number frame.now self.old.tables.slots.slots self.new.tables.slots.slots) }
+        ensures takes { OnOk result (TakesStep now number frame.now (slots_in self.old) (slots_in self.new)) }
         ensures listed { OnOk result (KeepsAll self.old.tables self.new.tables) }
+        ensures waits { OnOk result (KeepsWaits self.old.tables self.new.tables) }
     {
         self.tables.step(alloc, now, number, frame)?;
         Ok(())
     }
 
     /// The first frame of a child, with its number among those of the task of a number.
-    pub fn begin(
+    pub fn begin_child(
         &mut self,
         alloc: Global,
         now: Time,
@@ -158,8 +155,10 @@ impl LiveTasks {
     ) -> Result<usize, OutOfMemory>
         requires { children_in frame.now.items < 2 ^ 32 }
         ensures followers { self.new.followers ≡ self.old.followers }
-        ensures takes { IfOk result (TakesChild now parent own frame.now self.old.tables.slots.slots self.new.tables.slots.slots) }
+        ensures takes { IfOk result (
+            TakesChild now parent own frame.now (slots_in self.old) (slots_in self.new)) }
         ensures listed { OnOk result (KeepsAll self.old.tables self.new.tables) }
+        ensures waits { OnOk result (KeepsWaits self.old.tables self.new.tables) }
     {
         let child = Slot::first(alloc, now, parent, own, frame)?;
         let number = self.tables.insert(child)?;
@@ -177,12 +176,16 @@ impl LiveTasks {
         numbers: &[usize],
     ) -> Result<usize, OutOfMemory>
         requires few { children_in frame.now.items < 2 ^ 32 }
-        requires more_few { (number : ℕ) (slot : Live) → origin ≡ Ready number → slot_at self.old.tables.slots.slots number ≡ Some slot → slot.task.made + children_in frame.now.items < 2 ^ 32 }
-        requires ready { (number : ℕ) → origin ≡ Ready number → is_ready_slot (slot_at self.old.tables.slots.slots number) ≡ true }
+        requires more_few { IfReady origin (λ number.
+            MayMake (slots_in self.old) number (children_in frame.now.items)) }
+        requires ready { IfReady origin (λ number.
+            is_ready_slot (slot_at (slots_in self.old) number) ≡ true) }
         requires maker { (maker own : ℕ) → origin ≡ Child maker own → maker < length numbers.now }
         ensures followers { self.new.followers ≡ self.old.followers }
-        ensures takes { IfOk result (TakesOne now frame.now origin numbers.now self.old.tables.slots.slots self.new.tables.slots.slots) }
+        ensures takes { IfOk result (
+            TakesOne now frame.now origin numbers.now (slots_in self.old) (slots_in self.new)) }
         ensures listed { OnOk result (KeepsAll self.old.tables self.new.tables) }
+        ensures waits { OnOk result (KeepsWaits self.old.tables self.new.tables) }
     {
         match origin {
             Origin::Ready(number) => {
@@ -190,7 +193,7 @@ impl LiveTasks {
                 Ok(number)
             }
             Origin::Child { maker, own } => {
-                let number = self.begin(alloc, now, numbers[maker], own, frame)?;
+                let number = self.begin_child(alloc, now, numbers[maker], own, frame)?;
                 Ok(number)
             }
         }
@@ -204,10 +207,12 @@ impl LiveTasks {
         frames: &[Frame],
         origins: &[Origin],
     ) -> Result<Vec<usize>, OutOfMemory>
-        requires { MayTake now self.old.tables.slots.slots frames.now origins.now }
+        requires { MayTake now (slots_in self.old) frames.now origins.now }
         ensures followers { self.new.followers ≡ self.old.followers }
-        ensures taken { IfOk result (λ numbers. IsTaking self.old.tables.slots.slots numbers.items (after_frames now frames.now (table_of self.old.tables.slots.slots)) self.new.tables.slots.slots) }
+        ensures taken { IfOk result (λ numbers.
+            HasTakenAll now frames.now (slots_in self.old) numbers.items (slots_in self.new)) }
         ensures listed { OnOk result (KeepsAll self.old.tables self.new.tables) }
+        ensures waits { OnOk result (KeepsWaits self.old.tables self.new.tables) }
     {
         let mut numbers = Vec::new(alloc);
         for place in 0..frames.len() {
@@ -225,11 +230,12 @@ impl LiveTasks {
 
     /// An edge of a directive's start, where a frame is of one.
     fn start(&mut self, now: Time, frame: &Frame) -> Result<(), OutOfMemory>
-        requires { AreFollowers self.old.tables.slots.slots self.old.followers.items }
+        requires { AreFollowers (slots_in self.old) self.old.followers.items }
         ensures followers { self.new.followers ≡ self.old.followers }
-        ensures root { OnOk result ((to : ℕ) → frame.now.path ≡ root to → FallDue now to Start self.old.tables.slots.slots self.new.tables.slots.slots) }
+        ensures root { OnOk result (RootStarts now frame.now.path (slots_in self.old) (slots_in self.new)) }
         ensures other { OnOk result (((to : ℕ) → frame.now.path ≡ root to → ⊥) → self.new ≡ self.old) }
         ensures listed { OnOk result (KeepsExactly self.old.tables self.new.tables) }
+        ensures waits { OnOk result (KeepsWaits self.old.tables self.new.tables) }
     {
         if frame.path().daemon() {
             return Ok(());
@@ -250,11 +256,13 @@ impl LiveTasks {
         frames: &[Frame],
         numbers: &[usize],
     ) -> Result<(), OutOfMemory>
-        requires { AreFollowers self.old.tables.slots.slots self.old.followers.items }
+        requires { AreFollowers (slots_in self.old) self.old.followers.items }
         ensures followers { self.new.followers ≡ self.old.followers }
-        ensures stay { OnOk result (AreFollowers self.new.tables.slots.slots self.new.followers.items) }
-        ensures ends { OnOk result (EndsBatch now frames.now numbers.now self.old.tables.slots.slots self.new.tables.slots.slots) }
+        ensures stay { OnOk result (AreFollowers (slots_in self.new) self.new.followers.items) }
+        ensures ends { OnOk result (
+            EndsBatch now frames.now numbers.now (slots_in self.old) (slots_in self.new)) }
         ensures listed { OnOk result (KeepsExactly self.old.tables self.new.tables) }
+        ensures waits { OnOk result (KeepsWaits self.old.tables self.new.tables) }
     {
         for frame in frames {
             self.start(now, frame)?;
@@ -265,22 +273,21 @@ impl LiveTasks {
         Ok(())
     }
 
-    /// The tasks after a batch with these frames: the live part of the table after it.
-    pub fn after_batch(
+    /// A batch with these frames, which have these origins.
+    fn take_batch(
         &mut self,
         alloc: Global,
         now: Time,
         frames: &[Frame],
         origins: &[Origin],
     ) -> Result<(), OutOfMemory>
-        requires may { MayTake now self.old.tables.slots.slots frames.now origins.now }
-        requires followers { AreFollowers self.old.tables.slots.slots self.old.followers.items }
+        requires may { MayTake now (slots_in self.old) frames.now origins.now }
+        requires followers { AreFollowers (slots_in self.old) self.old.followers.items }
         requires listed { ListsExactly self.old.tables }
-        ensures followers { OnOk result (AreFollowers self.new.tables.slots.slots self.new.followers.items) }
-        ensures table { OnOk result (table_of self.new.tables.slots.slots
-            ≡ live (after_batch now frames.now (table_of self.old.tables.slots.slots))) }
-        ensures live_ { OnOk result (AreLive (table_of self.new.tables.slots.slots) self.new.tables.slots.slots) }
-        ensures listed { OnOk result (ListsExactly self.new.tables) }
+        ensures table { OnOk result (
+            table_in self.new ≡ live (after_batch now frames.now (table_in self.old))) }
+        ensures in_step { OnOk result (IsInStep self.new) }
+        ensures waits { OnOk result (KeepsWaits self.old.tables self.new.tables) }
     {
         let numbers = self.take(alloc, now, frames, origins)?;
         self.tables.relist(alloc)?;
@@ -288,18 +295,92 @@ impl LiveTasks {
         Ok(())
     }
 
-    /// The tasks at a time, before which no delay ends: those go on whose delay ends then.
+    /// After a committed batch with these frames, which are in order of path, before its cells are touched: the live part of the
+    /// table after it.
+    fn go_on(&mut self, alloc: Global, now: Time, frames: &[Frame]) -> Result<(), OutOfMemory>
+        requires in_step { IsInStep self.old }
+        requires order { AreByPath frames.now }
+        requires frames { AreFramesOf (table_in self.old) frames.now }
+        requires few { ChildrenAreFew (after_frames now frames.now (table_in self.old)) }
+        ensures table { OnOk result (
+            table_in self.new ≡ live (after_batch now frames.now (table_in self.old))) }
+        ensures in_step { OnOk result (IsInStep self.new) }
+        ensures waits { OnOk result (KeepsWaits self.old.tables self.new.tables) }
+    {
+        self.tables.order(alloc)?;
+        let readies = self.tables.readies.as_slice();
+        let origins = origins_of(alloc, &self.tables.slots, readies, frames)?;
+        self.take_batch(alloc, now, frames, origins.as_slice())?;
+        Ok(())
+    }
+
+    /// After a committed batch with these frames, which are in order of path, and which touched these cells: the live part of the
+    /// table after it. It takes a time in the order of the number of frames, of those whom they let go on, and of those who watch
+    /// one of the cells.
+    pub fn after_batch(
+        &mut self,
+        alloc: Global,
+        now: Time,
+        frames: &[Frame],
+        touched: &[u16],
+    ) -> Result<(), OutOfMemory>
+        requires in_step { IsInStep self.old }
+        requires order { AreByPath frames.now }
+        requires frames { AreFramesOf (table_in self.old) frames.now }
+        requires few { ChildrenAreFew (after_frames now frames.now (table_in self.old)) }
+        ensures table { OnOk result (
+            table_in self.new ≡ live (after_batch now frames.now (table_in self.old))) }
+        ensures in_step { OnOk result (IsInStep self.new) }
+        ensures kept { OnOk result (KeepsWakesBut touched.now self.old self.new) }
+    {
+        waiting_depends_on_cells_read();
+        self.go_on(alloc, now, frames)?;
+        self.tables.waits.touch(touched)?;
+        Ok(())
+    }
+
+    /// At a time, before which no delay ends: those go on whose delay ends then.
     pub fn rest(&mut self, now: Time) -> Result<(), OutOfMemory>
-        requires none_before { IsNoneBefore now self.old.tables.delays }
-        requires live_ { AreLive (table_of self.old.tables.slots.slots) self.old.tables.slots.slots }
-        requires followers { AreFollowers self.old.tables.slots.slots self.old.followers.items }
-        requires listed { ListsExactly self.old.tables }
-        ensures followers { OnOk result (AreFollowers self.new.tables.slots.slots self.new.followers.items) }
-        ensures table { OnOk result (table_of self.new.tables.slots.slots ≡ on_each (rested now) (table_of self.old.tables.slots.slots)) }
-        ensures live_ { OnOk result (AreLive (table_of self.new.tables.slots.slots) self.new.tables.slots.slots) }
-        ensures listed { OnOk result (ListsExactly self.new.tables) }
+        requires in_step { IsInStep self.old }
+        requires due { IsUpToTime now (least_delay (table_in self.old)) }
+        ensures table { OnOk result (table_in self.new ≡ on_each (rested now) (table_in self.old)) }
+        ensures in_step { OnOk result (IsInStep self.new) }
+        ensures waits { OnOk result (KeepsWaits self.old.tables self.new.tables) }
     {
         self.tables.rest(now)?;
         Ok(())
+    }
+
+    /// Whether a task is ready.
+    pub fn is_ready(&self) -> bool
+        requires { IsInStep self.now }
+        ensures none { result ≡ false → (cells : List CellState) → ready_jobs cells (table_in self.now) ≡ [] }
+        ensures some { result ≡ true →
+            (cells : List CellState) → ready_jobs cells (table_in self.now) ≡ [] → ⊥ }
+    {
+        self.tables.is_ready()
+    }
+
+    /// The jobs of the ready tasks, in order of path, each with this view of the cells. Nothing is sorted where they are in order, as
+    /// one alone is.
+    pub fn ready(&mut self, alloc: Global, view: &Shared<Cells>) -> Result<ReadyJobs, OutOfMemory>
+        requires { IsInStep self.old }
+        ensures jobs { IfOk result (λ jobs. jobs ≡ ready_jobs view.now (table_in self.old)) }
+        ensures table { OnOk result (table_in self.new ≡ table_in self.old) }
+        ensures in_step { OnOk result (IsInStep self.new) }
+        ensures waits { OnOk result (KeepsWaits self.old.tables self.new.tables) }
+    {
+        self.tables.order(alloc)?;
+        let readies = self.tables.readies.as_slice();
+        let jobs = jobs_of(alloc, &self.tables.slots, readies, view)?;
+        Ok(jobs)
+    }
+
+    /// The least time at which a delay ends.
+    pub fn next_delay(&self) -> Option<u64>
+        requires { IsInStep self.now }
+        ensures { result ≡ least_delay (table_in self.now) }
+    {
+        least_end(&self.tables.delays)
     }
 }

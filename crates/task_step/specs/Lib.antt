@@ -9,4 +9,5 @@ pub mod Moves
 pub mod Overlays
 pub mod OwnCells
 pub mod ReadingCells
+pub mod Sights
 pub mod Ways

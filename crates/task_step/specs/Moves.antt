@@ -1,14 +1,15 @@
 -- What one statement or test of flat code does to a step.
-use Rattle.std.specs.Prelude.{ℕ, ◌-◌, Bool, true, false, List, ◌++◌, Option, Some, None, Result, Ok, Err, length, slice_get}
+use Rattle.std.specs.Prelude.{◌≡◌, ℕ, ◌-◌, Bool, true, false, List, ◌++◌, Option, Some, None, Result, Ok, Err, length, slice_get}
 use Rattle.aerie_base.specs.declared.values.Value.{Value}
 use Rattle.aerie_base.specs.declared.faults.Fault.{Fault}
 use Rattle.aerie_base.specs.declared.statements.Stmt.{Stmt}
+use Rattle.aerie_base.specs.declared.statements.Stmt.TheOpen.{Stmt-F}
 use Rattle.body_code.specs.declared.instructions.Instruction.{Instruction}
 use Rattle.body_code.specs.declared.instructions.Instruction.TheVariants.{Do, Test, Jump, End}
 use Rattle.body_code.specs.Denoting.{IsCodeOf}
 use Rattle.run_data.specs.declared.tasks.BodyId.{BodyId}
 use Rattle.run_data.specs.StepStates.{StepState}
-use Rattle.run_data.specs.Steps.{Acted, onward, ended}
+use Rattle.run_data.specs.Steps.{Acted, onward, ended, act}
 use Rattle.task_step.specs.declared.ends.End.{End as HowEnded}
 use Rattle.task_step.specs.Ends.{status_of}
 
@@ -16,6 +17,10 @@ use Rattle.task_step.specs.Ends.{status_of}
 abbrev pub acted_of : Option HowEnded → BodyId → ℕ → StepState → Acted
 acted_of None kind at so_far = onward so_far
 acted_of (Some end) kind at so_far = ended (status_of end kind at so_far) so_far
+
+-- a statement ends so, and leaves this: what its meaning says at whatever place of a body it stands
+abbrev pub ActsAs : Stmt-F Stmt → StepState → Option HowEnded → StepState → Type 0
+ActsAs stmt before end behind = (kind : BodyId) (at : ℕ) → acted_of end kind at behind ≡ act kind at stmt before
 
 -- values in front of those of further arguments
 abbrev pub with_front : List Value → Result (List Value) Fault × StepState → Result (List Value) Fault × StepState

@@ -1,18 +1,13 @@
 //! The statements without blocks, each as its definition says.
 
-ghost use Rattle.std.specs.Prelude.{◌≡◌, ◌<◌, ℕ, true, length, IfOk, IsTrue};
+ghost use Rattle.std.specs.Prelude.{◌≡◌, ◌<◌, true, length, IfOk, IsTrue, Some};
 ghost use Rattle.aerie_base.specs.declared.statements.Stmt.{out-Stmt};
-ghost use Rattle.aerie_base.specs.conditions.Filling.{filled};
-ghost use Rattle.aerie_base.specs.expressions.Arithmetic.{number_in};
+ghost use Rattle.aerie_base.specs.declared.statements.Stmt.TheOpen.Stmt-F.{Assign, Emit, Delay, WaitUntil, Spawn, Call, Return};
 ghost use Rattle.aerie_base.specs.statements.Places.{is_simple};
-ghost use Rattle.run_data.specs.declared.frames.Item.TheVariants.{Emit, Child};
-ghost use Rattle.run_data.specs.declared.frames.Status.TheVariants as status;
-ghost use Rattle.run_data.specs.declared.tasks.BodyId.{BodyId as Body};
-ghost use Rattle.run_data.specs.StepStates.{assigned, giving};
-ghost use Rattle.run_data.specs.Steps.{onward, ended, with_value, with_values, act, state_behind, delay_of, effect_of, emission_expr};
+ghost use Rattle.run_data.specs.Steps.{emission_expr};
 ghost use Rattle.task_step.specs.Doable.{HasType, have_types, IsDoable, cells_of};
 ghost use Rattle.task_step.specs.Fillable.{IsConditionOfSome};
-ghost use Rattle.task_step.specs.Moves.{acted_of};
+ghost use Rattle.task_step.specs.Moves.{ActsAs};
 ghost use Rattle.task_step.specs.OwnCells.{most_items};
 
 use crate::arguments::values;
@@ -27,7 +22,7 @@ use std::alloc::Global;
 fn act_set(slot: u16, expr: &Expr, so_far: &mut StepState) -> Option<End>
     requires slot { slot < length so_far.old.locals }
     requires typed { HasType so_far.old expr.now }
-    ensures { (body : Body) (at : ℕ) → acted_of result body at so_far.new ≡ with_value so_far.old expr.now (λ value c. onward (assigned c slot value)) }
+    ensures { ActsAs (Assign slot expr.now) so_far.old result so_far.new }
 {
     match so_far.value(expr) {
         Err(fault) => Some(End::Faulted(fault)),
@@ -48,7 +43,7 @@ fn act_emit(
     requires cell { cell < length (cells_of so_far.old) }
     requires typed { HasType so_far.old (emission_expr what.now) }
     requires few { length so_far.old.items < most_items }
-    ensures { IfOk result (λ end. (body : Body) (at : ℕ) → acted_of end body at so_far.new ≡ with_value so_far.old (emission_expr what.now) (λ value c. onward (giving c (Emit cell (effect_of what.now value))))) }
+    ensures { IfOk result (λ end. ActsAs (Emit cell what.now) so_far.old end so_far.new) }
 {
     match so_far.value(emission_expr(what)) {
         Err(fault) => Ok(Some(End::Faulted(fault))),
@@ -62,7 +57,7 @@ fn act_emit(
 /// `delay`
 fn act_delay(expr: &Expr, so_far: &mut StepState) -> End
     requires typed { HasType so_far.old expr.now }
-    ensures { (body : Body) (at : ℕ) → acted_of (Some result) body at so_far.new ≡ with_value so_far.old expr.now (λ value c. ended (delay_of (number_in value) (state_behind body at c)) c) }
+    ensures { ActsAs (Delay expr.now) so_far.old (Some result) so_far.new }
 {
     match so_far.value(expr) {
         Err(fault) => End::Faulted(fault),
@@ -73,7 +68,7 @@ fn act_delay(expr: &Expr, so_far: &mut StepState) -> End
 /// `wait until`
 fn act_wait(alloc: Global, condition: &Cond, so_far: &StepState) -> Result<End, OutOfMemory>
     requires { IsConditionOfSome condition.now }
-    ensures { IfOk result (λ end. (body : Body) (at : ℕ) → acted_of (Some end) body at so_far.now ≡ ended (status.Waiting (filled condition.now so_far.now.locals) (state_behind body at so_far.now)) so_far.now) }
+    ensures { IfOk result (λ end. ActsAs (WaitUntil condition.now) so_far.now (Some end) so_far.now) }
 {
     let condition = fill(alloc, condition, so_far.locals())?;
     Ok(End::Waiting(Shared::new(alloc, condition)?))
@@ -88,7 +83,7 @@ fn act_spawn(
 ) -> Result<Option<End>, OutOfMemory>
     requires typed { IsTrue (have_types so_far.old arguments.now) }
     requires few { length so_far.old.items < most_items }
-    ensures { IfOk result (λ end. (body : Body) (at : ℕ) → acted_of end body at so_far.new ≡ with_values so_far.old arguments.now (λ values c. onward (giving c (Child child values)))) }
+    ensures { IfOk result (λ end. ActsAs (Spawn child arguments.now) so_far.old end so_far.new) }
 {
     match values(alloc, arguments, so_far)? {
         Err(fault) => Ok(Some(End::Faulted(fault))),
@@ -109,7 +104,7 @@ fn act_call(
 ) -> Result<End, OutOfMemory>
     requires typed { IsTrue (have_types so_far.old arguments.now) }
     requires few { length so_far.old.items < most_items }
-    ensures { IfOk result (λ end. (body : Body) (at : ℕ) → acted_of (Some end) body at so_far.new ≡ with_values so_far.old arguments.now (λ values c. ended (status.Calling into (state_behind body at c)) (giving c (Child child values)))) }
+    ensures { IfOk result (λ end. ActsAs (Call child arguments.now into) so_far.old (Some end) so_far.new) }
 {
     match values(alloc, arguments, so_far)? {
         Err(fault) => Ok(End::Faulted(fault)),
@@ -123,7 +118,7 @@ fn act_call(
 /// `return` with a value.
 fn act_return(expr: &Expr, so_far: &mut StepState) -> End
     requires typed { HasType so_far.old expr.now }
-    ensures { (body : Body) (at : ℕ) → acted_of (Some result) body at so_far.new ≡ with_value so_far.old expr.now (λ value c. ended (status.Done (Some value)) c) }
+    ensures { ActsAs (Return (Some expr.now)) so_far.old (Some result) so_far.new }
 {
     match so_far.value(expr) {
         Err(fault) => End::Faulted(fault),
@@ -141,7 +136,7 @@ pub(crate) fn act(
     requires simple { is_simple stmt.now ≡ true }
     requires doable { IsDoable so_far.old (out-Stmt stmt.now) }
     requires few { length so_far.old.items < most_items }
-    ensures { IfOk result (λ end. (body : Body) (at : ℕ) → acted_of end body at so_far.new ≡ act body at (out-Stmt stmt.now) so_far.old) }
+    ensures { IfOk result (λ end. ActsAs (out-Stmt stmt.now) so_far.old end so_far.new) }
 {
     match stmt {
         Stmt::Let { slot, value } => Ok(act_set(*slot, value, so_far)),

@@ -16,8 +16,8 @@ use std::sync::ledger::Ledger;
 pub struct Direct<'a> {
     codes: &'a [Code],
     opened: u64,
-    /// What the steps of one wave leave for the next, once there was one.
-    room: Option<Room>,
+    /// What the steps of one wave leave for the next.
+    room: Room,
 }
 
 impl<'a> std::marker::Model for Direct<'a> {
@@ -45,7 +45,7 @@ impl<'a> Direct<'a> {
         Direct {
             codes,
             opened: 0,
-            room: None,
+            room: Room::new(),
         }
     }
 
@@ -89,15 +89,7 @@ impl<'a> Stepper for Direct<'a> {
         looks: &mut Steps<K>,
     ) -> Result<Wave, OutOfMemory> {
         let _ = looks;
-        let mut opened = self.opened;
-        let mut room = match self.room.take() {
-            Some(room) => room,
-            None => Room::new(alloc),
-        };
-        let fresh = run_jobs(alloc, model, self.codes, jobs, fuel, &mut room);
-        self.room = Some(room);
-        let wave = fresh?.open(steps, &mut opened);
-        self.opened = opened;
-        Ok(wave)
+        let fresh = run_jobs(alloc, model, self.codes, jobs, fuel, &mut self.room)?;
+        Ok(fresh.open(steps, &mut self.opened))
     }
 }

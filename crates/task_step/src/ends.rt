@@ -1,11 +1,8 @@
 //! How a step ends.
 
-ghost use Rattle.std.specs.Prelude.{◌≡◌, ◌+◌, ◌^◌, ◌<◌, ℕ, IfOk};
+ghost use Rattle.std.specs.Prelude.{◌≡◌, ◌+◌, ◌^◌, ◌<◌, IfOk};
 ghost use Rattle.aerie_base.specs.expressions.Arithmetic.{number_in};
-ghost use Rattle.run_data.specs.Steps.{delay_of, state_behind};
-ghost use Rattle.run_data.specs.StepStates.{StepState};
-ghost use Rattle.run_data.specs.declared.tasks.BodyId.{BodyId as Body};
-ghost use Rattle.task_step.specs.Ends.{status_from, status_of};
+ghost use Rattle.task_step.specs.Ends.{later_state, status_from, IsDelayBy};
 
 use aerie_base::{Cond, Fault, List, Number, OutOfMemory, Shared, Value, number_in};
 use run_data::{BodyId, Status, TaskState};
@@ -29,7 +26,7 @@ pub(crate) enum End {
 
 /// How a delay by a value ends the step: a negative delay is a fault.
 pub(crate) fn delay_of(value: &Value) -> End
-    ensures { (kind : Body) (at : ℕ) (so_far : StepState) → status_of result kind at so_far ≡ delay_of (number_in value.now) (state_behind kind at so_far) }
+    ensures { IsDelayBy (number_in value.now) result }
 {
     match Number::new(number_in(value)) {
         Some(by) => {
@@ -51,7 +48,7 @@ fn state_behind(
     locals: List<Value>,
 ) -> Result<Shared<TaskState>, OutOfMemory>
     requires { at + 1 < 2 ^ 32 }
-    ensures { IfOk result (λ state. state ≡ record { kind = kind; at = at + 1; locals = locals }) }
+    ensures { IfOk result (λ state. state ≡ later_state kind at locals) }
 {
     let state = TaskState {
         kind,
@@ -71,7 +68,7 @@ pub(crate) fn status_of(
     locals: List<Value>,
 ) -> Result<Status, OutOfMemory>
     requires { at + 1 < 2 ^ 32 }
-    ensures { IfOk result (λ status. status ≡ status_from end (record { kind = kind; at = at + 1; locals = locals })) }
+    ensures { IfOk result (λ status. status ≡ status_from end (later_state kind at locals)) }
 {
     match end {
         End::Delayed(by) => {

@@ -146,7 +146,7 @@ pub(crate) fn fill(alloc: Global, condition: &Cond, locals: &[Value]) -> Result<
 /// The same over the fold, which is the form for a proof of the recursion.
 fn fill_by_fold(alloc: Global, condition: &Cond, locals: &[Value]) -> Result<Cond, OutOfMemory>
     requires { IsTrue (is_fillable_by_fold condition.now) }
-    ensures { IfOk result (λ filled_condition. filled_condition ≡ filled_by_fold condition.now locals.now) }
+    ensures { IfOk result (λ whole. whole ≡ filled_by_fold condition.now locals.now) }
 {
     match condition {
         Cond::Literal(truth) => Ok(Cond::Literal(*truth)),

@@ -2,6 +2,7 @@
 
 ghost use Rattle.std.specs.Prelude.{◌≡◌, ◌+◌, ◌<◌, ◌≤◌, ℕ, length, replicate, true, false, slice_index_or};
 ghost use Rattle.aerie_base.specs.expressions.Readings.{also};
+ghost use Rattle.task_step.specs.FlagWords.{HaveNoFlag};
 
 use std::marker::Model;
 
@@ -79,7 +80,7 @@ impl ReadFlags {
         ensures from { from ≤ result }
         ensures within { result ≤ length self.now }
         ensures read { result < length self.now → slice_index_or self.now result false ≡ true }
-        ensures none { (cell : ℕ) → from ≤ cell → cell < result → slice_index_or self.now cell false ≡ false }
+        ensures none { HaveNoFlag self.now from result }
     {
         let mut at = from;
         while at < self.cells {

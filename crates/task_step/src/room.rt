@@ -6,22 +6,21 @@ use crate::written_cells::WrittenCells;
 use aerie_base::{List, OutOfMemory};
 use run_data::Item;
 use std::alloc::Global;
-use std::mem;
 
-/// The lists that a step fills while it runs. The next step fills them again, so that only the first takes memory for them, and
-/// a frame has lists of its own that take no more than they need.
+/// The lists that a step fills while it runs, once there was one. The next step fills them again, so that only the first takes
+/// memory for them, and a frame has lists of its own that take no more than they need.
 #[derive(Drop)]
 pub struct Room {
-    written: WrittenCells,
-    items: List<Item>,
+    written: Option<WrittenCells>,
+    items: Option<List<Item>>,
 }
 
 impl Room {
-    /// Lists that have nothing yet. It takes no memory.
-    pub fn new(alloc: Global) -> Room {
+    /// No list yet. It takes no memory.
+    pub fn new() -> Room {
         Room {
-            written: WrittenCells::none(alloc),
-            items: List::new(alloc),
+            written: None,
+            items: None,
         }
     }
 
@@ -29,24 +28,32 @@ impl Room {
     pub(crate) fn take_written(&mut self, alloc: Global) -> WrittenCells
         ensures { result ≡ [] }
     {
-        let mut written = mem::replace(&mut self.written, WrittenCells::none(alloc));
-        written.clear();
-        written
+        match self.written.take() {
+            Some(mut written) => {
+                written.clear();
+                written
+            }
+            None => WrittenCells::none(alloc),
+        }
     }
 
     /// Takes out what is to have the items of a step: none so far.
     pub(crate) fn take_items(&mut self, alloc: Global) -> List<Item>
         ensures { result ≡ [] }
     {
-        let mut items = mem::replace(&mut self.items, List::new(alloc));
-        items.items.clear();
-        items
+        match self.items.take() {
+            Some(mut items) => {
+                items.items.clear();
+                items
+            }
+            None => List::new(alloc),
+        }
     }
 
     /// Puts both back behind a step.
     pub(crate) fn put_back(&mut self, written: WrittenCells, items: List<Item>) {
-        self.written = written;
-        self.items = items;
+        self.written = Some(written);
+        self.items = Some(items);
     }
 }
 

@@ -160,6 +160,6 @@ pub fn run_step(
     ensures valid { IfOk result (λ fresh. IsValid model.now (record_of fresh)) }
 {
     steps_are_valid_records();
-    let mut room = Room::new(alloc);
+    let mut room = Room::new();
     step(alloc, model, code, job, fuel, &mut room)
 }

@@ -2,7 +2,8 @@
 
 ghost use Rattle.std.specs.Prelude.{◌≡◌, ◌<◌, ◌≤◌, [], length, replicate, false, slice_get, IfOk, Some};
 ghost use Rattle.effect_cells.specs.Cells.{emitted, IsSmallOn};
-ghost use Rattle.task_step.specs.Overlays.{overlaid, IsWrittenAt};
+ghost use Rattle.task_step.specs.Overlays.{IsWrittenAt};
+ghost use Rattle.task_step.specs.Sights.{seen_in};
 
 use crate::read_flags::ReadFlags;
 use crate::written_cells::WrittenCells;
@@ -39,8 +40,8 @@ impl<'a> Sight<'a> {
 
     /// The state of a cell, as the step wrote it or else as it is in the view.
     pub(crate) fn state(&self, cell: u16) -> CellState
-        requires { cell < length (overlaid self.now.view.now self.now.written) }
-        ensures { slice_get (overlaid self.now.view.now self.now.written) cell ≡ Some result }
+        requires { cell < length (seen_in self.now) }
+        ensures { slice_get (seen_in self.now) cell ≡ Some result }
     {
         match self.written.state(cell) {
             Some(state) => state,
@@ -51,11 +52,11 @@ impl<'a> Sight<'a> {
     /// The cell is the step's own from here on: its place among those that the step wrote. Its state is copied at its first
     /// effect only, and no other cell's.
     pub(crate) fn own(&mut self, alloc: Global, cell: u16) -> Result<usize, OutOfMemory>
-        requires cell { cell < length (overlaid self.old.view.now self.old.written) }
+        requires cell { cell < length (seen_in self.old) }
         requires few { length self.old.view.now ≤ 256 }
         ensures view { self.new.view.now ≡ self.old.view.now }
         ensures read_flags { self.new.read_flags ≡ self.old.read_flags }
-        ensures cells { overlaid self.new.view.now self.new.written ≡ overlaid self.old.view.now self.old.written }
+        ensures cells { seen_in self.new ≡ seen_in self.old }
         ensures place { IfOk result (λ place. IsWrittenAt self.new.written place cell) }
     {
         match self.written.place(cell) {
@@ -71,11 +72,11 @@ impl<'a> Sight<'a> {
     /// An effect on a cell that is the step's own, at its place.
     pub(crate) fn change(&mut self, place: usize, cell: u16, effect: &Effect)
         requires place { IsWrittenAt self.old.written place cell }
-        requires cell { cell < length (overlaid self.old.view.now self.old.written) }
-        requires small { IsSmallOn (slice_get (overlaid self.old.view.now self.old.written) cell) effect.now }
+        requires cell { cell < length (seen_in self.old) }
+        requires small { IsSmallOn (slice_get (seen_in self.old) cell) effect.now }
         ensures view { self.new.view.now ≡ self.old.view.now }
         ensures read_flags { self.new.read_flags ≡ self.old.read_flags }
-        ensures cells { overlaid self.new.view.now self.new.written ≡ emitted (overlaid self.old.view.now self.old.written) cell effect.now }
+        ensures cells { seen_in self.new ≡ emitted (seen_in self.old) cell effect.now }
     {
         let state = self.written.at(place, cell).after(effect);
         self.written.set(place, cell, state);

@@ -4,11 +4,10 @@ ghost use Rattle.std.specs.Prelude.{◌≡◌, ◌+◌, ◌^◌, ◌<◌, ◌≤
 ghost use Rattle.aerie_base.specs.Ranges.{number_limit};
 ghost use Rattle.run_data.specs.declared.frames.Item.TheVariants.{Emit, Child};
 ghost use Rattle.run_data.specs.StepStates.{starting, valued, with_flags, assigned, giving, paid};
-ghost use Rattle.run_data.specs.Frames.{frame_of};
 ghost use Rattle.run_data.specs.Jobs.{IsModest};
 ghost use Rattle.task_step.specs.Doable.{HasType, cells_of};
 ghost use Rattle.run_data.specs.Magnitudes.{effect_magnitude};
-ghost use Rattle.task_step.specs.Ends.{status_of};
+ghost use Rattle.task_step.specs.Ends.{ended_frame};
 ghost use Rattle.task_step.specs.OwnCells.{most_items};
 ghost use Rattle.task_step.specs.declared.step_end.StepEnd.TheVariants.{Fuel};
 
@@ -151,7 +150,7 @@ impl<'a> StepState<'a> {
         room: &mut Room,
     ) -> Result<Fresh, StepEnd>
         requires { at + 1 < 2 ^ 32 }
-        ensures frame { IfOk result (λ fresh. fresh ≡ frame_of job.now (status_of end job.now.state.kind at self.entry) self.entry) }
+        ensures frame { IfOk result (λ fresh. fresh ≡ ended_frame job.now end at self.entry) }
         ensures paid { result ≡ Err Fuel → ⊥ }
     {
         let reads = cells_read(alloc, &self.sight)?;

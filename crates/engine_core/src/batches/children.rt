@@ -9,10 +9,10 @@ ghost use Rattle.run_data.specs.StepStates.{after_item, after_items};
 ghost use Rattle.engine_core.specs.BatchTrees.{children_by, children_among};
 ghost use Rattle.engine_core.specs.BatchViews.{CanEmit, CanEmitAll};
 
-use crate::beginnings::activity_state;
-use crate::ready_jobs::ReadyJobs;
 use aerie_base::{Fault, List, Model, OutOfMemory, Path, Shared, Value};
 use effect_cells::Cells;
+use live_tasks::beginnings::activity_state;
+use live_tasks::ready_jobs::ReadyJobs;
 use run_data::{Frame, Item, Job, Record, Status};
 use std::alloc::Global;
 
@@ -105,7 +105,8 @@ pub(super) fn with_children(
     requires room { may_have_children job.now.path ≡ true }
     requires effects { CanEmitAll job.now.view items.now }
     requires few { number + length items.now < 2 ^ 32 }
-    ensures { IfOk result (λ all. all ≡ others ++ fresh (child_jobs model.now job.now.path number job.now.view items.now)) }
+    ensures { IfOk result (λ all. all
+        ≡ others ++ fresh (child_jobs model.now job.now.path number job.now.view items.now)) }
 {
     if children_among(items) == 0 {
         return Ok(others);
@@ -143,7 +144,8 @@ fn deep_frame(
     kind: u16,
     arguments: &[Value],
 ) -> Result<Frame, OutOfMemory>
-    ensures { IfOk result (λ frame. frame ≡ deep_frame maker.now (child_job model.now maker.now 0 [] kind arguments.now)) }
+    ensures { IfOk result (λ frame. frame
+        ≡ deep_frame maker.now (child_job model.now maker.now 0 [] kind arguments.now)) }
 {
     let before = activity_state(alloc, model, kind, arguments)?;
     let step = Record {

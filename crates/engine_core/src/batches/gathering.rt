@@ -10,14 +10,14 @@ ghost use Rattle.effect_cells.specs.declared.trees.Part.{Part};
 ghost use Rattle.run_data.specs.Frames.{room_of};
 ghost use Rattle.run_data.specs.laws.Orders.{EachOf};
 ghost use Rattle.run_data.specs.laws.Trees.{frame_at, rebuilt};
-ghost use Rattle.engine_core.specs.BatchOrders.{AreByPath};
+ghost use Rattle.live_tasks.specs.FrameOrders.{AreByPath};
 ghost use Rattle.engine_core.specs.BatchTrees.{parts_below, part_by, HaveFewItems, AreGathered, MayGather, rebuilt_roots};
 
 use super::children::{children_among, children_in};
 use super::generations::CHILD_LIMIT;
-use crate::ready_jobs::Root;
 use aerie_base::{OutOfMemory, Path};
 use effect_cells::{Cells, Gathering, effects_are_gathered};
+use live_tasks::ready_jobs::Root;
 use run_data::{Frame, Item};
 use std::alloc::Global;
 
@@ -58,7 +58,9 @@ fn gather_task(
     requires few { HaveFewItems frames.now }
     requires number { number ≤ step_limit }
     requires may { MayGather cells.now (rebuilt frames.now (room_of path.now) number path.now) gathering.old }
-    ensures { OnOk result (AreGathered cells.now (rebuilt frames.now (room_of path.now) number path.now) gathering.old gathering.new) }
+    ensures { OnOk result
+        (AreGathered cells.now
+        (rebuilt frames.now (room_of path.now) number path.now) gathering.old gathering.new) }
 {
     effects_are_gathered();
     let Some(frame) = find(frames, path) else {
@@ -94,9 +96,12 @@ fn gather_item(
 ) -> Result<(), OutOfMemory>
     requires order { AreByPath frames.now }
     requires few { HaveFewItems frames.now }
-    requires may { MayGather cells.now (part_by (parts_below frames.now (room_of path.now)) path.now number item.now ∷ []) gathering.old }
-    ensures { OnOk result ((parts : List Part) (before : Gathered) → before.clock ≡ entered_at → AreGathered cells.now parts before gathering.old →
-        AreGathered cells.now (part_by (parts_below frames.now (room_of path.now)) path.now number item.now ∷ parts) before gathering.new) }
+    requires may { MayGather cells.now
+        (part_by (parts_below frames.now (room_of path.now)) path.now number item.now ∷ []) gathering.old }
+    ensures { OnOk result ((parts : List Part) (before : Gathered) → before.clock ≡ entered_at →
+        AreGathered cells.now parts before gathering.old →
+        AreGathered cells.now
+        (part_by (parts_below frames.now (room_of path.now)) path.now number item.now ∷ parts) before gathering.new) }
 {
     effects_are_gathered();
     match item {
@@ -117,8 +122,12 @@ fn gather_child(
 ) -> Result<(), OutOfMemory>
     requires order { AreByPath frames.now }
     requires few { HaveFewItems frames.now }
-    requires may { MayGather cells.now (parts_below frames.now (room_of path.now) (child_path path.now number)) gathering.old }
-    ensures { OnOk result (AreGathered cells.now (parts_below frames.now (room_of path.now) (child_path path.now number)) gathering.old gathering.new) }
+    requires may { MayGather cells.now
+        (parts_below frames.now (room_of path.now) (child_path path.now number)) gathering.old }
+    ensures { OnOk result
+        (AreGathered cells.now
+        (parts_below frames.now (room_of path.now)
+        (child_path path.now number)) gathering.old gathering.new) }
 {
     effects_are_gathered();
     if path.children().len() >= CHILD_LIMIT {
@@ -142,7 +151,8 @@ pub(super) fn gather_all(
     requires few { HaveFewItems frames.now }
     requires made { EachOf (λ root. root.made ≤ step_limit) roots.now }
     requires may { MayGather cells.now (rebuilt_roots frames.now roots.now) gathering.old }
-    ensures { OnOk result (AreGathered cells.now (rebuilt_roots frames.now roots.now) gathering.old gathering.new) }
+    ensures { OnOk result
+        (AreGathered cells.now (rebuilt_roots frames.now roots.now) gathering.old gathering.new) }
 {
     effects_are_gathered();
     let mut left = roots.len();

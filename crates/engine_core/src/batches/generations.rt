@@ -8,8 +8,8 @@ ghost use Rattle.engine_core.specs.BatchDues.{AreSeenSteps, IsSeenStep};
 ghost use Rattle.engine_core.specs.BatchGenerations.{AddsGeneration, MayRun, IsGenerationRun, PaysForGeneration, LooksForGeneration, PaysForAll, LooksForAll, Ran, AreDueJobs, AreAllFrames, AddsFrame, HaveRoomForChildren, jobs_of};
 
 use super::children::{deep_frames, with_children};
-use crate::ready_jobs::ReadyJobs;
 use aerie_base::{List, Model, OutOfMemory, Steps};
+use live_tasks::ready_jobs::ReadyJobs;
 use run_data::laws::{
     budget_decides_the_end_alone, same_by_generations, steps_are_small, waves_go_by_what_is_left,
 };
@@ -66,7 +66,8 @@ fn add_each(
 ) -> Result<ReadyJobs, OutOfMemory>
     requires as_many { length frames ≡ length jobs.now }
     requires seen { AreSeenSteps jobs.now frames }
-    ensures { IfOk result (λ dues. AddsGeneration model.now jobs.now frames made.old.items made.new.items dues) }
+    ensures { IfOk result (λ dues.
+        AddsGeneration model.now jobs.now frames made.old.items made.new.items dues) }
 {
     let mut dues = ReadyJobs::new(alloc);
     let mut at = 0;
@@ -115,7 +116,8 @@ fn add_all(
     requires as_many { length frames ≡ length jobs.now }
     requires seen { AreSeenSteps jobs.now frames }
     requires room { HaveRoomForChildren (jobs_of jobs.now) }
-    ensures { IfOk result (λ dues. AddsGeneration model.now jobs.now frames made.old.items made.new.items dues) }
+    ensures { IfOk result (λ dues.
+        AddsGeneration model.now jobs.now frames made.old.items made.new.items dues) }
 {
     let mut dues = ReadyJobs::new(alloc);
     for at in 0..jobs.len() {
@@ -137,7 +139,8 @@ fn add_frames(
 ) -> Result<ReadyJobs, OutOfMemory>
     requires as_many { length frames ≡ length jobs.now }
     requires seen { AreSeenSteps jobs.now frames }
-    ensures { IfOk result (λ dues. AddsGeneration model.now jobs.now frames made.old.items made.new.items dues) }
+    ensures { IfOk result (λ dues.
+        AddsGeneration model.now jobs.now frames made.old.items made.new.items dues) }
 {
     if have_room(jobs.jobs()) {
         add_all(alloc, model, jobs, frames, made)
@@ -165,10 +168,14 @@ fn run_generation<S: Stepper, L: Ledger, K: Ledger>(
     requires bound { bound ≤ step_limit }
     requires fuel { fuel ≤ bound }
     requires jobs { MayRun model.now bound jobs.now }
-    ensures iteration { IfOk result (λ next. IsGenerationRun model.now jobs.now fuel made.old.items made.new.items next) }
-    ensures pays { IfOk result (λ next. PaysForGeneration next (S.records stepper.old) made.old.items made.new.items steps.old steps.new) }
-    ensures few_looks { IfOk result (λ next. LooksForGeneration next made.old.items made.new.items looks.old looks.new) }
-    ensures ran { Ran (S.is_of stepper.old) (S.is_of stepper.new) (S.records stepper.old) (S.records stepper.new)
+    ensures iteration { IfOk result (λ next.
+        IsGenerationRun model.now jobs.now fuel made.old.items made.new.items next) }
+    ensures pays { IfOk result (λ next.
+        PaysForGeneration next (S.records stepper.old) made.old.items made.new.items steps.old steps.new) }
+    ensures few_looks { IfOk result (λ next.
+        LooksForGeneration next made.old.items made.new.items looks.old looks.new) }
+    ensures ran { Ran (S.is_of stepper.old) (S.is_of stepper.new) (S.records stepper.old)
+        (S.records stepper.new)
         (S.address stepper.old) (S.address stepper.new) (S.opened stepper.old) steps.old looks.old
         (S.opened stepper.new) steps.new looks.new }
 {
@@ -200,10 +207,14 @@ pub(super) fn all_frames<S: Stepper, L: Ledger, K: Ledger>(
     requires bound { bound ≤ step_limit }
     requires spent { spent ≤ bound }
     requires jobs { AreDueJobs model.now jobs.now }
-    ensures frames { IfOk result (λ frames. AreAllFrames model.now bound spent jobs.now (option_map (λ all. all.items) frames)) }
-    ensures pays { IfOk result (λ frames. PaysForAll (option_map (λ all. all.items) frames) (S.records stepper.old) steps.old steps.new) }
-    ensures few_looks { IfOk result (λ frames. LooksForAll (option_map (λ all. all.items) frames) looks.old looks.new) }
-    ensures ran { Ran (S.is_of stepper.old) (S.is_of stepper.new) (S.records stepper.old) (S.records stepper.new)
+    ensures frames { IfOk result (λ frames.
+        AreAllFrames model.now bound spent jobs.now (option_map (λ all. all.items) frames)) }
+    ensures pays { IfOk result (λ frames.
+        PaysForAll (option_map (λ all. all.items) frames) (S.records stepper.old) steps.old steps.new) }
+    ensures few_looks { IfOk result (λ frames.
+        LooksForAll (option_map (λ all. all.items) frames) looks.old looks.new) }
+    ensures ran { Ran (S.is_of stepper.old) (S.is_of stepper.new) (S.records stepper.old)
+        (S.records stepper.new)
         (S.address stepper.old) (S.address stepper.new) (S.opened stepper.old) steps.old looks.old
         (S.opened stepper.new) steps.new looks.new }
 {

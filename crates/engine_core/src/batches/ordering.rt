@@ -2,7 +2,7 @@
 
 ghost use Rattle.std.specs.Prelude.{◌≡◌, ◌<◌, IfOk, true, false};
 ghost use Rattle.run_data.specs.Batches.{by_path};
-ghost use Rattle.engine_core.specs.BatchOrders.{is_before, AreByPath};
+ghost use Rattle.live_tasks.specs.FrameOrders.{is_before, AreByPath};
 
 use aerie_base::OutOfMemory;
 use run_data::Frame;

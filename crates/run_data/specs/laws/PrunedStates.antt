@@ -13,9 +13,9 @@ use Rattle.run_data.specs.laws.LiveParts.{live}
 abbrev pub pruned : SimulationState → SimulationState
 pruned at = record at { table = live at.table }
 
-abbrev pub pruned_place : Next SimulationState Run → Next SimulationState Run
-pruned_place (more at) = more (pruned at)
-pruned_place (finished run) = finished run
+abbrev pub pruned_point : Next SimulationState Run → Next SimulationState Run
+pruned_point (more at) = more (pruned at)
+pruned_point (finished run) = finished run
 
 -- The step of the live part of a reached state is that of the whole, in its live part; where the run is finished, it is the
 -- same run.
@@ -23,4 +23,4 @@ abbrev pub PrunedStep : Type 0
 PrunedStep =
     (model : Parts) (plan : Plan) (bound : ℕ) (at : SimulationState) → IsTrue (valid_model model) → IsPlanOf model plan →
     IsReached model plan bound (more at) →
-    pruned_place (next_state model plan bound (pruned at)) ≡ pruned_place (next_state model plan bound at)
+    pruned_point (next_state model plan bound (pruned at)) ≡ pruned_point (next_state model plan bound at)

@@ -7,8 +7,9 @@ use Rattle.run_data.specs.declared.jobs.Job.{Job}
 use Rattle.run_data.specs.laws.Trees.{tree_by_frames}
 use Rattle.engine_core.specs.BatchEnding.{committed_by}
 use Rattle.engine_core.specs.BatchEnds.{batch_as}
-use Rattle.engine_core.specs.declared.ready_jobs.Root.{Root}
-use Rattle.engine_core.specs.BatchTrees.{root_of, rebuilt_roots, tree_with}
+use Rattle.live_tasks.specs.declared.ready_jobs.Root.{Root}
+use Rattle.live_tasks.specs.ReadyJobs.{root_of}
+use Rattle.engine_core.specs.BatchTrees.{rebuilt_roots, tree_with}
 use Rattle.engine_core.proofs.GatheredFrames.{roots_within, roots_of_jobs}
 use Rattle.engine_core.proofs.batches.commit.Goals as goal
 

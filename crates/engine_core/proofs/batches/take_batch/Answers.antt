@@ -1,4 +1,4 @@
--- Frames in order are those that the batch makes, in some order.
+-- Frames that are the same in order of path are those that the batch makes, in some order.
 use Rattle.engine_core.proofs.BatchJudging.{by_order}
 use Rattle.engine_core.proofs.batches.take_batch.Goals as goal
 

@@ -1,10 +1,10 @@
 use Rattle.std.proofs.Common.{◌∙◌, sym}
 use Rattle.std.proofs.lemmas.Bool.{eqb-false}
 use Rattle.engine_core.specs.EngineStates.{jobs_in}
-use Rattle.engine_core.proofs.BatchRuns.{ran_on}
-use Rattle.engine_core.proofs.CountedRuns.{counted_first, counted_on, counted_less, some_job}
+use Rattle.engine_core.specs.BatchRuns.{ran_on}
+use Rattle.engine_core.proofs.CountedRuns.{counted_first, counted_on, counted_less}
 use Rattle.run_data.specs.Counts.{rose_not}
-use Rattle.engine_core.proofs.RunCounts.{ran_not}
+use Rattle.engine_core.specs.EnginePoints.{ran_not, some_job}
 use Rattle.engine_core.proofs.simulating.simulate.Goals as goal
 
 pub returns-in_err-engine-clause-opened : goal.returns-in_err-engine-clause-opened
@@ -53,4 +53,5 @@ loop-alloc-smaller g c =
     counted_less c.args.model.now c.args.plan.now c.args.bound (g.S.Stepper.records c.args.stepper.now) c.args.steps.now c.args.looks.now c.loop-alloc.engine c.loop-alloc.steps c.loop-alloc.looks
     c.loop-alloc.invariant.counted
     (some_job (jobs_in c.loop-alloc.engine.point) c.ready.result.now c.ready.ensures.jobs (eqb-false _ 0 (sym c.is_empty.ensures ∙ c.loop-alloc-test.true)))
-    c.in_ok-engine-2.engine c.in_ok-engine-2.ensures.next c.in_ok-engine-2.ensures.model c.in_ok-engine-2.ensures.plan c.in_ok-engine-2.ensures.bound c.weight_falls.ensures.falls
+    c.in_ok-engine-2.engine c.in_ok-engine-2.ensures.next c.in_ok-engine-2.ensures.model c.in_ok-engine-2.ensures.plan c.in_ok-engine-2.ensures.bound
+    c.what_has_ended_may_be_left_out.ensures.step c.reached_states_are_of_the_model.ensures c.weight_falls.ensures.falls c.cells.ensures.valid

@@ -1,6 +1,6 @@
 use Rattle.engine_core.specs.BatchGenerations.{Ran}
 use Rattle.engine_core.proofs.CountedRuns.{IsCounted}
-use Rattle.engine_core.proofs.Transitions.{point_weight}
+use Rattle.engine_core.specs.EnginePoints.{point_weight}
 use Rattle.engine_core.proofs.simulating.simulate.Given as goal
 
 -- the engine is of the plan, and what was run so far is counted

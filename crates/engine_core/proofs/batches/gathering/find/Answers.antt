@@ -2,17 +2,17 @@
 use Rattle.std.proofs.Common.{◌∙◌, sym, rules}
 use Rattle.std.proofs.lemmas.Bool.{false≢true}
 use Rattle.std.proofs.lemmas.List.Sorted.{IsPartitionPoint-from_clause}
-use Rattle.engine_core.proofs.TreeLookup.{before, parted, found, found_other, found_none}
+use Rattle.engine_core.specs.FrameLookups.{before_path, parted, found, found_other, found_none}
 use Rattle.engine_core.proofs.batches.gathering.find.Goals as goal
 
 pub returns-in_default : goal.returns-in_default
 returns-in_default c =
-    let point = IsPartitionPoint-from_clause (before c.args.path.now) c.args.frames.now c.partition_point-at.result c.partition_point-at.ensures.partitioned (parted c.args.path.now c.args.frames.now c.requires) (λ a r q k. search rules) in
+    let point = IsPartitionPoint-from_clause (before_path c.args.path.now) c.args.frames.now c.partition_point-at.result c.partition_point-at.ensures.partitioned (parted c.args.path.now c.args.frames.now c.requires) (λ a r q k. search rules) in
     sym (found_none c.args.path.now c.args.frames.now c.partition_point-at.result point.0 c.in_default.ensures.lookup.3)
 
 pub returns-then-is_same : goal.returns-then-is_same
 returns-then-is_same c =
-    let point = IsPartitionPoint-from_clause (before c.args.path.now) c.args.frames.now c.partition_point-at.result c.partition_point-at.ensures.partitioned (parted c.args.path.now c.args.frames.now c.requires) (λ a r q k. search rules) in
+    let point = IsPartitionPoint-from_clause (before_path c.args.path.now) c.args.frames.now c.partition_point-at.result c.partition_point-at.ensures.partitioned (parted c.args.path.now c.args.frames.now c.requires) (λ a r q k. search rules) in
     let lookup = c.in-Some.ensures.lookup in
     sym
     (found c.args.path.now c.args.frames.now c.partition_point-at.result c.in-Some.frame.now c.requires point.0 point.1 lookup.3.0 (lookup.3.1 c.in-Some.frame.now)
@@ -20,7 +20,7 @@ returns-then-is_same c =
 
 pub returns-else-is_same : goal.returns-else-is_same
 returns-else-is_same c =
-    let point = IsPartitionPoint-from_clause (before c.args.path.now) c.args.frames.now c.partition_point-at.result c.partition_point-at.ensures.partitioned (parted c.args.path.now c.args.frames.now c.requires) (λ a r q k. search rules) in
+    let point = IsPartitionPoint-from_clause (before_path c.args.path.now) c.args.frames.now c.partition_point-at.result c.partition_point-at.ensures.partitioned (parted c.args.path.now c.args.frames.now c.requires) (λ a r q k. search rules) in
     let lookup = c.in-Some.ensures.lookup in
     sym
     (found_other c.args.path.now c.args.frames.now c.partition_point-at.result c.in-Some.frame.now c.requires point.0 point.1 lookup.3.0 (lookup.3.1 c.in-Some.frame.now)

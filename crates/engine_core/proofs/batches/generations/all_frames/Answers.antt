@@ -4,7 +4,7 @@ use Rattle.aerie_base.specs.Paths.{child_limit}
 use Rattle.run_data.specs.TaskFrames.{Frame}
 use Rattle.run_data.specs.Records.{unmatched}
 use Rattle.engine_core.proofs.BatchLoop.{begins, can_run, stopped, iterated, one_less, pays_on, looks_on, ended, out_of_iterations}
-use Rattle.engine_core.proofs.BatchRuns.{ran_on}
+use Rattle.engine_core.specs.BatchRuns.{ran_on}
 use Rattle.engine_core.proofs.batches.generations.all_frames.Goals as goal
 
 pub run_generation-requires-clause-jobs : goal.run_generation-requires-clause-jobs

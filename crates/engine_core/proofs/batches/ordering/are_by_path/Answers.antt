@@ -3,8 +3,8 @@ use Rattle.std.proofs.Common.{◌≡◌, ◌-◌, ◌<◌, ◌∙◌, false, len
 use Rattle.std.proofs.lemmas.List.{get_or_read}
 use Rattle.std.proofs.lemmas.List.Sorted.{all_adjacent_more}
 use Rattle.run_data.specs.TaskFrames.{Frame}
-use Rattle.engine_core.specs.BatchOrders.{is_before}
-use Rattle.engine_core.proofs.BatchOrder.{in_order_from_sort}
+use Rattle.live_tasks.specs.FrameOrders.{is_before}
+use Rattle.engine_core.specs.FrameOrderLaws.{in_order_from_sort}
 use Rattle.engine_core.proofs.batches.ordering.are_by_path.Goals as goal
 
 pub loop-at-preserved : goal.loop-at-preserved

@@ -1,6 +1,6 @@
 use Rattle.std.proofs.Common.{◌≡◌, ◌+◌, ◌<◌, ℕ, false, get_or}
 use Rattle.run_data.specs.TaskFrames.{Frame}
-use Rattle.engine_core.specs.BatchOrders.{is_before}
+use Rattle.live_tasks.specs.FrameOrders.{is_before}
 use Rattle.engine_core.proofs.batches.ordering.are_by_path.Given as goal
 
 -- of those that were passed none is before the one in front of it

@@ -2,8 +2,8 @@
 use Rattle.std.proofs.Common.{◌≡◌, sym, rules}
 use Rattle.std.proofs.lemmas.List.Sorted.{answers_always}
 use Rattle.std.specs.Ordering.{is_lt}
-use Rattle.engine_core.specs.BatchOrders.{is_before}
-use Rattle.engine_core.proofs.BatchOrder.{order, by_path_stays, stable_is}
+use Rattle.live_tasks.specs.FrameOrders.{is_before}
+use Rattle.engine_core.specs.FrameOrderLaws.{order, by_path_stays, stable_is}
 use Rattle.engine_core.proofs.batches.ordering.in_order.Goals as goal
 
 pub returns-then-are_by_path : goal.returns-then-are_by_path

@@ -1,6 +1,6 @@
 use Rattle.std.proofs.Common.{◌≡◌, ◌∙◌, [], ap, sym, subst}
 use Rattle.engine_core.specs.EngineStates.{EngineState, jobs_in}
-use Rattle.engine_core.specs.Stages.{engine_state_of}
+use Rattle.engine_core.specs.Simulations.{engine_state_of}
 use Rattle.engine_core.proofs.EngineSteps.{is_fresh}
 use Rattle.engine_core.proofs.Transitions.{stands_there}
 use Rattle.engine_core.proofs.engine.Engine.finish.Goals as goal
@@ -13,8 +13,8 @@ into_run-requires-clause-job c = c.self.invariant.1
 
 pub returns-clause-fresh : goal.returns-clause-fresh
 returns-clause-fresh c =
-    is_fresh (engine_state_of c.self.inside.model.now c.self.inside.stage) c.args.self c.into_run.result c.self.view_is
-    (stands_there c.self.inside.model.now c.self.inside.stage c.self.invariant.0 c.self.invariant.1) c.into_run.ensures
+    is_fresh (engine_state_of c.self.inside.model.now c.self.inside.simulation) c.args.self c.into_run.result c.self.view_is
+    (stands_there c.self.inside.model.now c.self.inside.simulation c.self.invariant.0 c.self.invariant.1) c.into_run.ensures
 
 pub returns-clause-point : goal.returns-clause-point
 returns-clause-point c = ap (λ (s : EngineState). s.point) (sym c.self.view_is) ∙ c.into_run.ensures

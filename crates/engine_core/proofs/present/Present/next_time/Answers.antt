@@ -1,5 +1,6 @@
 use Rattle.std.proofs.Common.{◌∙◌, Some, sym, ap}
 use Rattle.run_data.specs.Fresh.{below}
+use Rattle.live_tasks.specs.InStep.{table_in}
 use Rattle.engine_core.proofs.PassingTime.{least_is}
 use Rattle.engine_core.proofs.present.Present.next_time.Goals as goal
 
@@ -7,6 +8,6 @@ pub returns : goal.returns
 returns c =
     c.before-2.ensures
     ∙ ap (below c.args.end)
-    (least_is c.due_splits.ensures.splits c.due_splits.ensures.delays c.due_splits.ensures.waits c.args.self.now.time c.args.end c.args.self.now.cells c.args.self.now.tasks.tasks
-    c.note_distinct.ensures.distinct c.next_delay.result c.next_wake.result (Some c.in_ok-time.time) c.next_delay.ensures
-    (c.next_wake.ensures c.args.self.now.time c.args.end c.args.self.now.cells c.requires) (sym c.in_ok-time.was ∙ c.earlier.ensures))
+    (least_is c.due_splits.ensures.splits c.args.self.now.time c.args.end c.args.self.now.cells (table_in c.args.self.now.tasks)
+    c.next_delay.result c.next_wake.result (Some c.in_ok-time.time) c.next_delay.ensures
+    (c.next_wake.ensures c.args.self.now.time c.args.end c.args.self.now.cells c.requires.found) (sym c.in_ok-time.was ∙ c.earlier.ensures))

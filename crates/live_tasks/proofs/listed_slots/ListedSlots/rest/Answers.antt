@@ -1,6 +1,17 @@
-use Rattle.live_tasks.proofs.ListedDelays.{all_rested}
+use Rattle.std.proofs.Common.{◌∙◌}
+use Rattle.live_tasks.proofs.KeepsWaits.{keeps_then}
+use Rattle.live_tasks.proofs.ListedDelays.{rests_more, none_before_less, all_rested}
 use Rattle.live_tasks.proofs.Settling.{next_none}
 use Rattle.live_tasks.proofs.listed_slots.ListedSlots.rest.Goals as goal
+
+pub loop-number-preserved : goal.loop-number-preserved
+loop-number-preserved c = (
+  rests_more c.args.now c.in-Some.number c.args.self.now.slots.slots c.loop-number.self.slots.slots c.resume.new.self.slots.slots c.loop-number.invariant.0 c.in_ok-resume.ensures.is,
+  c.resume.ensures.length ∙ c.loop-number.invariant.1,
+  none_before_less c.args.now c.in-Some.number c.loop-number.self.delays c.resume.new.self.delays c.loop-number.invariant.2 c.resume.ensures.less,
+  c.in_ok-resume.ensures.listed,
+  keeps_then c.args.self.now c.loop-number.self c.resume.new.self c.loop-number.invariant.4 c.in_ok-resume.ensures.waits,
+)
 
 pub returns-clause-are : goal.returns-clause-are
 returns-clause-are c =

@@ -2,7 +2,7 @@ use Rattle.std.proofs.Common.{◌≡◌}
 use Rattle.std.specs.BTreeSet.{btree_set_len}
 use Rattle.slab.specs.Slab.{slab_len}
 use Rattle.live_tasks.specs.Listing.{IsNoneBefore}
-use Rattle.live_tasks.specs.ListedSlots.{ListsExactly}
+use Rattle.live_tasks.specs.ListedSlots.{ListsExactly, KeepsWaits}
 use Rattle.live_tasks.proofs.ListedDelays.{RestsAlike}
 use Rattle.live_tasks.proofs.listed_slots.ListedSlots.rest.Given as goal
 
@@ -12,6 +12,7 @@ invariant-loop-number l =
     × (slab_len l.self.slots ≡ slab_len l.initial.self.slots)
     × IsNoneBefore l.now l.self.delays
     × ListsExactly l.self
+    × KeepsWaits l.initial.self l.self
 
 abbrev pub decreases-loop-number : goal.decreases-loop-number
 decreases-loop-number l = btree_set_len l.self.delays

@@ -1,23 +1,11 @@
-use Rattle.std.proofs.Common.{List, ℕ, ap, sym, subst}
-use Rattle.run_data.specs.Tasks.{after_frames}
-use Rattle.live_tasks.specs.Slots.{table_of, Slots}
-use Rattle.live_tasks.specs.Endings.{AreFollowers, IsTaking}
-use Rattle.live_tasks.proofs.Taken.{taken_followers}
+use Rattle.live_tasks.specs.Conditions.{condition_at}
+use Rattle.live_tasks.proofs.KeptWaits.{kept_touched}
 use Rattle.live_tasks.proofs.tasks.LiveTasks.after_batch.Goals as goal
 
-pub end_batch-requires : goal.end_batch-requires
-end_batch-requires c =
-    subst (λ (s : Slots). AreFollowers s c.take.new.self.followers.items) (ap (λ s. s.slots) (sym c.relist.ensures.slots))
-    (subst (λ f. AreFollowers c.take.new.self.tables.slots.slots f) (ap (λ v. v.items) (sym c.take.ensures.followers))
-    (taken_followers c.args.now (table_of c.args.self.now.tables.slots.slots) c.args.frames.now c.in_ok-numbers.numbers.items c.args.self.now.tables.slots.slots c.take.new.self.tables.slots.slots c.requires.may.live_ c.requires.may.are
-    c.in_ok-numbers.ensures.taken c.args.self.now.followers.items c.requires.followers))
+pub returns-clause-in_step : goal.returns-clause-in_step
+returns-clause-in_step c = record { live_ = c.in_ok-go_on.ensures.in_step.live_; followers_ = c.in_ok-go_on.ensures.in_step.followers_; listed = c.in_ok-go_on.ensures.in_step.listed }
 
-pub returns-clause-live_ : goal.returns-clause-live_
-returns-clause-live_ c =
-    (c.in_ok-end_batch.ensures.ends (table_of c.args.self.now.tables.slots.slots) c.args.self.now.tables.slots.slots c.requires.may.live_ c.requires.may.are
-    (subst (λ (s : Slots). IsTaking c.args.self.now.tables.slots.slots c.as_slice.result.now (after_frames c.args.now c.args.frames.now (table_of c.args.self.now.tables.slots.slots)) s) (ap (λ s. s.slots) (sym c.relist.ensures.slots))
-    (subst (λ (n : List ℕ). IsTaking c.args.self.now.tables.slots.slots n (after_frames c.args.now c.args.frames.now (table_of c.args.self.now.tables.slots.slots)) c.take.new.self.tables.slots.slots) (sym c.as_slice.ensures.value)
-    c.in_ok-numbers.ensures.taken))).1
-
-pub returns-clause-listed : goal.returns-clause-listed
-returns-clause-listed c = c.in_ok-end_batch.ensures.listed (c.in_ok-relist.ensures.listed (c.in_ok-numbers.ensures.listed c.requires.listed.all))
+pub returns-clause-kept : goal.returns-clause-kept
+returns-clause-kept c = λ now horizon cells others kept agree.
+    kept_touched now horizon cells others (condition_at c.go_on.new.self.tables.slots.slots) c.args.touched.now c.go_on.new.self.tables.waits c.touch.new.self c.waiting_depends_on_cells_read.ensures.wakes
+    c.in_ok-touch.ensures agree (c.in_ok-go_on.ensures.waits now horizon cells kept)

@@ -1,9 +1,11 @@
 use Rattle.std.proofs.Common.{◌+◌, ◌∷◌, [], refl, sym, ap, ◌∙◌, subst, drop, arith}
 use Rattle.std.proofs.lemmas.List.{drop_more}
 use Rattle.run_data.specs.Tasks.{after_frames}
-use Rattle.live_tasks.specs.Endings.{AreFollowers, IsEnding}
+use Rattle.live_tasks.specs.Followers.{AreFollowers}
+use Rattle.live_tasks.specs.Endings.{IsEnding}
 use Rattle.live_tasks.proofs.Coming.{beyond}
 use Rattle.live_tasks.proofs.Batches.{IsStarting, start_next, starts_all, start_followers, table_is, are_live}
+use Rattle.live_tasks.proofs.KeepsWaits.{keeps_same, keeps_then}
 use Rattle.live_tasks.proofs.tasks.LiveTasks.end_batch.Goals as goal
 
 pub loop-frame-init : goal.loop-frame-init
@@ -12,6 +14,7 @@ loop-frame-init c = (
   refl,
   λ before. before,
   λ table first live are is. starts_all c.args.now table c.args.frames.now c.args.numbers.now first c.args.self.now.tables.slots.slots live are is,
+  keeps_same c.args.self.now.tables,
 )
 
 pub loop-frame-preserved : goal.loop-frame-preserved
@@ -28,6 +31,7 @@ loop-frame-preserved c = (
       (drop_more c.args.frames.now c.loop-frame.frame-index c.frame-item.result c.loop-frame-test.true
       ∙ ap (λ f. f ∷ drop (c.loop-frame.frame-index + 1) c.args.frames.now) (sym c.frame-item.is)) (c.loop-frame.invariant.3 table first live are is))
       c.in_ok-start.ensures.root (λ none. ap (λ s. s.tables.slots.slots) (c.in_ok-start.ensures.other none)),
+  keeps_then c.args.self.now.tables c.loop-frame.self.tables c.start.new.self.tables c.loop-frame.invariant.4 c.in_ok-start.ensures.waits,
 )
 
 pub loop-number-preserved : goal.loop-number-preserved
@@ -39,6 +43,7 @@ loop-number-preserved c = (
       c.in_ok-settle.ensures.ends [] (drop (c.loop-number.number-index + 1) c.args.numbers.now) (after_frames c.args.now c.args.frames.now table)
       (subst (λ n. IsEnding c.args.now (after_frames c.args.now c.args.frames.now table) [] n c.loop-number.self.tables.slots.slots)
       (drop_more c.args.numbers.now c.loop-number.number-index 0 c.loop-number-test.true) (c.loop-number.invariant.3 table first live are is)),
+  keeps_then c.args.self.now.tables c.loop-number.self.tables c.settle.new.self.tables c.loop-number.invariant.4 c.in_ok-settle.ensures.waits,
 )
 
 pub returns-clause-ends : goal.returns-clause-ends

@@ -2,8 +2,9 @@ use Rattle.std.proofs.Common.{◌≡◌, [], drop}
 use Rattle.run_data.specs.Tasks.{Table, after_frames}
 use Rattle.run_data.specs.laws.BatchFrames.{AreFramesOf}
 use Rattle.live_tasks.specs.Slots.{Slots}
-use Rattle.live_tasks.specs.Endings.{AreFollowers, AreLive, IsTaking, IsEnding}
-use Rattle.live_tasks.specs.ListedSlots.{KeepsExactly}
+use Rattle.live_tasks.specs.Followers.{AreFollowers}
+use Rattle.live_tasks.specs.Endings.{AreLive, IsTaking, IsEnding}
+use Rattle.live_tasks.specs.ListedSlots.{KeepsExactly, KeepsWaits}
 use Rattle.live_tasks.proofs.Batches.{IsStarting}
 use Rattle.live_tasks.proofs.tasks.LiveTasks.end_batch.Given as goal
 
@@ -14,6 +15,7 @@ invariant-loop-frame l =
     × KeepsExactly l.fn.self.tables l.self.tables
     × ((table : Table) (first : Slots) → AreLive table first → AreFramesOf table l.frames → IsTaking first l.numbers (after_frames l.now l.frames table) l.fn.self.tables.slots.slots →
     IsStarting l.now (after_frames l.now l.frames table) (drop l.frame-index l.frames) l.numbers l.self.tables.slots.slots)
+    × KeepsWaits l.fn.self.tables l.self.tables
 
 abbrev pub invariant-loop-number : goal.invariant-loop-number
 invariant-loop-number l =
@@ -22,3 +24,4 @@ invariant-loop-number l =
     × KeepsExactly l.fn.self.tables l.self.tables
     × ((table : Table) (first : Slots) → AreLive table first → AreFramesOf table l.frames → IsTaking first l.numbers (after_frames l.now l.frames table) l.fn.self.tables.slots.slots →
     IsEnding l.now (after_frames l.now l.frames table) [] (drop l.number-index l.numbers) l.self.tables.slots.slots)
+    × KeepsWaits l.fn.self.tables l.self.tables

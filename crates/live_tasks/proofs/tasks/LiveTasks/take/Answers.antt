@@ -3,6 +3,7 @@ use Rattle.live_tasks.specs.declared.origins.Origin.TheVariants.{Ready}
 use Rattle.live_tasks.specs.Endings.{TakesOne, HasTakenUpTo}
 use Rattle.live_tasks.proofs.Coming.{get_is}
 use Rattle.live_tasks.proofs.Orders.{few, more_few, ready_yet, maker_before, next_taken}
+use Rattle.live_tasks.proofs.KeepsWaits.{keeps_then}
 use Rattle.live_tasks.proofs.tasks.LiveTasks.take.Goals as goal
 
 pub take_one-requires-clause-few : goal.take_one-requires-clause-few
@@ -11,7 +12,7 @@ take_one-requires-clause-few c =
     c.index-frames-place.result (get_is c.args.frames.now c.loop-place.place c.index-frames-place.result c.loop-place-test.true ∙ ap Some (sym c.index-frames-place.is))
 
 pub take_one-requires-clause-more_few : goal.take_one-requires-clause-more_few
-take_one-requires-clause-more_few c = λ number slot e at.
+take_one-requires-clause-more_few c = λ number e slot at.
     let less : c.loop-place.place < length c.args.origins.now = omega (arith, c.loop-place-test.true, c.requires.origins_.long) in
     more_few c.args.now c.args.self.now.tables.slots.slots c.args.frames.now c.args.origins.now c.requires c.loop-place.place c.loop-place.numbers.items c.loop-place.self.tables.slots.slots c.loop-place.invariant.0
     c.index-frames-place.result (get_is c.args.frames.now c.loop-place.place c.index-frames-place.result c.loop-place-test.true ∙ ap Some (sym c.index-frames-place.is))
@@ -43,4 +44,5 @@ loop-place-preserved c =
           c.as_slice.ensures.value c.in_ok-number.ensures.takes)),
       c.in_ok-number.ensures.followers ∙ c.loop-place.invariant.1,
       λ before. c.in_ok-number.ensures.listed (c.loop-place.invariant.2 before),
+      keeps_then c.args.self.now.tables c.loop-place.self.tables c.take_one.new.self.tables c.loop-place.invariant.3 c.in_ok-number.ensures.waits,
     )

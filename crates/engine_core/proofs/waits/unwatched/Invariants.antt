@@ -1,8 +1,0 @@
-use Rattle.std.proofs.Common.{◌≤◌, ◌-◌, length}
-use Rattle.engine_core.proofs.waits.unwatched.Given as goal
-
-abbrev pub invariant-loop-alloc : goal.invariant-loop-alloc
-invariant-loop-alloc l = length l.watchers.items ≤ l.cells
-
-abbrev pub decreases-loop-alloc : goal.decreases-loop-alloc
-decreases-loop-alloc l = l.cells - length l.watchers.items

@@ -1,0 +1,6 @@
+mod Rooms
+mod Reading
+mod Finding
+mod Parts
+mod Stepping
+mod Children

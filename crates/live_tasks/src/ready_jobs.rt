@@ -1,0 +1,108 @@
+ghost use Rattle.std.specs.Prelude.{◌≡◌, ◌<◌, ◌++◌, [], ◌∷◌, Some, map, length, slice_get, IfOk, OnOk};
+ghost use Rattle.live_tasks.specs.ReadyJobs.{root_of};
+
+use aerie_base::{OutOfMemory, Path, Shared};
+use run_data::Job;
+use std::alloc::Global;
+use std::marker::Model;
+
+/// A ready task: its path, and how many children it has made.
+#[derive(Drop)]
+pub struct Root {
+    /// Its path.
+    pub path: Shared<Path>,
+    /// How many children it has made.
+    pub made: u32,
+}
+
+/// The jobs of ready tasks, in order of path, each with the number of children that its task has made. Contracts see the
+/// list of these pairs.
+#[derive(Drop)]
+pub struct ReadyJobs {
+    jobs: Vec<Job>,
+    roots: Vec<Root>,
+}
+
+impl Model for ReadyJobs {
+    ghost use Rattle.std.specs.Prelude.{◌≡◌, ℕ, List, map};
+    ghost use Rattle.run_data.specs.declared.jobs.Job.{Job as Asked};
+    ghost use Rattle.std.specs.List.{zip};
+
+    ghost Value = { List (ℕ × Asked) };
+
+    ghost view = { λ ready. zip (map (λ root. root.made) ready.roots.items) ready.jobs.items };
+
+    ghost invariant = { λ ready. map (λ root. root.path) ready.roots.items ≡ map (λ job. job.path) ready.jobs.items };
+}
+
+impl ReadyJobs {
+    /// None.
+    pub fn new(alloc: Global) -> ReadyJobs
+        ensures { result ≡ [] }
+    {
+        ReadyJobs {
+            jobs: Vec::new(alloc),
+            roots: Vec::new(alloc),
+        }
+    }
+
+    /// None, with room for so many.
+    pub fn with_capacity(alloc: Global, count: usize) -> Result<ReadyJobs, OutOfMemory>
+        ensures { IfOk result (λ ready. ready ≡ []) }
+    {
+        let jobs = Vec::with_capacity(alloc, count)?;
+        let roots = Vec::with_capacity(alloc, count)?;
+        Ok(ReadyJobs { jobs, roots })
+    }
+
+    /// Puts one more behind the last.
+    pub fn push(&mut self, made: u32, job: Job) -> Result<(), OutOfMemory>
+        ensures { OnOk result (self.new ≡ self.old ++ (made, job) ∷ []) }
+    {
+        let path = job.path.share()?;
+        let root = Root { path, made };
+        self.jobs.reserve(1)?;
+        self.roots.push(root)?;
+        self.jobs.push_reserved(job);
+        Ok(())
+    }
+
+    /// One more behind the last.
+    pub fn with(self, made: u32, job: Job) -> Result<ReadyJobs, OutOfMemory>
+        ensures { IfOk result (λ ready. ready ≡ self ++ (made, job) ∷ []) }
+    {
+        let mut all = self;
+        all.push(made, job)?;
+        Ok(all)
+    }
+
+    /// The jobs.
+    pub fn jobs(&self) -> &[Job]
+        ensures { result.now ≡ map (λ job. job.1) self.now }
+    {
+        self.jobs.as_slice()
+    }
+
+    /// How many there are.
+    pub fn len(&self) -> usize
+        ensures { result ≡ length self.now }
+    {
+        self.jobs.len()
+    }
+
+    /// How many children the task of a job has made.
+    pub fn made(&self, at: usize) -> u32
+        requires { at < length self.now }
+        ensures { slice_get (map (λ job. job.0) self.now) at ≡ Some result }
+    {
+        self.roots[at].made
+    }
+
+    /// The tasks. Their jobs are let go, and with them what they see.
+    pub fn into_roots(self) -> Vec<Root>
+        ensures { result.items ≡ map root_of self }
+    {
+        let ReadyJobs { jobs: _, roots } = self;
+        roots
+    }
+}

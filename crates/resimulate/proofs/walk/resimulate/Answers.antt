@@ -1,0 +1,65 @@
+use Rattle.std.proofs.Common.{◌≡◌, ◌∙◌, List, length, sym, ap, subst}
+use Rattle.std.proofs.lemmas.Bool.{eqb-false}
+use Rattle.aerie_base.specs.declared.models.model.Parts.{Parts}
+use Rattle.run_data.specs.TaskFrames.{Frame}
+use Rattle.run_data.specs.declared.runs.Instant.{Instant}
+use Rattle.run_data.specs.declared.runs.Run.{Run}
+use Rattle.run_data.specs.Counts.{rose_not}
+use Rattle.engine_core.specs.EngineStates.{jobs_in}
+use Rattle.fitting.specs.Fitting.{IsOldBatch}
+use Rattle.resimulate.specs.OldBatches.{batch_at}
+use Rattle.engine_core.specs.BatchRuns.{ran_on}
+use Rattle.engine_core.specs.EnginePoints.{some_job, ran_not}
+use Rattle.resimulate.proofs.Looping.{beside_first, beside_on, beside_less}
+use Rattle.resimulate.proofs.OldBatches.{old_batches_are, beside_is}
+use Rattle.resimulate.proofs.walk.resimulate.Goals as goal
+
+pub returns-in_err-engine-clause-opened : goal.returns-in_err-engine-clause-opened
+returns-in_err-engine-clause-opened g c = rose_not (g.S.Stepper.opened c.args.stepper.now) c.args.steps.now (g.S.Stepper.counted c.args.stepper.now)
+
+pub loop-instants-init : goal.loop-instants-init
+loop-instants-init g c = record {
+  beside =
+      beside_first c.args.model.now c.args.plan.now c.args.bound c.args.old.now.run (g.S.Stepper.records c.args.stepper.now) c.args.steps.now c.args.looks.now c.in_ok-engine.engine
+      c.in_ok-engine.ensures.stands c.in_ok-engine.ensures.model c.in_ok-engine.ensures.plan c.in_ok-engine.ensures.bound c.in_ok-engine.ensures.first;
+  ran =
+      ran_not (g.S.Stepper.is_of c.args.stepper.now) (g.S.Stepper.records c.args.stepper.now) (g.S.Stepper.address c.args.stepper.now) (g.S.Stepper.opened c.args.stepper.now)
+      c.args.steps.now c.args.looks.now (g.S.Stepper.counted c.args.stepper.now);
+}
+
+pub next_batch-requires-clause-old : goal.next_batch-requires-clause-old
+next_batch-requires-clause-old g c =
+    let old = c.args.old.now.run in
+    let instants : c.as_slice-instants.result.now ≡ old.instants = c.as_slice-instants.ensures ∙ ap (λ (r : Run). r.instants) c.run.ensures.value in
+    beside_is (λ frames. frames.now) (IsOldBatch c.args.model.now) c.old_batch-beside.result
+    (batch_at c.time.result (length c.batches.result.now) c.as_slice-instants.result.now) c.old_batch-beside.ensures
+    (λ frames there.
+    subst (λ (m : Parts). IsOldBatch m frames) c.requires.old
+    (old_batches_are c.fresh_runs.ensures.frames c.fresh_runs.ensures.batches c.args.old.now.model old.plan old.bound old c.run.ensures.fresh c.time.result (length c.batches.result.now) frames
+    (ap (λ (l : List Instant). batch_at c.time.result (length c.batches.result.now) l) (sym instants) ∙ there)))
+
+pub returns-in_err-engine-2-clause-opened : goal.returns-in_err-engine-2-clause-opened
+returns-in_err-engine-2-clause-opened g c = (ran_on c.loop-instants.invariant.ran c.next_batch.ensures.ran).rose
+
+pub loop-instants-preserved : goal.loop-instants-preserved
+loop-instants-preserved g c =
+    let old = c.args.old.now.run in
+    let instants : c.as_slice-instants.result.now ≡ old.instants = c.as_slice-instants.ensures ∙ ap (λ (r : Run). r.instants) c.run.ensures.value in
+    let rise = c.instants_rise.ensures.rise c.args.old.now.model old.plan old.bound old c.run.ensures.fresh in
+    let many = ap (λ (l : List (List Frame)). length l) c.batches.ensures in
+    let some = some_job (jobs_in c.loop-instants.engine.point) c.ready.result.now c.ready.ensures.jobs (eqb-false _ 0 (sym c.is_empty.ensures ∙ c.loop-instants-test.true)) in
+    record {
+      beside =
+          beside_on c.args.model.now c.args.plan.now c.args.bound old (g.S.Stepper.records c.args.stepper.now) c.args.steps.now c.args.looks.now c.loop-instants.engine c.loop-instants.steps c.loop-instants.looks
+          c.loop-instants.invariant.beside some c.in_ok-engine-2.engine _ (g.S.Stepper.records c.loop-instants.stepper) c.loop-instants.invariant.ran.records c.next_batch.new.steps c.next_batch.new.looks
+          c.in_ok-engine-2.ensures.goes_on rise (c.old_batch-beside.ensures ∙ (λ i. batch_at (c.time.ensures i) (many i) (instants i)));
+      ran = ran_on c.loop-instants.invariant.ran c.next_batch.ensures.ran;
+    }
+
+pub loop-instants-smaller : goal.loop-instants-smaller
+loop-instants-smaller g c =
+    let some = some_job (jobs_in c.loop-instants.engine.point) c.ready.result.now c.ready.ensures.jobs (eqb-false _ 0 (sym c.is_empty.ensures ∙ c.loop-instants-test.true)) in
+    beside_less c.args.model.now c.args.plan.now c.args.bound c.args.old.now.run (g.S.Stepper.records c.args.stepper.now) c.args.steps.now c.args.looks.now c.loop-instants.engine c.loop-instants.steps
+    c.loop-instants.looks c.loop-instants.invariant.beside some c.in_ok-engine-2.engine _ (g.S.Stepper.records c.loop-instants.stepper) c.loop-instants.invariant.ran.records c.next_batch.new.steps
+    c.next_batch.new.looks c.in_ok-engine-2.ensures.goes_on
+    c.what_has_ended_may_be_left_out.ensures.step c.reached_states_are_of_the_model.ensures c.weight_falls.ensures.falls c.cells.ensures.valid

@@ -1,0 +1,164 @@
+//! The simulation of a plan beside an old run.
+
+ghost use Rattle.std.specs.Prelude.{◌≡◌, ◌≤◌, [], None, IfOk, IfSome, option_map};
+ghost use Rattle.aerie_base.specs.Ranges.{step_limit};
+ghost use Rattle.aerie_base.specs.plans.OfModel.{IsPlanOf};
+ghost use Rattle.run_data.specs.Fresh.{IsFresh};
+ghost use Rattle.run_data.specs.Waves.{RoseAlike};
+ghost use Rattle.engine_core.specs.BatchGenerations.{Ran};
+ghost use Rattle.engine_core.specs.EngineStates.{jobs_in, OfSameModels};
+ghost use Rattle.fitting.specs.Fitting.{IsOldBatch};
+ghost use Rattle.resimulate.specs.EvenInstants.{PaysForUneven, LooksForUneven};
+ghost use Rattle.resimulate.specs.Walks.{FindsReady, AreOfNextBatch, BatchDiffers, GoesOn, counts_by};
+
+use crate::old_batches::old_batch;
+use aerie_base::{Model, OutOfMemory, Plan, Shared, Steps};
+use engine_core::Engine;
+use fitting::fit_job;
+use run_data::laws::{
+    fitting_frames_are_the_batch, frames_of_batches_are_of_tasks, fresh_runs, instants_rise,
+    reached_states_are_of_the_model, steps_are_small, tasks_stand_by_number, weight_falls,
+    what_has_ended_may_be_left_out,
+};
+use run_data::{Frame, Kept, Run, Stepper};
+use std::alloc::Global;
+use std::sync::ledger::Ledger;
+
+/// Frames of an old batch that fit the ready jobs of an engine, if all are there.
+fn fitting_frames<'a>(
+    alloc: Global,
+    model: &Model,
+    bound: u64,
+    engine: &Engine<'a>,
+    old: &[Frame],
+) -> Result<Option<Vec<Frame>>, OutOfMemory>
+    requires model { engine.now.model ≡ model.now }
+    requires bound { engine.now.bound ≡ bound }
+    requires old { IsOldBatch model.now old.now }
+    ensures { IfOk result (λ found. FindsReady engine.now old.now (option_map (λ all. all.items) found)) }
+{
+    reached_states_are_of_the_model();
+    tasks_stand_by_number();
+    let _ = model.cells();
+    let mut found = Vec::with_capacity(alloc, old.len())?;
+    let jobs = engine.ready();
+    for at in 0..jobs.len() {
+        let number = engine.made(at);
+        let yes = fit_job(alloc, model, bound, old, &jobs[at], number, &mut found)?;
+        if !yes {
+            return Ok(None);
+        }
+    }
+    Ok(Some(found))
+}
+
+/// The frames of the next batch of an engine, if they are all among those of the old batch beside it.
+fn old_frames<'a>(
+    alloc: Global,
+    model: &Model,
+    bound: u64,
+    engine: &Engine<'a>,
+    beside: Option<&[Frame]>,
+) -> Result<Option<Vec<Frame>>, OutOfMemory>
+    requires model { engine.now.model ≡ model.now }
+    requires bound { engine.now.bound ≡ bound }
+    requires old { IfSome beside (λ old. IsOldBatch model.now old.now) }
+    ensures found { IfOk result (λ found. IfSome found (λ frames. AreOfNextBatch engine.now frames.items)) }
+    ensures none { IfOk result (λ found.
+        found ≡ None → BatchDiffers (option_map (λ old. old.now) beside.entry) engine.now) }
+{
+    frames_of_batches_are_of_tasks();
+    reached_states_are_of_the_model();
+    fitting_frames_are_the_batch();
+    steps_are_small();
+    let _ = model.cells();
+    let _ = engine.ready();
+    let Some(old) = beside else {
+        return Ok(None);
+    };
+    let found = fitting_frames(alloc, model, bound, engine, old)?;
+    Ok(found)
+}
+
+/// The next batch of an engine: of the old frames, where all of its own are among these, and else by the stepper.
+#[allow(clippy::too_many_arguments)]
+fn next_batch<'a, S: Stepper, L: Ledger, K: Ledger>(
+    alloc: Global,
+    model: &Model,
+    bound: u64,
+    engine: Engine<'a>,
+    beside: Option<&[Frame]>,
+    stepper: &mut S,
+    steps: &mut Steps<L>,
+    looks: &mut Steps<K>,
+) -> Result<Engine<'a>, OutOfMemory>
+    requires model { engine.model ≡ model.now }
+    requires bound { engine.bound ≡ bound }
+    requires job { jobs_in engine.point ≡ [] → ⊥ }
+    requires old { IfSome beside (λ old. IsOldBatch model.now old.now) }
+    requires shares { S.shares }
+    requires stepper { S.is_of stepper.old model.now }
+    ensures goes_on { IfOk result (λ later.
+        GoesOn engine.entry later (option_map (λ old. old.now) beside.entry) (S.records stepper.old)
+        (counts_by steps.old steps.new looks.old looks.new)) }
+    ensures ran { Ran (S.is_of stepper.old) (S.is_of stepper.new) (S.records stepper.old) (S.records stepper.new)
+        (S.address stepper.old) (S.address stepper.new) (S.opened stepper.old) steps.old looks.old
+        (S.opened stepper.new) steps.new looks.new }
+{
+    let found = old_frames(alloc, model, bound, &engine, beside)?;
+    match found {
+        Some(frames) => {
+            let later = engine.take_over(alloc, frames.as_slice())?;
+            Ok(later)
+        }
+        None => {
+            let later = engine.step(alloc, stepper, steps, looks)?;
+            Ok(later)
+        }
+    }
+}
+
+/// The fresh run of the plan, for every stepper, whatever the old run is, of any plan of the same model and under any bound.
+/// The bound is at most 100,000,000. A batch whose frames are all among those of the old run at the same time and place is
+/// taken over. For a completed run `steps` rises by at most what no stored step fits of the frames of those instants that are
+/// not even with the old run, and `looks` by at most two for each of these frames.
+#[allow(clippy::too_many_arguments)]
+pub fn resimulate<S: Stepper, L: Ledger, K: Ledger>(
+    alloc: Global,
+    model: &Model,
+    old: &Kept,
+    plan: &Shared<Plan>,
+    bound: u64,
+    stepper: &mut S,
+    steps: &mut Steps<L>,
+    looks: &mut Steps<K>,
+) -> Result<Run, OutOfMemory>
+    requires old { old.now.model ≡ model.now }
+    requires plan { IsPlanOf model.now plan.now }
+    requires bound { bound ≤ step_limit }
+    requires shares { S.shares }
+    requires stepper { S.is_of stepper.old model.now }
+    ensures fresh { IfOk result (λ run. IsFresh model.now plan.now bound run) }
+    ensures frugal { IfOk result (λ run.
+        PaysForUneven old.now.run run (S.records stepper.old) steps.old steps.new) }
+    ensures looks { looks.old ≤ looks.new }
+    ensures few_looks { IfOk result (λ run. LooksForUneven old.now.run run looks.old looks.new) }
+    ensures opened { RoseAlike (S.opened stepper.old) steps.old (S.opened stepper.new) steps.new }
+    ensures same_models { OfSameModels (S.is_of stepper.old) (S.is_of stepper.new) }
+    ensures same_records { S.records stepper.new ≡ S.records stepper.old }
+    ensures address { S.address stepper.new ≡ S.address stepper.old }
+{
+    weight_falls();
+    fresh_runs();
+    instants_rise();
+    reached_states_are_of_the_model();
+    what_has_ended_may_be_left_out();
+    let _ = model.cells();
+    let instants = old.run().instants.as_slice();
+    let mut engine = Engine::begin(alloc, model, plan, bound)?;
+    while !engine.ready().is_empty() {
+        let beside = old_batch(instants, engine.time(), engine.batches().len());
+        engine = next_batch(alloc, model, bound, engine, beside, stepper, steps, looks)?;
+    }
+    Ok(engine.finish())
+}
