@@ -1,11 +1,12 @@
 -- A file of lemmas: what it proves need not be read to trust a clause.
 --
 -- The loop over an engine: it is of one plan, and what was run so far is counted.
-use Rattle.std.proofs.Common.{◌≡◌, ℕ, ◌+◌, ◌*◌, ◌<◌, ◌≤◌, List, [], length, IsTrue, sym, ◌∙◌, subst}
+use Rattle.std.proofs.Common.{◌≡◌, ℕ, ◌+◌, ◌*◌, ◌<◌, ◌≤◌, List, [], ◌∷◌, length, IsTrue, refl, sym, ◌∙◌, subst, arith}
 use Rattle.aerie_base.specs.declared.models.model.Parts.{Parts}
 use Rattle.aerie_base.specs.declared.plans.Plan.{Plan}
 use Rattle.aerie_base.specs.models.ValidModel.{valid_model}
 use Rattle.run_data.specs.declared.frames.Record.{Record}
+use Rattle.run_data.specs.declared.jobs.Job.{Job}
 use Rattle.run_data.specs.declared.runs.Run.{Run}
 use Rattle.run_data.specs.Fresh.{start, IsFresh}
 use Rattle.run_data.specs.Records.{unmatched}
@@ -17,6 +18,15 @@ use Rattle.run_data.specs.RunFrames.{PaysForRun, LooksForRun}
 use Rattle.engine_core.specs.EngineStates.{EngineState, IsEngineState, LeadsTo, after_transition, jobs_in, PaysForBatch, LooksForBatch}
 use Rattle.engine_core.proofs.RunCounts.{SoFar, step_pays, step_looks, pays_first, looks_first, at_run}
 use Rattle.engine_core.specs.EnginePoints.{point_weight, step_smaller}
+
+-- whether a job is left, by the number of jobs
+pub none_left : (jobs : List (ℕ × Job)) (count : ℕ) → count ≡ length jobs → count ≤ 0 → jobs ≡ []
+none_left [] count is none = refl
+none_left (job ∷ rest) count is none = absurd (omega (arith, is, none))
+
+pub some_left : (jobs : List (ℕ × Job)) (count : ℕ) → count ≡ length jobs → 0 < count → jobs ≡ [] → ⊥
+some_left [] count is some none = omega (arith, is, some)
+some_left (job ∷ rest) count is some none = absurd (cc)
 
 pub record IsCounted (model : Parts) (plan : Plan) (bound : ℕ) (records : List Record) (steps looks : ℕ) (engine : EngineState) (steps_now looks_now : ℕ) : Type 0 where
   pub stands : IsEngineState engine

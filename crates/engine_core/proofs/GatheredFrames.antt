@@ -136,12 +136,11 @@ can_emit cells cell effect gathered may =
     let inside : cell < length gathered.pending = omega (arith, is_inside cells cell effect (emit_accepted cells cell effect gathered may), may.ready.same) in
     record { within = inside; small = omega (arith, may.room cell inside, size_emit cell effect []) }
 
-pub emit_gathers : {E : Type 0} (cells : List CellState) (entered_at cell : ℕ) (effect : Effect) (old now : Gathered) (result : Result (Unit {0}) E) → MayGather cells (Emit cell effect ∷ []) old →
-    OnOk result ((cells : List CellState) (worth : ℕ → Option Effect) (amount : ℕ) (before : Gathered) → accepts cells cell effect ≡ true → before.clock ≡ entered_at →
+pub emit_gathered : (cells : List CellState) (entered_at cell : ℕ) (effect : Effect) (old now : Gathered) → MayGather cells (Emit cell effect ∷ []) old →
+    ((cells : List CellState) (worth : ℕ → Option Effect) (amount : ℕ) (before : Gathered) → accepts cells cell effect ≡ true → before.clock ≡ entered_at →
     IsGathered cells worth amount before old → IsGathered cells (λ on. if nat_eq cell on then in_front effect (worth on) else worth on) (magnitude effect + amount) before now) →
-    OnOk result ((parts : List Part) (before : Gathered) → before.clock ≡ entered_at → AreGathered cells parts before old → AreGathered cells (Emit cell effect ∷ parts) before now)
-emit_gathers cells entered_at cell effect old now (Err error) may h = tt
-emit_gathers cells entered_at cell effect old now (Ok done) may h = λ parts before entered g.
+    (parts : List Part) (before : Gathered) → before.clock ≡ entered_at → AreGathered cells parts before old → AreGathered cells (Emit cell effect ∷ parts) before now
+emit_gathered cells entered_at cell effect old now may h parts before entered g =
     subst (λ n. IsGathered cells (worth_of (tree_with (Emit cell effect ∷ parts))) n before now) (size_emit cell effect parts)
     (h cells (worth_of (tree_with parts)) (size parts) before (emit_accepted cells cell effect old may) entered g)
 
@@ -167,7 +166,7 @@ child_gathered beside_law cells child parts before old now g h =
     (subst (λ (worth : ℕ → Option Effect). IsGathered cells worth (size child + size parts) before now) (child_worth child parts)
     (beside_law cells (worth_of (tree_with parts)) (worth_of (tree_with child)) (size parts) (size child) before old now g h))
 
-pub child_gathers : {E : Type 0} → ChildIsBeside → (cells : List CellState) (entered_at : ℕ) (child : List Part) (old now : Gathered) (result : Result (Unit {0}) E) →
+pub child_gathers : {A E : Type 0} → ChildIsBeside → (cells : List CellState) (entered_at : ℕ) (child : List Part) (old now : Gathered) (result : Result A E) →
     OnOk result (AreGathered cells child old now) →
     OnOk result ((parts : List Part) (before : Gathered) → before.clock ≡ entered_at → AreGathered cells parts before old → AreGathered cells (Child (tree_with child) ∷ parts) before now)
 child_gathers beside_law cells entered_at child old now (Err error) h = tt

@@ -2,6 +2,7 @@ mod BatchFaults
 mod BatchJudging
 mod BatchLoop
 mod SeenSteps
+mod ChildPositions
 mod ChildViews
 mod CountedRuns
 mod EndedBatches
@@ -14,6 +15,7 @@ mod RunCounts
 mod SimulationBatches
 mod SimulationMoves
 mod StartedSimulation
+mod StillCells
 mod TouchedBatches
 mod TouchedStates
 mod Transitions

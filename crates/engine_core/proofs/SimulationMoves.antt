@@ -143,7 +143,7 @@ module _ (of_model : ReachedIsOfModel) (model : Parts) (simulation : Simulation)
       pub is_open : IsOpen model (with_tasks simulation later)
       is_open = record {
         open_ = goes_on;
-        count = sym (as_many of_model model simulation.request.plan simulation.request.bound valid course.plan at from).count;
+        cells = as_many of_model model simulation.request.plan simulation.request.bound valid course.plan at from;
         range = cells_in_range;
         in_step = later_in_step;
         found = found_to_end;

@@ -15,8 +15,8 @@ use Rattle.run_data.specs.Transitions.{Next, more, finished, begins}
 use Rattle.run_data.specs.laws.PrunedStates.{pruned, PrunedStep}
 use Rattle.run_data.specs.laws.ReachedStates.{ReachedIsOfModel}
 use Rattle.run_data.specs.laws.Weights.{WeightFalls}
-use Rattle.engine_core.specs.EngineStates.{IsReachedPruned, IsEngineState, HasJob, LeadsTo, there, on, after_transition}
-use Rattle.engine_core.specs.Simulations.{point_in, are_none, is_idle_at, StandsAt, IsOnCourse, IsTransitionFrom, engine_state_of}
+use Rattle.engine_core.specs.EngineStates.{IsReachedPruned, IsEngineState, HasJob, jobs_in, LeadsTo, there, on, after_transition}
+use Rattle.engine_core.specs.Simulations.{point_in, are_none, is_idle_at, StandsAt, IsOnCourse, IsBeforeBatch, IsTransitionFrom, engine_state_of}
 use Rattle.engine_core.specs.declared.simulation.Request.{Request}
 use Rattle.engine_core.specs.declared.simulation.Simulation.{Simulation}
 use Rattle.engine_core.specs.EnginePoints.{point_weight, reached_on, transition_less}
@@ -57,7 +57,7 @@ on_course step model valid before after course stands = record {
 }
 
 -- where it stands as before it is on course
-pub still_on_course : (model : Parts) (before after : Simulation) → IsOnCourse model before → StandsAt before.request (point_in before) after → IsOnCourse model after
+still_on_course : (model : Parts) (before after : Simulation) → IsOnCourse model before → StandsAt before.request (point_in before) after → IsOnCourse model after
 still_on_course model before after course stands = record {
   plan = subst (λ (r : Request). IsPlanOf model r.plan) (sym stands.request) course.plan;
   bound = subst (λ (r : Request). r.bound ≤ step_limit) (sym stands.request) course.bound;
@@ -107,6 +107,15 @@ pub led_there : (model : Parts) (first now after : Simulation) → IsLed model f
 led_there model first now after led busy stands =
     subst (λ (p : Next SimulationState Run). LeadsTo model first.request.plan first.request.bound (point_in first) p) (sym stands.point)
     (led.leads (point_in now) (there (has_job (point_in now) busy)))
+
+-- so it is before a batch, or at the run
+pub stands_before : (model : Parts) (first now after : Simulation) (jobs : List (ℕ × Job)) → IsLed model first now → is_idle_at (point_in now) ≡ false → StandsAt now.request (point_in now) after →
+    jobs ≡ jobs_in (point_in now) → IsBeforeBatch model jobs after
+stands_before model first now after jobs led busy stands ready = record {
+  course = still_on_course model now after led.course stands;
+  has_job = subst HasJob (sym stands.point) (has_job (point_in now) busy);
+  ready = ready ∙ ap jobs_in (sym stands.point);
+}
 
 -- an engine on course before a job, or at the run, stands
 pub stands_there : (model : Parts) (simulation : Simulation) → IsOnCourse model simulation → HasJob (point_in simulation) → IsEngineState (engine_state_of model simulation)

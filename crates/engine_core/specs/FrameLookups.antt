@@ -1,7 +1,7 @@
 -- A file of lemmas: what it proves need not be read to trust a clause.
 --
 -- The frame of a path among frames in order of path.
-use Rattle.std.proofs.Common.{◌≡◌, ℕ, zero, suc, ◌<◌, ◌≤◌, Bool, true, false, if◌then◌else◌, List, [], ◌∷◌, length, get_or, Some, None, refl, sym, ap, ◌∙◌, arith}
+use Rattle.std.proofs.Common.{◌≡◌, ℕ, zero, suc, ◌<◌, ◌≤◌, Bool, true, false, if◌then◌else◌, List, [], ◌∷◌, length, get_or, Some, None, slice_get, refl, sym, ap, ◌∙◌, subst, arith}
 use Rattle.std.proofs.lemmas.Bool.{false≢true}
 use Rattle.std.specs.BTreeMap.{is_at}
 use Rattle.std.specs.List.{AllWithin}
@@ -15,7 +15,7 @@ use Rattle.run_data.specs.TaskFrames.{Frame}
 use Rattle.run_data.specs.laws.Orders.{EachOf}
 use Rattle.run_data.specs.laws.Trees.{frame_at}
 use Rattle.live_tasks.specs.FrameOrders.{is_before, AreByPath}
-use Rattle.engine_core.specs.FrameOrderLaws.{path_order, reversed, itself, not_before_itself}
+use Rattle.engine_core.specs.FrameOrderLaws.{path_order, reversed, itself, not_before_itself, same_path}
 
 module _ (path : List ℕ) where
   -- whether the path of a frame is before this one
@@ -103,3 +103,49 @@ module _ (path : List ℕ) where
   found_none (frame ∷ rest) (suc at) low past =
       past_one frame rest (λ e. false≢true (sym (not_before_itself path) ∙ ap (λ p. is_lt (path_cmp p path)) (sym e) ∙ low 0 frame (omega arith) (omega arith)))
       ∙ found_none rest at (λ k d a b. low (suc k) d (omega arith) (omega (arith, b))) (omega (arith, past))
+
+  -- ---- by a position
+
+  each_there : (P : Frame → Type 0) (frames : List Frame) (at : ℕ) (one : Frame) → EachOf P frames → slice_get frames at ≡ Some one → P one
+  each_there P [] at one each there = absurd (cc)
+  each_there P (frame ∷ rest) zero one each there = (let k : frame ≡ one = cc in subst P k each.0)
+  each_there P (frame ∷ rest) (suc at) one each there = each_there P rest at one each.1 there
+
+  -- a frame that stands at a path has it
+  pub of_path : (frames : List Frame) (one : Frame) → frame_at frames path ≡ Some one → one.path ≡ path
+  of_path [] one there = absurd (cc)
+  of_path (frame ∷ rest) one there = by (path_cmp path frame.path) refl there (of_path rest one)
+    where
+      by : (o : Ordering) → path_cmp path frame.path ≡ o → (if is_eq o then Some frame else frame_at rest path) ≡ Some one → (frame_at rest path ≡ Some one → one.path ≡ path) → one.path ≡ path
+      by Less e is further = further is
+      by Equal e is further = (let k : frame ≡ one = cc in ap (λ (f : Frame). f.path) (sym k) ∙ sym (exact_bytes path frame.path e))
+      by Greater e is further = further is
+
+  -- the frame in front of all others is the first of its path
+  pub first_of_all : (frames : List Frame) (one : Frame) → slice_get frames 0 ≡ Some one → one.path ≡ path → frame_at frames path ≡ Some one
+  first_of_all [] one there is = absurd (cc)
+  first_of_all (frame ∷ rest) one there is =
+      let k : frame ≡ one = cc in
+      ap (λ (b : Bool). if b then Some frame else frame_at rest path) (ap is_eq (ap (path_cmp path) (ap (λ (f : Frame). f.path) k ∙ is) ∙ itself path)) ∙ ap Some k
+
+  next_not_before : (frames : List Frame) (at : ℕ) (before one : Frame) → AreByPath frames → slice_get frames at ≡ Some before → slice_get frames (suc at) ≡ Some one → is_before one before ≡ false
+  next_not_before [] at before one order there next = absurd (cc)
+  next_not_before (frame ∷ rest) zero before one order there next =
+      let k : frame ≡ before = cc in
+      subst (λ (f : Frame). is_before one f ≡ false) k (each_there (λ other. is_before other frame ≡ false) rest 0 one order.0 next)
+  next_not_before (frame ∷ rest) (suc at) before one order there next = next_not_before rest at before one order.1 there next
+
+  -- and so is one behind a frame of another path
+  pub first_behind : (frames : List Frame) (at : ℕ) (before one : Frame) → AreByPath frames → slice_get frames at ≡ Some before → slice_get frames (suc at) ≡ Some one → one.path ≡ path →
+      (before.path ≡ path → ⊥) → frame_at frames path ≡ Some one
+  first_behind [] at before one order there next is apart = absurd (cc)
+  first_behind (frame ∷ rest) zero before one order there next is apart =
+      let k : frame ≡ before = cc in
+      past_one frame rest (λ e. apart (sym (ap (λ (f : Frame). f.path) k) ∙ e)) ∙ first_of_all rest one next is
+  first_behind (frame ∷ rest) (suc at) before one order there next is apart =
+      let behind_frame : is_before before frame ≡ false = each_there (λ other. is_before other frame ≡ false) rest at before order.0 there in
+      let in_front : is_before one before ≡ false = next_not_before rest at before one order.1 there next in
+      past_one frame rest
+      (λ e. apart
+      (same_path before.path path (ap (λ p. is_lt (path_cmp before.path p)) (sym e) ∙ behind_frame) (ap (λ p. is_lt (path_cmp p before.path)) (sym is) ∙ in_front)))
+      ∙ first_behind rest at before one order.1 there next is apart

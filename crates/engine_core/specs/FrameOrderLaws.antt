@@ -42,7 +42,7 @@ pub not_before_itself : (path : List ℕ) → is_lt (path_cmp path path) ≡ fal
 not_before_itself path = ap is_lt (itself path)
 
 -- neither is before the other: they are one
-same_path : (p q : List ℕ) → is_lt (path_cmp p q) ≡ false → is_lt (path_cmp q p) ≡ false → p ≡ q
+pub same_path : (p q : List ℕ) → is_lt (path_cmp p q) ≡ false → is_lt (path_cmp q p) ≡ false → p ≡ q
 same_path p q h k = by (path_cmp p q) refl h
   where
     by : (o : Ordering) → path_cmp p q ≡ o → is_lt o ≡ false → p ≡ q

@@ -12,6 +12,7 @@ pub mod EngineStates
 pub mod Simulations
 pub mod FrameOrderLaws
 pub mod FrameLookups
+pub mod FramePositions
 pub mod ChildEffects
 pub mod BatchRuns
 pub mod ReadyBatches

@@ -1,11 +1,15 @@
 -- Where an instant is settled and time passes.
-use Rattle.std.specs.Prelude.{◌≡◌, ℕ, ◌-◌, ◌≤◌, List, length, Option, None, Result, OnOk}
+use Rattle.std.specs.Prelude.{◌≡◌, ℕ, ◌-◌, ◌≤◌, Bool, true, false, List, Option, None, Result, OnOk}
+use Rattle.std.specs.List.{list_any}
+use Rattle.aerie_base.specs.declared.models.CellStart.{CellStart}
+use Rattle.aerie_base.specs.declared.models.CellStart.TheVariants.{Counter, Register, Accumulator}
 use Rattle.aerie_base.specs.declared.models.model.Parts.{Parts}
 use Rattle.aerie_base.specs.declared.plans.Plan.{Plan}
 use Rattle.effect_cells.specs.declared.cells.OutOfRange.{OutOfRange}
 use Rattle.effect_cells.specs.declared.effects.CellState.{CellState}
 use Rattle.effect_cells.specs.Cells.{passed, first_out, verdict, AreInRange}
 use Rattle.run_data.specs.declared.runs.Run.{Run}
+use Rattle.run_data.specs.Jobs.{AreCellsOf}
 use Rattle.run_data.specs.Fresh.{SimulationState, moved, to_time, to_end, below, least_due}
 use Rattle.run_data.specs.Transitions.{Next, more, finished}
 use Rattle.run_data.specs.laws.PrunedStates.{pruned_point}
@@ -31,6 +35,16 @@ point_at_time model plan bound at time =
 abbrev pub point_at_end : Parts → Plan → ℕ → SimulationState → Next SimulationState Run
 point_at_end model plan bound at = to_end model plan bound at (first_out (passed at.cells (plan.duration - at.time)))
 
+-- whether a cell changes with time by itself
+abbrev pub is_accumulator : CellStart → Bool
+is_accumulator (Counter number) = false
+is_accumulator (Register kind value) = false
+is_accumulator (Accumulator volume rate) = true
+
+-- whether some cell of a model does
+abbrev pub has_accumulator : Parts → Bool
+has_accumulator model = list_any (λ cell. is_accumulator cell.1) model.cells
+
 -- a time has passed on the cells, or the first that would leave its range is named
 pub record HasPassed (dt : ℕ) (before after : List CellState) (end : Result (Unit {0}) OutOfRange) : Type 0 where
   pub answer : end ≡ verdict (passed before dt)
@@ -46,7 +60,7 @@ GoesOnFrom time (finished run) = Unit {0}
 -- it goes on, its cells are those of the model and in range, and its wake times are found
 pub record IsOpen (model : Parts) (simulation : Simulation) : Type 0 where
   pub open_ : simulation.ending ≡ None
-  pub count : length model.cells ≡ length simulation.present.cells
+  pub cells : AreCellsOf model simulation.present.cells
   pub range : AreInRange simulation.present.cells
   pub in_step : IsInStep simulation.present.tasks
   pub found : AreFound simulation.present.time simulation.request.plan.duration simulation.present.cells simulation.present.tasks

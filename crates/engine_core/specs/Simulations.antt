@@ -20,7 +20,7 @@ use Rattle.live_tasks.specs.FrameOrders.{AreByPath}
 use Rattle.live_tasks.specs.InStep.{table_in, IsInStep}
 use Rattle.live_tasks.specs.Waking.{AgreeBut, AreKept}
 use Rattle.engine_core.specs.BatchEnds.{batch_as}
-use Rattle.engine_core.specs.EngineStates.{EngineState, IsReachedPruned, after_transition, PaysForBatch, LooksForBatch}
+use Rattle.engine_core.specs.EngineStates.{EngineState, HasJob, jobs_in, IsReachedPruned, IsNextOf, after_transition, PaysForBatch, LooksForBatch}
 use Rattle.engine_core.specs.declared.batch_ends.BatchEnd.{BatchEnd}
 use Rattle.engine_core.specs.declared.batch_ends.BatchEnd.TheVariants.{Limit, Failed, Committed}
 use Rattle.engine_core.specs.declared.history.History.{History}
@@ -80,10 +80,20 @@ pub record IsOnCourse (model : Parts) (simulation : Simulation) : Type 0 where
   pub reached : IsReachedPruned model simulation.request.plan simulation.request.bound (point_in simulation)
   pub tasks : AreTasksIn simulation
 
+-- it is there before a batch, whose jobs are these, or at its run
+pub record IsBeforeBatch (model : Parts) (jobs : List (ℕ × Job)) (simulation : Simulation) : Type 0 where
+  pub course : IsOnCourse model simulation
+  pub has_job : HasJob (point_in simulation)
+  pub ready : jobs ≡ jobs_in (point_in simulation)
+
 -- what is simulated, and where it stands
 abbrev pub engine_state_of : Parts → Simulation → EngineState
 engine_state_of model simulation =
     record { model = model; plan = simulation.request.plan; bound = simulation.request.bound; point = point_in simulation }
+
+-- where one stands, the transition from the other leads to
+abbrev pub IsAtNext : Parts → Simulation → Simulation → Type 0
+IsAtNext model before after = IsNextOf (engine_state_of model before) (engine_state_of model after)
 
 -- a simulation of what is to be simulated stands at a point, and its tasks are as they should be
 pub record StandsAt (of : Request) (there : Next SimulationState Run) (simulation : Simulation) : Type 0 where

@@ -9,14 +9,11 @@ ghost use Rattle.run_data.specs.laws.RestOfRuns.{completed_run};
 ghost use Rattle.run_data.specs.Waves.{RoseAlike};
 ghost use Rattle.engine_core.specs.BatchEnds.{batch_frames};
 ghost use Rattle.engine_core.specs.EngineStates.{jobs_in, time_in, batches_in, instants_in, spent_in, IsEngineState, LeadsTo, IsNextOf, PaysForBatch, LooksForBatch, OfSameModels};
-ghost use Rattle.engine_core.specs.Simulations.{point_in, IsOnCourse};
+ghost use Rattle.engine_core.specs.Simulations.{engine_state_of, IsBeforeBatch};
 
 use crate::simulation::Simulation;
 use aerie_base::{List, Model, OutOfMemory, Plan, Shared, Steps, Time};
 use live_tasks::ready_jobs::ReadyJobs;
-use run_data::laws::{
-    reached_states_are_of_the_model, weight_falls, what_has_ended_may_be_left_out,
-};
 use run_data::{Frame, Instant, Job, Run, Stepper};
 use std::alloc::Global;
 use std::sync::ledger::Ledger;
@@ -31,13 +28,12 @@ pub struct Engine<'a> {
 }
 
 impl<'a> std::marker::Model for Engine<'a> {
-    ghost use Rattle.std.specs.Prelude.{◌≡◌};
     ghost use Rattle.std.specs.Coded.{codes};
     ghost use Rattle.aerie_base.specs.contracts.expressions.Expr as expr;
     ghost use Rattle.aerie_base.specs.contracts.conditions.Cond as cond;
     ghost use Rattle.aerie_base.specs.contracts.statements.Stmt as stmt;
-    ghost use Rattle.engine_core.specs.EngineStates.{EngineState, HasJob, jobs_in};
-    ghost use Rattle.engine_core.specs.Simulations.{point_in, engine_state_of, IsOnCourse};
+    ghost use Rattle.engine_core.specs.EngineStates.{EngineState};
+    ghost use Rattle.engine_core.specs.Simulations.{engine_state_of, IsBeforeBatch};
 
     ghost Value = { EngineState };
 
@@ -45,40 +41,20 @@ impl<'a> std::marker::Model for Engine<'a> {
 
     ghost view = { λ engine. engine_state_of engine.model.now engine.simulation };
 
-    ghost invariant = { λ engine.
-        IsOnCourse engine.model.now engine.simulation × HasJob (point_in engine.simulation)
-        × (engine.ready ≡ jobs_in (point_in engine.simulation)) };
+    ghost invariant = { λ engine. IsBeforeBatch engine.model.now engine.ready engine.simulation };
 }
 
-/// From where a simulation is on to the next point that has a job, or to the outcome.
-fn engine_from<'a>(
-    alloc: Global,
-    model: &'a Model,
-    simulation: Simulation,
-) -> Result<Engine<'a>, OutOfMemory>
-    requires { IsOnCourse model.now simulation }
-    ensures model { IfOk result (λ engine. engine.model ≡ model.now) }
-    ensures plan { IfOk result (λ engine. engine.plan ≡ simulation.request.plan) }
-    ensures bound { IfOk result (λ engine. engine.bound ≡ simulation.request.bound) }
-    ensures stands { IfOk result (λ engine. IsEngineState engine) }
-    ensures leads { IfOk result (λ engine.
-        LeadsTo model.now simulation.request.plan simulation.request.bound
-        (point_in simulation) engine.point) }
+/// A simulation before a batch, whose jobs these are, or at its run.
+fn engine_at<'a>(model: &'a Model, simulation: Simulation, ready: ReadyJobs) -> Engine<'a>
+    requires { IsBeforeBatch model.now ready simulation }
+    ensures is { result ≡ engine_state_of model.now simulation }
+    ensures stands { IsEngineState result }
 {
-    reached_states_are_of_the_model();
-    what_has_ended_may_be_left_out();
-    weight_falls();
-    let _ = model.cells();
-    let mut simulation = simulation;
-    while simulation.is_idle() {
-        simulation.on(alloc, model)?;
-    }
-    let ready = simulation.ready(alloc)?;
-    Ok(Engine {
+    Engine {
         model,
         simulation,
         ready,
-    })
+    }
 }
 
 impl<'a> Engine<'a> {
@@ -98,8 +74,9 @@ impl<'a> Engine<'a> {
         ensures first { IfOk result (λ engine.
             LeadsTo model.now plan.now bound (more (pruned (start model.now plan.now))) engine.point) }
     {
-        let simulation = Simulation::begin(alloc, model, plan, bound)?;
-        let engine = engine_from(alloc, model, simulation)?;
+        let mut simulation = Simulation::begin(alloc, model, plan, bound)?;
+        let ready = simulation.to_next_job(alloc, model)?;
+        let engine = engine_at(model, simulation, ready);
         Ok(engine)
     }
 
@@ -182,10 +159,8 @@ impl<'a> Engine<'a> {
             mut simulation,
             ready,
         } = self;
-        what_has_ended_may_be_left_out();
-        let _ = model.cells();
-        simulation.batch(alloc, model, ready, stepper, steps, looks)?;
-        let engine = engine_from(alloc, model, simulation)?;
+        let next = simulation.step(alloc, model, ready, stepper, steps, looks)?;
+        let engine = engine_at(model, simulation, next);
         Ok(engine)
     }
 
@@ -206,10 +181,8 @@ impl<'a> Engine<'a> {
             mut simulation,
             ready,
         } = self;
-        what_has_ended_may_be_left_out();
-        let _ = model.cells();
-        simulation.batch_of(alloc, model, ready, frames)?;
-        let engine = engine_from(alloc, model, simulation)?;
+        let next = simulation.step_over(alloc, model, ready, frames)?;
+        let engine = engine_at(model, simulation, next);
         Ok(engine)
     }
 

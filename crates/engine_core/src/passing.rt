@@ -3,15 +3,16 @@
 ghost use Rattle.std.specs.Prelude.{◌≡◌, ◌<◌, ◌-◌, Some, None, length, IfOk, OnOk};
 ghost use Rattle.aerie_base.specs.declared.faults.Fault.TheVariants as fault;
 ghost use Rattle.effect_cells.specs.Cells.{AreInRange};
+ghost use Rattle.run_data.specs.Jobs.{AreCellsOf};
 ghost use Rattle.run_data.specs.declared.runs.Outcome.TheVariants as outcome;
 ghost use Rattle.run_data.specs.declared.runs.Who.TheVariants as who;
 ghost use Rattle.live_tasks.specs.InStep.{IsInStep};
 ghost use Rattle.live_tasks.specs.Waking.{AreFound};
-ghost use Rattle.engine_core.specs.Passing.{HasPassed, next_due_of, GoesOnFrom, point_of_next, point_then, point_last, IsOpen};
+ghost use Rattle.engine_core.specs.Passing.{is_accumulator, has_accumulator, HasPassed, next_due_of, GoesOnFrom, point_of_next, point_then, point_last, IsOpen};
 ghost use Rattle.engine_core.specs.Simulations.{ending_with, StandsAt};
 
 use crate::simulation::{RunEnd, Simulation};
-use aerie_base::{Fault, Model, OutOfMemory, Shared, Time};
+use aerie_base::{CellStart, Fault, Model, OutOfMemory, Shared, Time};
 use effect_cells::{Cells, OutOfRange};
 use live_tasks::readies::live_tasks_are_live;
 use live_tasks::waking::wakes_pass;
@@ -19,15 +20,39 @@ use run_data::laws::due_splits;
 use run_data::{Outcome, Who};
 use std::alloc::Global;
 
-/// Lets a time pass on the cells, where there is no effect. They are copied only where somebody else has a view of them.
+/// Whether a cell is an accumulator. No other cell changes with time by itself.
+fn is_accumulator(cell: &CellStart) -> bool
+    ensures { result ≡ is_accumulator cell.now }
+{
+    match cell {
+        CellStart::Counter(_) => false,
+        CellStart::Register { .. } => false,
+        CellStart::Accumulator { .. } => true,
+    }
+}
+
+/// Whether some cell of the model is one.
+fn has_accumulator(model: &Model) -> bool
+    ensures { result ≡ has_accumulator model.now }
+{
+    model.cells().iter().any(|cell| is_accumulator(&cell.1))
+}
+
+/// Lets a time pass on the cells of the model, where there is no effect. Without accumulators they stay, and are not gone over.
+/// They are copied only where somebody else has a view of them.
 fn pass(
     alloc: Global,
+    model: &Model,
     cells: &mut Shared<Cells>,
     dt: Time,
 ) -> Result<Result<(), OutOfRange>, OutOfMemory>
-    requires { AreInRange cells.old }
+    requires cells { AreCellsOf model.now cells.old }
+    requires range { AreInRange cells.old }
     ensures { IfOk result (HasPassed dt cells.old cells.new) }
 {
+    if !has_accumulator(model) {
+        return Ok(Ok(()));
+    }
     if let Some(own) = cells.get_mut() {
         return Ok(own.passed(dt));
     }
@@ -64,7 +89,7 @@ impl Simulation {
         let reach = self.present.time;
         self.history
             .settle(alloc, reach, self.present.cells.get(), count)?;
-        let passed = pass(alloc, &mut self.present.cells, reach.until(time))?;
+        let passed = pass(alloc, model, &mut self.present.cells, reach.until(time))?;
         match passed {
             Ok(()) => {
                 self.present.tasks.rest(time)?;
@@ -88,7 +113,7 @@ impl Simulation {
         self.history
             .settle(alloc, reach, self.present.cells.get(), count)?;
         let end = self.request.end();
-        let passed = pass(alloc, &mut self.present.cells, reach.until(end))?;
+        let passed = pass(alloc, model, &mut self.present.cells, reach.until(end))?;
         match passed {
             Ok(()) => {
                 self.ending = Some(RunEnd {

@@ -6,7 +6,7 @@ ghost use Rattle.run_data.specs.Waves.{RoseAlike};
 ghost use Rattle.run_data.specs.RunFrames.{PaysForRun, LooksForRun};
 ghost use Rattle.engine_core.specs.EngineStates.{OfSameModels};
 
-use crate::engine::Engine;
+use crate::simulation::Simulation;
 use aerie_base::{Model, OutOfMemory, Plan, Shared, Steps};
 use run_data::laws::{
     reached_states_are_of_the_model, weight_falls, what_has_ended_may_be_left_out,
@@ -44,9 +44,10 @@ pub fn simulate<S: Stepper, L: Ledger, K: Ledger>(
     what_has_ended_may_be_left_out();
     weight_falls();
     let _ = model.cells();
-    let mut engine = Engine::begin(alloc, model, plan, bound)?;
-    while !engine.ready().is_empty() {
-        engine = engine.step(alloc, stepper, steps, looks)?;
+    let mut simulation = Simulation::begin(alloc, model, plan, bound)?;
+    let mut jobs = simulation.to_next_job(alloc, model)?;
+    while jobs.len() > 0 {
+        jobs = simulation.step(alloc, model, jobs, stepper, steps, looks)?;
     }
-    Ok(engine.finish())
+    Ok(simulation.into_run())
 }

@@ -13,8 +13,8 @@ ghost use Rattle.run_data.specs.laws.PrunedStates.{pruned};
 ghost use Rattle.run_data.specs.laws.RestOfRuns.{completed_run};
 ghost use Rattle.live_tasks.specs.InStep.{IsInStep};
 ghost use Rattle.engine_core.specs.BatchEnds.{batch_frames, SpendsWith};
-ghost use Rattle.engine_core.specs.EngineStates.{jobs_in, time_in, batches_in, instants_in, spent_in, HasJob, OfSameModels};
-ghost use Rattle.engine_core.specs.Simulations.{ending_with, point_in, is_idle_at, AreTasksIn, IsOnCourse, StandsAt, IsTransitionFrom, IsAfterEnd, MayTakeEnd, PaysFrom, LooksFrom};
+ghost use Rattle.engine_core.specs.EngineStates.{jobs_in, time_in, batches_in, instants_in, spent_in, HasJob, LeadsTo, OfSameModels};
+ghost use Rattle.engine_core.specs.Simulations.{ending_with, point_in, is_idle_at, AreTasksIn, IsOnCourse, IsBeforeBatch, IsAtNext, StandsAt, IsTransitionFrom, IsAfterEnd, MayTakeEnd, PaysFrom, LooksFrom};
 
 use crate::batch_ends::BatchEnd;
 use crate::batches::{run_batch, take_batch};
@@ -97,7 +97,7 @@ impl Simulation {
     }
 
     /// Whether it goes on, and no task is ready.
-    pub(crate) fn is_idle(&self) -> bool
+    fn is_idle(&self) -> bool
         requires { AreTasksIn self.now }
         ensures { result ≡ is_idle_at (point_in self.now) }
     {
@@ -108,7 +108,7 @@ impl Simulation {
     }
 
     /// The jobs of the ready tasks, all with one view of the cells, which is shared; none where it has ended.
-    pub(crate) fn ready(&mut self, alloc: Global) -> Result<ReadyJobs, OutOfMemory>
+    fn ready(&mut self, alloc: Global) -> Result<ReadyJobs, OutOfMemory>
         requires { AreTasksIn self.old }
         ensures jobs { IfOk result (λ jobs. jobs ≡ jobs_in (point_in self.old)) }
         ensures stands { OnOk result (StandsAt self.old.request (point_in self.old) self.new) }
@@ -196,7 +196,7 @@ impl Simulation {
 
     /// The batch of the ready jobs, whose frames the stepper gives by waves.
     #[allow(clippy::too_many_arguments)]
-    pub(crate) fn batch<S: Stepper, L: Ledger, K: Ledger>(
+    fn batch<S: Stepper, L: Ledger, K: Ledger>(
         &mut self,
         alloc: Global,
         model: &Model,
@@ -241,7 +241,7 @@ impl Simulation {
     }
 
     /// The batch of the ready jobs, whose frames the caller has, in any order.
-    pub(crate) fn batch_of(
+    fn batch_of(
         &mut self,
         alloc: Global,
         model: &Model,
@@ -273,7 +273,7 @@ impl Simulation {
     }
 
     /// Where no task is ready: the waiting ones are judged, and where none goes on the instant is settled and time passes.
-    pub(crate) fn on(&mut self, alloc: Global, model: &Model) -> Result<(), OutOfMemory>
+    fn on(&mut self, alloc: Global, model: &Model) -> Result<(), OutOfMemory>
         requires course { IsOnCourse model.now self.old }
         requires idle { is_idle_at (point_in self.old) ≡ true }
         ensures { OnOk result (IsTransitionFrom model.now self.old self.new) }
@@ -293,6 +293,88 @@ impl Simulation {
         }
         self.move_on(alloc, model)?;
         Ok(())
+    }
+
+    /// On to the next point that has a job, or to the run. The jobs there are handed out.
+    pub(crate) fn to_next_job(
+        &mut self,
+        alloc: Global,
+        model: &Model,
+    ) -> Result<ReadyJobs, OutOfMemory>
+        requires { IsOnCourse model.now self.old }
+        ensures before { IfOk result (λ jobs. IsBeforeBatch model.now jobs self.new) }
+        ensures request { OnOk result (self.new.request ≡ self.old.request) }
+        ensures leads { OnOk result (
+            LeadsTo model.now self.old.request.plan self.old.request.bound
+            (point_in self.old) (point_in self.new)) }
+    {
+        reached_states_are_of_the_model();
+        what_has_ended_may_be_left_out();
+        weight_falls();
+        let _ = model.cells();
+        while self.is_idle() {
+            self.on(alloc, model)?;
+        }
+        let jobs = self.ready(alloc)?;
+        Ok(jobs)
+    }
+
+    /// The batch of the ready jobs, whose frames the stepper gives by waves, and on to the next point that has a job,
+    /// or to the run. The jobs there are handed out.
+    #[allow(clippy::too_many_arguments)]
+    pub(crate) fn step<S: Stepper, L: Ledger, K: Ledger>(
+        &mut self,
+        alloc: Global,
+        model: &Model,
+        jobs: ReadyJobs,
+        stepper: &mut S,
+        steps: &mut Steps<L>,
+        looks: &mut Steps<K>,
+    ) -> Result<ReadyJobs, OutOfMemory>
+        requires before { IsBeforeBatch model.now jobs self.old }
+        requires job { jobs ≡ [] → ⊥ }
+        requires shares { S.shares }
+        requires stepper { S.is_of stepper.old model.now }
+        ensures before { IfOk result (λ next. IsBeforeBatch model.now next self.new) }
+        ensures request { OnOk result (self.new.request ≡ self.old.request) }
+        ensures next { OnOk result (IsAtNext model.now self.old self.new) }
+        ensures frugal { OnOk result
+            (PaysFrom model.now self.old (S.records stepper.old) steps.old steps.new) }
+        ensures looks { looks.old ≤ looks.new }
+        ensures few_looks { OnOk result (LooksFrom model.now self.old looks.old looks.new) }
+        ensures opened { RoseAlike (S.opened stepper.old) steps.old (S.opened stepper.new) steps.new }
+        ensures same_models { OfSameModels (S.is_of stepper.old) (S.is_of stepper.new) }
+        ensures same_records { S.records stepper.new ≡ S.records stepper.old }
+        ensures address { S.address stepper.new ≡ S.address stepper.old }
+    {
+        what_has_ended_may_be_left_out();
+        let _ = model.cells();
+        self.batch(alloc, model, jobs, stepper, steps, looks)?;
+        let next = self.to_next_job(alloc, model)?;
+        Ok(next)
+    }
+
+    /// The batch of the ready jobs, whose frames the caller has, in any order, and on to the next point that has a job,
+    /// or to the run. The jobs there are handed out.
+    pub(crate) fn step_over(
+        &mut self,
+        alloc: Global,
+        model: &Model,
+        jobs: ReadyJobs,
+        frames: &[Frame],
+    ) -> Result<ReadyJobs, OutOfMemory>
+        requires before { IsBeforeBatch model.now jobs self.old }
+        requires job { jobs ≡ [] → ⊥ }
+        requires frames { batch_frames model.now self.old.request.bound jobs ≡ Some (by_path frames.now) }
+        ensures before { IfOk result (λ next. IsBeforeBatch model.now next self.new) }
+        ensures request { OnOk result (self.new.request ≡ self.old.request) }
+        ensures next { OnOk result (IsAtNext model.now self.old self.new) }
+    {
+        what_has_ended_may_be_left_out();
+        let _ = model.cells();
+        self.batch_of(alloc, model, jobs, frames)?;
+        let next = self.to_next_job(alloc, model)?;
+        Ok(next)
     }
 
     /// The run, where it has ended.

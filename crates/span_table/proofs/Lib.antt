@@ -11,4 +11,5 @@ pub mod Planned
 pub mod Sorting
 pub mod SpanOrder
 pub mod SpansByPath
+pub mod Stops
 pub mod TimesInOrder

@@ -45,6 +45,18 @@ has_number tasks number path key task found is linked = record {
   same = nothing_changed tasks;
 }
 
+-- a path that has a number already
+pub numbered_there : (tasks : TaskList) (number : ℕ) (path : List ℕ) → AreLinked (links_of tasks) → IsPathAt (links_of tasks) number path → Numbers path number tasks tasks
+numbered_there tasks number path linked there = record {
+  linked = linked;
+  there = there;
+  kept = λ other link is. is;
+  same = nothing_changed tasks;
+}
+
+pub path_here : (tasks : TaskList) (number : ℕ) (path key : List ℕ) (task : KnownTask) → Some (key, task) ≡ slice_get tasks number → key ≡ path → IsPathAt (links_of tasks) number path
+path_here tasks number path key task is same = subst (IsPathAt (links_of tasks) number) same (path_at tasks number key task (sym is))
+
 pub not_known : (o : Option KnownTask) (found : Bool) → is_some o ≡ found → found ≡ false → o ≡ None
 not_known None found e f = refl
 not_known (Some task) found e f = absurd (false≢true (sym f ∙ sym e))

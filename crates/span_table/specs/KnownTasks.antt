@@ -1,5 +1,5 @@
 -- Tasks by number: what is known of each, and by which task it was made.
-use Rattle.std.specs.Prelude.{◌≡◌, Bool, ℕ, ◌<◌, ◌≤◌, List, length, map, cond, Option, Some, None, slice_get}
+use Rattle.std.specs.Prelude.{◌≡◌, Bool, true, ℕ, ◌<◌, ◌≤◌, List, length, map, cond, Option, Some, None, IfSome, slice_get}
 use Rattle.std.specs.Map.{lookup}
 use Rattle.aerie_base.specs.Paths.{is_prefix, child_path}
 use Rattle.run_data.specs.Spans.{same_path}
@@ -95,9 +95,14 @@ EndsAbove number ending before after = (path : List ℕ) → IsPathAt (links_of 
     × ((other : List ℕ) → body_state_in (known_task after other) ≡ body_state_in (known_task before other))
     × ((other : List ℕ) → 2 ≤ length other → ending_of (known_task after other) ≡ cond (is_prefix other path) ending (ending_of (known_task before other)))
 
--- the same where the tasks are linked
-abbrev pub EndsAll : ℕ → Ending → TaskList → TaskList → Type 0
-EndsAll number ending before after = AreLinked (links_of before) → EndsAbove number ending before after
+-- the task of a number, and all that it is below, have this end already
+abbrev pub HaveEnding : TaskList → Ending → ℕ → Type 0
+HaveEnding tasks ending number = (path other : List ℕ) → IsPathAt (links_of tasks) number path → 2 ≤ length other → is_prefix other path ≡ true →
+    ending_of (known_task tasks other) ≡ ending
+
+-- the same where the tasks are linked, and where the one at which it stops has this end already
+abbrev pub EndsAll : ℕ → Ending → Option ℕ → TaskList → TaskList → Type 0
+EndsAll number ending stop before after = AreLinked (links_of before) → IfSome stop (HaveEnding before ending) → EndsAbove number ending before after
 
 -- a path that may be linked so has this number
 abbrev pub GetsNumber : List ℕ → Option ℕ → ℕ → TaskList → TaskList → Type 0
@@ -108,6 +113,10 @@ abbrev pub IsNumbered : List ℕ → ℕ → TaskList → TaskList → Type 0
 IsNumbered path number before after = AreLinked (links_of before) → Numbers path number before after
 
 -- ---- by number
+
+-- by which task that of a number was made
+abbrev pub IsMakerOf : TaskList → ℕ → Option ℕ → Type 0
+IsMakerOf tasks number maker = (path : List ℕ) (above : Option ℕ) → slice_get (links_of tasks) number ≡ Some (path, above) → maker ≡ above
 
 -- the body of a number has come so far
 abbrev pub IsBodyAt : TaskList → ℕ → Option BodyState → Type 0

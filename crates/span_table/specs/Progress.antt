@@ -1,15 +1,17 @@
 -- What some frames tell, one after another.
-use Rattle.std.specs.Prelude.{◌≡◌, ◌≤◌, ℕ, List, [], ◌∷◌, ◌++◌, map, length, None, cond}
+use Rattle.std.specs.Prelude.{◌≡◌, ◌≤◌, ℕ, List, [], ◌∷◌, ◌++◌, map, length, Option, Some, None, IfSome, cond}
 use Rattle.aerie_base.specs.declared.models.model.Parts.{Parts}
+use Rattle.run_data.specs.TaskFrames.{Frame}
 use Rattle.run_data.specs.Spans.{SpanOf, Timed, task_ended}
 use Rattle.span_table.specs.declared.known_tasks.Ending.TheVariants.{After, Unfinished}
 use Rattle.span_table.specs.declared.begins.BegunSpans.{BegunSpans}
+use Rattle.span_table.specs.declared.progress.LastFrame.{LastFrame}
 use Rattle.span_table.specs.declared.progress.Progress.{Progress}
 use Rattle.span_table.specs.declared.span.Span.{Span}
 use Rattle.span_table.specs.AsDefined.{defined_span}
 use Rattle.span_table.specs.Begun.{begun_from, finished_span, last_after, with_end}
 use Rattle.span_table.specs.BodyStates.{body_after}
-use Rattle.span_table.specs.KnownTasks.{TaskList, Links, AreLinked, IsPathAt, body_state_in, ending_of, known_task, links_of}
+use Rattle.span_table.specs.KnownTasks.{TaskList, Links, AreLinked, HaveEnding, IsPathAt, body_state_in, ending_of, known_task, links_of}
 
 -- ---- tasks
 
@@ -33,11 +35,32 @@ AreNumbersOf links [] (number ∷ numbers) = ⊥
 AreNumbersOf links (span ∷ spans) [] = ⊥
 AreNumbersOf links (span ∷ spans) (number ∷ numbers) = IsPathAt links number span.path × AreNumbersOf links spans numbers
 
--- which spans have begun, and what is known of the tasks
+-- ---- the last frame
+
+-- it is the last of these: of the task of this number, at this time
+pub record IsLast (frames : List Timed) (links : Links) (last : LastFrame) : Type 0 where
+  pub before : List Timed
+  pub frame : Frame
+  pub are : frames ≡ before ++ (last.time, frame) ∷ []
+  pub at : IsPathAt links last.number frame.path
+
+-- what is known of the last of these frames
+abbrev pub KnowsLast : List Timed → Links → Option LastFrame → Type 0
+KnowsLast frames links last = IfSome last (IsLast frames links)
+
+-- the task of a number, if any, and all that it is below, end with the step at a time
+abbrev pub EndWith : ℕ → TaskList → Option LastFrame → Option ℕ → Type 0
+EndWith time tasks last stop = (frames : List Timed) → KnowsTasks frames tasks → KnowsLast frames (links_of tasks) last →
+    IfSome stop (HaveEnding tasks (After (Some time)))
+
+-- ---- all that the frames tell
+
+-- which spans have begun, and what is known of the tasks and of the last frame
 pub record KnowsFrames (model : Parts) (frames : List Timed) (progress : Progress) : Type 0 where
   pub begun : map defined_span progress.begun.spans.items ≡ begun_from model [] frames
   pub numbers : AreNumbersOf (links_of progress.tasks.entries) progress.begun.spans.items progress.begun.numbers.items
   pub tasks : KnowsTasks frames progress.tasks.entries
+  pub last : KnowsLast frames (links_of progress.tasks.entries) progress.last
 
 -- ---- changes
 

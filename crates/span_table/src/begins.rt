@@ -70,15 +70,14 @@ pub(crate) struct BegunSpans {
 }
 
 impl BegunSpans {
-    /// None.
-    pub(crate) fn new(alloc: Global) -> BegunSpans
-        ensures spans { result.spans.items ≡ [] }
-        ensures numbers { result.numbers.items ≡ [] }
+    /// None, with room for so many.
+    pub(crate) fn with_capacity(alloc: Global, room: usize) -> Result<BegunSpans, OutOfMemory>
+        ensures spans { IfOk result (λ begun. begun.spans.items ≡ []) }
+        ensures numbers { IfOk result (λ begun. begun.numbers.items ≡ []) }
     {
-        BegunSpans {
-            spans: Vec::new(alloc),
-            numbers: Vec::new(alloc),
-        }
+        let spans = Vec::with_capacity(alloc, room)?;
+        let numbers = Vec::with_capacity(alloc, room)?;
+        Ok(BegunSpans { spans, numbers })
     }
 
     /// Puts a span of the task of a number behind the others.

@@ -1,6 +1,6 @@
 //! The tasks of a run by number, and what is known of each of them.
 
-ghost use Rattle.span_table.specs.KnownTasks.{EndsAll, IsBodyAt, IsOpenAt, PutsBody, PutsEnding};
+ghost use Rattle.span_table.specs.KnownTasks.{EndsAll, IsBodyAt, IsMakerOf, IsOpenAt, PutsBody, PutsEnding};
 ghost use Rattle.span_table.specs.Progress.{FindsEnds};
 
 use crate::body_states::BodyState;
@@ -52,15 +52,34 @@ fn put_own_ending(tasks: &mut KnownTasks, number: usize, ending: &Ending) -> Opt
     }
 }
 
-/// Gives the task of a number, and all that it is below, an end: each is made by one with a smaller number.
-pub(crate) fn put_ending(tasks: &mut KnownTasks, number: usize, ending: &Ending)
-    ensures { EndsAll number ending.now tasks.old.entries tasks.new.entries }
+/// Gives the task of a number, and all that it is below, an end: each is made by one with a smaller number. It stops at the
+/// one, if any, that has this end already with all that it is below.
+pub(crate) fn put_ending(
+    tasks: &mut KnownTasks,
+    number: usize,
+    ending: &Ending,
+    stop: Option<usize>,
+)
+    ensures { EndsAll number ending.now stop tasks.old.entries tasks.new.entries }
 {
+    if stop == Some(number) {
+        return;
+    }
     let Some(above) = put_own_ending(tasks, number, ending) else {
         return;
     };
     if above < number {
-        put_ending(tasks, above, ending);
+        put_ending(tasks, above, ending, stop);
+    }
+}
+
+/// By which task that of a number was made, if by any.
+pub(crate) fn maker_of(tasks: &KnownTasks, number: usize) -> Option<usize>
+    ensures { IsMakerOf tasks.now.entries number result }
+{
+    match tasks.get_index(number) {
+        Some((_, task)) => task.above,
+        None => None,
     }
 }
 
@@ -90,7 +109,7 @@ pub(crate) fn mark_unfinished(tasks: &mut KnownTasks)
 {
     for number in 0..tasks.len() {
         if is_open_at(tasks, number) {
-            put_ending(tasks, number, &Ending::Unfinished);
+            put_ending(tasks, number, &Ending::Unfinished, None);
         }
     }
 }

@@ -2,7 +2,7 @@
 
 ghost use Rattle.std.specs.Prelude.{◌≡◌, [], None, IfOk, IfSome, IsTrue};
 ghost use Rattle.aerie_base.specs.Paths.{path_of, comes_from_daemon, id_of};
-ghost use Rattle.span_table.specs.KnownTasks.{GetsNumber, IsChild, IsMaker, IsNumbered, known_task, links_of};
+ghost use Rattle.span_table.specs.KnownTasks.{GetsNumber, IsChild, IsMaker, IsNumbered, IsPathAt, known_task, links_of};
 
 use crate::known_tasks::{Ending, KnownTask, KnownTasks};
 use aerie_base::{OutOfMemory, Path, Shared};
@@ -112,9 +112,26 @@ fn maker_near(tasks: &KnownTasks, path: &Path, near: Option<usize>) -> Option<us
     None
 }
 
-/// The number of a path. The task of the frame before, if there is one in the batch, has the number that is near: a task makes a
-/// child in the same batch, and its frame comes before the child's.
-pub(crate) fn number_of(
+/// The number of a path that is that of the task with a number that is near, or of the one that made it.
+fn number_near(tasks: &KnownTasks, path: &Path, near: Option<usize>) -> Option<usize>
+    ensures { IfSome result (λ number. IsPathAt (links_of tasks.now.entries) number path.now) }
+{
+    let near = near?;
+    let (other, task) = tasks.get_index(near)?;
+    if other.get().is_same(path) {
+        return Some(near);
+    }
+    let above = task.above?;
+    let (maker, _) = tasks.get_index(above)?;
+    if maker.get().is_same(path) {
+        return Some(above);
+    }
+    None
+}
+
+/// The number of a path, looked up by it. That of the task of the frame before is near: a task makes a child in the same
+/// batch, and its frame comes before the child's.
+fn number_by_path(
     alloc: Global,
     tasks: &mut KnownTasks,
     path: &Shared<Path>,
@@ -131,5 +148,21 @@ pub(crate) fn number_of(
     match maker_near(tasks, path.get(), near) {
         Some(maker) => add(tasks, path, Some(maker)),
         None => number_from_root(alloc, tasks, path.get()),
+    }
+}
+
+/// The number of a path. That of the task of the frame before is near: what resumes is often that task again, or the one that
+/// called it.
+pub(crate) fn number_of(
+    alloc: Global,
+    tasks: &mut KnownTasks,
+    path: &Shared<Path>,
+    near: Option<usize>,
+) -> Result<usize, OutOfMemory>
+    ensures { IfOk result (λ number. IsNumbered path.now number tasks.old.entries tasks.new.entries) }
+{
+    match number_near(tasks, path.get(), near) {
+        Some(number) => Ok(number),
+        None => number_by_path(alloc, tasks, path, near),
     }
 }

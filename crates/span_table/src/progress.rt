@@ -1,20 +1,31 @@
 //! What the frames of a run tell, one after another.
 
-ghost use Rattle.std.specs.Prelude.{◌≡◌, ℕ, [], ◌∷◌, Some, OnOk, slice_get};
+ghost use Rattle.std.specs.Prelude.{◌≡◌, ℕ, [], ◌∷◌, Some, IfOk, OnOk, slice_get};
 ghost use Rattle.aerie_base.specs.declared.models.model.Parts.{Parts};
 ghost use Rattle.run_data.specs.Spans.{with_time, in_batches, timed};
 ghost use Rattle.span_table.specs.BodyStates.{known_result};
-ghost use Rattle.span_table.specs.Progress.{AreFinishedSpans, GetEnds, GetsEnd, KnowsFrames, Learns};
+ghost use Rattle.span_table.specs.Progress.{AreFinishedSpans, EndWith, GetEnds, GetsEnd, KnowsFrames, Learns};
 
 use crate::begins::BegunSpans;
 use crate::body_states::{BodyState, state_with, stays};
-use crate::known_tasks::{Ending, KnownTasks, body_at, mark_unfinished, put_body, put_ending};
+use crate::known_tasks::{
+    Ending, KnownTasks, body_at, maker_of, mark_unfinished, put_body, put_ending,
+};
 use crate::numbering::number_of;
 use crate::span::Span;
 use aerie_base::{List, Model, OutOfMemory, Shared, Time, Value};
 use indexmap::IndexMap;
 use run_data::{Frame, Instant};
 use std::alloc::Global;
+
+/// The last frame that was taken in.
+#[derive(Clone, Copy)]
+pub(crate) struct LastFrame {
+    /// The number of its task.
+    pub(crate) number: usize,
+    /// Its time.
+    pub(crate) time: Time,
+}
 
 /// What the frames so far tell.
 #[derive(Drop)]
@@ -23,40 +34,63 @@ pub(crate) struct Progress {
     pub(crate) begun: BegunSpans,
     /// The tasks.
     pub(crate) tasks: KnownTasks,
+    /// The last frame; none before any.
+    pub(crate) last: Option<LastFrame>,
+}
+
+/// The number of the task, if any is known, that ends with a step at this time, as does all that it is below: after a frame at
+/// this time, that which made its task, or its task itself.
+fn ended_at(tasks: &KnownTasks, last: Option<LastFrame>, time: Time) -> Option<usize>
+    ensures { EndWith time tasks.now.entries last result }
+{
+    let Some(frame) = last else {
+        return None;
+    };
+    if frame.time != time {
+        return None;
+    }
+    match maker_of(tasks, frame.number) {
+        Some(maker) => Some(maker),
+        None => Some(frame.number),
+    }
 }
 
 impl Progress {
-    /// Before any frame.
-    pub(crate) fn new(alloc: Global) -> Progress
-        ensures { (model : Parts) → KnowsFrames model [] result }
+    /// Before any frame, with room for so many tasks.
+    pub(crate) fn with_capacity(alloc: Global, room: usize) -> Result<Progress, OutOfMemory>
+        ensures { IfOk result (λ progress. (model : Parts) → KnowsFrames model [] progress) }
     {
-        Progress {
-            begun: BegunSpans::new(alloc),
-            tasks: IndexMap::new(alloc),
-        }
+        let begun = BegunSpans::with_capacity(alloc, room)?;
+        let tasks = IndexMap::with_capacity(alloc, room)?;
+        Ok(Progress {
+            begun,
+            tasks,
+            last: None,
+        })
     }
 
-    /// Takes in the next frame, and says which number its task has. The number that is near is that of the frame before it in the
-    /// batch.
+    /// Takes in the next frame.
     fn note(
         &mut self,
         alloc: Global,
         model: &Model,
         time: Time,
         frame: &Frame,
-        near: Option<usize>,
-    ) -> Result<usize, OutOfMemory>
+    ) -> Result<(), OutOfMemory>
         ensures { OnOk result (Learns model.now ((time, frame.now) ∷ []) self.old self.new) }
     {
+        let near = self.last.map(|last| last.number);
         let number = number_of(alloc, &mut self.tasks, frame.shared_path(), near)?;
         let before = body_at(&self.tasks, number);
         let is_new = before.is_none();
         self.begun.note(alloc, model, time, frame, number, is_new)?;
-        put_ending(&mut self.tasks, number, &Ending::After(Some(time)));
+        let stop = ended_at(&self.tasks, self.last, time);
+        put_ending(&mut self.tasks, number, &Ending::After(Some(time)), stop);
+        self.last = Some(LastFrame { number, time });
         if !stays(&before, frame.status()) {
             put_body(&mut self.tasks, number, state_with(&before, frame.status()));
         }
-        Ok(number)
+        Ok(())
     }
 
     /// Takes in the frames of a batch.
@@ -69,9 +103,8 @@ impl Progress {
     ) -> Result<(), OutOfMemory>
         ensures { OnOk result (Learns model.now (with_time time batch.now []) self.old self.new) }
     {
-        let mut near = None;
         for frame in batch {
-            near = Some(self.note(alloc, model, time, frame, near)?);
+            self.note(alloc, model, time, frame)?;
         }
         Ok(())
     }
@@ -112,7 +145,11 @@ impl Progress {
     pub(crate) fn into_spans(self) -> Vec<Span>
         ensures { AreFinishedSpans self result.items }
     {
-        let Progress { begun, mut tasks } = self;
+        let Progress {
+            begun,
+            mut tasks,
+            ..
+        } = self;
         mark_unfinished(&mut tasks);
         let BegunSpans { mut spans, numbers } = begun;
         finish_all(&tasks, spans.as_mut_slice(), numbers.as_slice());

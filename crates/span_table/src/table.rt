@@ -13,7 +13,8 @@ use run_data::laws::instants_rise;
 use std::alloc::Global;
 
 /// The spans of a run of the model: one for each activity that began in a settled instant, by start and then by path. It goes
-/// once over the frames, with a look-up for each number of a frame's path; then the spans are sorted.
+/// once over the frames, with a look-up by path for each that is of another task than the frame before it, and not of the one
+/// that made that; then the spans are sorted.
 ///
 /// A task has one span exactly where its first frame in a settled instant is an activity's. A span without an end is of a task of
 /// which some body, its own or one under it, has not ended; of one with an end all have. The spans of a fresh run begin by the
@@ -26,7 +27,9 @@ pub fn spans(alloc: Global, model: &Model, run: &Run) -> Result<Vec<Span>, OutOf
     ensures found { IfOk result (λ spans. AreSpansOf model.now run.now spans.items) }
 {
     instants_rise();
-    let mut progress = Progress::new(alloc);
+    // most directives have a task
+    let room = run.plan.get().directives.as_slice().len();
+    let mut progress = Progress::with_capacity(alloc, room)?;
     progress.note_instants(alloc, model, run.instants.as_slice())?;
     let spans = sorted(progress.into_spans())?;
     Ok(spans)

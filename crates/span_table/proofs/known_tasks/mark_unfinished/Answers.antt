@@ -13,7 +13,7 @@ loop-number-preserved c = λ frames knows.
       | then-is_open_at w ↦
           rw w.tasks-is
           (marked_more frames c.loop-number.number c.args.tasks.now.entries c.loop-number.tasks.entries marked within c.is_open_at.result _ c.is_open_at.ensures
-          w.if-is_open_at.true w.put_ending.ensures)
+          w.if-is_open_at.true (λ linked. w.put_ending.ensures linked tt))
       | else-is_open_at w ↦
           rw w.tasks-is
           (marked_same frames c.loop-number.number c.args.tasks.now.entries c.loop-number.tasks.entries marked within c.is_open_at.result c.is_open_at.ensures w.if-is_open_at.false)

@@ -14,7 +14,7 @@ returns c =
     let model = c.args.model.now in
     let run = c.args.run.now in
     let frames = timed c.as_slice.result.now in
-    let knows = c.in_ok-note_instants.ensures [] (c.new-progress.ensures model) in
+    let knows = c.in_ok-note_instants.ensures [] (c.in_ok-progress.ensures model) in
     let exact : map defined_span c.in_ok-spans.spans.items ≡ spans_of model run =
     c.in_ok-spans.ensures
     ∙ (ap sorted_spans (c.into_spans.ensures model frames knows ∙ sym (all_end_well frames model [] frames (λ p any. any)))

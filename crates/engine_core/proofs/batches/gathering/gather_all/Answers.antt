@@ -15,17 +15,16 @@ loop-left-init c = record {
       (omega (arith, as_many_roots c.args.frames.now c.args.roots.now)) c.requires.may;
 }
 
-pub gather_task-requires-clause-number : goal.gather_task-requires-clause-number
-gather_task-requires-clause-number c =
+pub gather_root-requires-clause-made : goal.gather_root-requires-clause-made
+gather_root-requires-clause-made c =
     root_within step_limit c.args.roots.now (c.loop-left.left - 1) c.index-roots-left.result c.requires.made (omega (arith, c.loop-left.invariant.within)) c.index-roots-left.is
 
-pub gather_task-requires-clause-may : goal.gather_task-requires-clause-may
-gather_task-requires-clause-may c =
+pub gather_root-requires-clause-may : goal.gather_root-requires-clause-may
+gather_root-requires-clause-may c =
     let first = root_first c.args.frames.now c.args.roots.now c.loop-left.left c.index-roots-left.result (omega arith) c.loop-left.invariant.within c.index-roots-left.is in
     let may = next_may c.effects_are_gathered.ensures.stays c.args.cells.now (rebuilt_roots c.args.frames.now c.args.roots.now) (c.loop-left.left - 1) c.loop-left.left _ c.args.gathering.now
     c.loop-left.gathering first c.requires.may c.loop-left.invariant.gathered in
-    rw c.get.ensures
-    (child_may c.args.cells.now (rebuilt c.args.frames.now (room_of c.index-roots-left.result.path) c.index-roots-left.result.made c.index-roots-left.result.path) c.loop-left.gathering may)
+    child_may c.args.cells.now (rebuilt c.args.frames.now (room_of c.index-roots-left.result.path) c.index-roots-left.result.made c.index-roots-left.result.path) c.loop-left.gathering may
 
 pub loop-left-preserved : goal.loop-left-preserved
 loop-left-preserved c =
@@ -33,11 +32,11 @@ loop-left-preserved c =
     record {
       within = omega (arith, c.loop-left.invariant.within);
       gathered =
-          next_gathered c.args.cells.now (rebuilt_roots c.args.frames.now c.args.roots.now) (c.loop-left.left - 1) c.loop-left.left _ c.args.gathering.now c.gather_task.new.gathering first
+          next_gathered c.args.cells.now (rebuilt_roots c.args.frames.now c.args.roots.now) (c.loop-left.left - 1) c.loop-left.left _ c.args.gathering.now c.gather_root.new.gathering first
           (child_gathered c.effects_are_gathered.ensures.child c.args.cells.now
           (rebuilt c.args.frames.now (room_of c.index-roots-left.result.path) c.index-roots-left.result.made c.index-roots-left.result.path)
           (drop c.loop-left.left (rebuilt_roots c.args.frames.now c.args.roots.now)) c.args.gathering.now c.loop-left.gathering
-          c.gather_task.new.gathering c.loop-left.invariant.gathered (rw c.get.ensures at c.in_ok-gather_task.ensures));
+          c.gather_root.new.gathering c.loop-left.invariant.gathered c.in_ok-behind.ensures);
     }
 
 pub returns : goal.returns

@@ -7,9 +7,9 @@ use Rattle.engine_core.proofs.engine.Engine.made.Goals as goal
 pub made-requires : goal.made-requires
 made-requires c =
     subst (λ (jobs : List (ℕ × Job)). c.args.job < length jobs)
-    (sym (jobs_are (engine_state_of c.self.inside.model.now c.self.inside.simulation) c.args.self.now c.self.inside.ready c.self.view_is c.self.invariant.2)) c.requires
+    (sym (jobs_are (engine_state_of c.self.inside.model.now c.self.inside.simulation) c.args.self.now c.self.inside.ready c.self.view_is c.self.invariant.ready)) c.requires
 
 pub returns : goal.returns
 returns c =
     subst (λ (jobs : List (ℕ × Job)). slice_get (map (λ job. job.0) jobs) c.args.job ≡ Some c.made.result)
-    (jobs_are (engine_state_of c.self.inside.model.now c.self.inside.simulation) c.args.self.now c.self.inside.ready c.self.view_is c.self.invariant.2) c.made.ensures
+    (jobs_are (engine_state_of c.self.inside.model.now c.self.inside.simulation) c.args.self.now c.self.inside.ready c.self.view_is c.self.invariant.ready) c.made.ensures

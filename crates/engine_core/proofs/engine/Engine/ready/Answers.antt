@@ -8,7 +8,7 @@ use Rattle.engine_core.proofs.engine.Engine.ready.Goals as goal
 
 pub returns-clause-jobs : goal.returns-clause-jobs
 returns-clause-jobs c =
-    c.jobs.ensures ∙ ap (λ (jobs : List (ℕ × Job)). map (λ job. job.1) jobs) (jobs_are (engine_state_of c.self.inside.model.now c.self.inside.simulation) c.args.self.now c.self.inside.ready c.self.view_is c.self.invariant.2)
+    c.jobs.ensures ∙ ap (λ (jobs : List (ℕ × Job)). map (λ job. job.1) jobs) (jobs_are (engine_state_of c.self.inside.model.now c.self.inside.simulation) c.args.self.now c.self.inside.ready c.self.view_is c.self.invariant.ready)
 
 pub returns-clause-stands : goal.returns-clause-stands
-returns-clause-stands c = subst IsEngineState c.self.view_is (stands_there c.self.inside.model.now c.self.inside.simulation c.self.invariant.0 c.self.invariant.1)
+returns-clause-stands c = subst IsEngineState c.self.view_is (stands_there c.self.inside.model.now c.self.inside.simulation c.self.invariant.course c.self.invariant.has_job)

@@ -5,10 +5,13 @@ use Rattle.engine_core.proofs.PassingTime.{at_next_time}
 use Rattle.engine_core.proofs.simulation.Simulation.move_to.Goals as goal
 
 pub settle-requires : goal.settle-requires
-settle-requires c = ap (λ l. length l) c.cells-count.ensures.value ∙ c.requires.open.count ∙ ap (λ l. length l) (sym c.get.ensures)
+settle-requires c = ap (λ l. length l) c.cells-count.ensures.value ∙ sym c.requires.open.cells.count ∙ ap (λ l. length l) (sym c.get.ensures)
 
-pub pass-requires : goal.pass-requires
-pass-requires c = c.requires.open.range
+pub pass-requires-clause-cells : goal.pass-requires-clause-cells
+pass-requires-clause-cells c = c.requires.open.cells
+
+pub pass-requires-clause-range : goal.pass-requires-clause-range
+pass-requires-clause-range c = c.requires.open.range
 
 pub rest-requires-clause-in_step : goal.rest-requires-clause-in_step
 rest-requires-clause-in_step c = c.requires.open.in_step

@@ -3,10 +3,13 @@ use Rattle.engine_core.proofs.PassedPoints.{stands_out_at_end, stands_completed}
 use Rattle.engine_core.proofs.simulation.Simulation.move_to_end.Goals as goal
 
 pub settle-requires : goal.settle-requires
-settle-requires c = ap (λ l. length l) c.cells-count.ensures.value ∙ c.requires.open.count ∙ ap (λ l. length l) (sym c.get.ensures)
+settle-requires c = ap (λ l. length l) c.cells-count.ensures.value ∙ sym c.requires.open.cells.count ∙ ap (λ l. length l) (sym c.get.ensures)
 
-pub pass-requires : goal.pass-requires
-pass-requires c = c.requires.open.range
+pub pass-requires-clause-cells : goal.pass-requires-clause-cells
+pass-requires-clause-cells c = c.requires.open.cells
+
+pub pass-requires-clause-range : goal.pass-requires-clause-range
+pass-requires-clause-range c = c.requires.open.range
 
 pub returns-in-Ok : goal.returns-in-Ok
 returns-in-Ok c =

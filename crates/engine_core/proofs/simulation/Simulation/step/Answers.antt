@@ -1,0 +1,23 @@
+use Rattle.std.proofs.Common.{◌∙◌, refl}
+use Rattle.engine_core.specs.Simulations.{point_in, engine_state_of}
+use Rattle.engine_core.proofs.EngineSteps.{leads_next}
+use Rattle.engine_core.proofs.Transitions.{on_course}
+use Rattle.engine_core.proofs.simulation.Simulation.step.Goals as goal
+
+pub batch-requires-clause-course : goal.batch-requires-clause-course
+batch-requires-clause-course g c = c.requires.before.course
+
+pub batch-requires-clause-ready : goal.batch-requires-clause-ready
+batch-requires-clause-ready g c = c.requires.before.ready
+
+pub to_next_job-requires : goal.to_next_job-requires
+to_next_job-requires g c =
+    on_course c.what_has_ended_may_be_left_out.ensures.step c.args.model.now c.cells.ensures.valid c.args.self.now c.batch.new.self c.requires.before.course c.in_ok-batch.ensures.stage
+
+pub returns-clause-request : goal.returns-clause-request
+returns-clause-request g c = c.in_ok-next.ensures.request ∙ c.in_ok-batch.ensures.stage.request
+
+pub returns-clause-next : goal.returns-clause-next
+returns-clause-next g c =
+    leads_next c.args.model.now c.args.self.now c.batch.new.self (engine_state_of c.args.model.now c.args.self.now) (point_in c.to_next_job.new.self) refl c.in_ok-batch.ensures.stage
+    c.in_ok-next.ensures.leads
