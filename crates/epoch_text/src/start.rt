@@ -1,6 +1,8 @@
-ghost use Rattle.std.specs.Prelude.{◌≡◌};
+ghost use Rattle.std.specs.Prelude.{◌≡◌, ◌-ℤ◌};
+ghost use Rattle.aerie_base.specs.Ranges.{time_of_signed};
 ghost use Rattle.epoch_text.specs.Ranges.{IsStart};
 
+use aerie_base::Time;
 use std::marker::Model;
 
 /// The instant at which a plan's time 0 is, in UTC: from the first microsecond of the year 1900 to the last of the
@@ -41,5 +43,13 @@ impl Start {
         ensures range { IsStart result }
     {
         self.micros
+    }
+
+    /// The time of an instant in a plan that starts here, where it has one: none before the start, and none later than 10^15
+    /// microseconds behind it.
+    pub fn time_of(&self, instant: Start) -> Option<Time>
+        ensures { result ≡ time_of_signed (instant -ℤ self.now) }
+    {
+        Time::new(instant.micros() - self.micros())
     }
 }

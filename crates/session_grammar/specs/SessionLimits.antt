@@ -1,6 +1,6 @@
 -- What the reader of a session judges: how much it has of each sort, how long its plan lasts, in which range its numbers lie, and
 -- where the rules of its sections stand.
-use Rattle.std.specs.Prelude.{◌≡◌, ℕ, ◌≤◌, List, length}
+use Rattle.std.specs.Prelude.{◌≡◌, ℕ, ◌≤◌, List, Option, Some, None, length}
 use Rattle.std.specs.List.{AllByRecursion}
 use Rattle.model_reader.specs.Limits.{CountNumbers, IsLiteralInRange, IsWithinLimits}
 use Rattle.readers.specs.Marks.{Mark}
@@ -11,6 +11,9 @@ use Rattle.session_grammar.specs.declared.raw.mappings.RawFeedValue.{RawFeedValu
 use Rattle.session_grammar.specs.declared.raw.mappings.RawFeedValue.TheVariants as fed
 use Rattle.session_grammar.specs.declared.raw.mappings.RawMapping.{RawMapping}
 use Rattle.session_grammar.specs.declared.raw.mappings.RawTypeRule.{RawTypeRule}
+use Rattle.session_grammar.specs.declared.raw.plans.RawBeginning.{RawBeginning}
+use Rattle.session_grammar.specs.declared.raw.plans.RawPlan.{RawPlan}
+use Rattle.session_grammar.specs.declared.raw.plans.RawRate.{RawRate}
 use Rattle.session_grammar.specs.declared.raw.sections.RawSection.{RawSection}
 use Rattle.session_grammar.specs.declared.raw.sessions.RawSession.{RawSession}
 use Rattle.session_grammar.specs.reading.Commands.{command_limit}
@@ -35,6 +38,19 @@ IsTypeRuleInRange rule = AreFeedsInRange rule.feeds
 abbrev pub IsMappingInRange : RawMapping → Type 0
 IsMappingInRange mapping = AllByRecursion IsTypeRuleInRange mapping.rules
 
+-- the numbers of what a cell begins with have their range
+abbrev pub IsRateInRange : Option RawRate → Type 0
+IsRateInRange (Some rate) = IsLiteralInRange rate.rate.what
+IsRateInRange None = Unit {0}
+
+abbrev pub IsBeginningInRange : RawBeginning → Type 0
+IsBeginningInRange beginning = IsLiteralInRange beginning.value.what × IsRateInRange beginning.rate
+
+-- the plan lasts some time, and each number of a beginning has its range
+pub record IsLimitedPlan (plan : RawPlan) : Type 0 where
+  pub lasts : 1 ≤ plan.duration
+  pub beginnings : AllByRecursion IsBeginningInRange plan.beginnings
+
 -- the rules of the section stand in a row among so many tokens
 pub record IsRangeWithin (count : ℕ) (section : RawSection) : Type 0 where
   pub rises : section.from ≤ section.to
@@ -55,6 +71,7 @@ pub record IsLimitedSession (count : ℕ) (raw : RawSession) : Type 0 where
   pub literals : AllByRecursion IsMappingInRange raw.mappings
   pub few_mappings : length raw.mappings ≤ mapping_limit
   pub lasts : 1 ≤ raw.plan.duration
+  pub beginnings : AllByRecursion IsBeginningInRange raw.plan.beginnings
   pub few_datasets : length raw.datasets ≤ dataset_limit
   pub constraints : AreRangesWithin count raw.sections.constraints
   pub goals : AreRangesWithin count raw.sections.goals

@@ -7,8 +7,9 @@ mod reading;
 mod session_answers;
 
 pub use raw::{
-    RawClient, RawCommand, RawDataset, RawDirective, RawFeed, RawFeedValue, RawGiven, RawMapping,
-    RawPlan, RawSection, RawSections, RawSession, RawStart, RawTypeRule,
+    RawBeginning, RawClient, RawCommand, RawDataset, RawDirective, RawFeed, RawFeedValue, RawGiven,
+    RawMapping, RawPlan, RawRate, RawSection, RawSections, RawSession, RawStart, RawTypeRule,
+    RawWhen,
 };
 pub use reading::{argument, client, given, when};
 pub use session_answers::read_raw_session;

@@ -5,9 +5,11 @@ mod mappings;
 mod plans;
 mod sections;
 mod sessions;
+mod starts;
 
 pub use clients::{RawClient, RawCommand, RawGiven};
 pub use mappings::{RawFeed, RawFeedValue, RawMapping, RawTypeRule};
-pub use plans::{RawDataset, RawDirective, RawPlan, RawStart};
+pub use plans::{RawBeginning, RawDataset, RawDirective, RawPlan, RawRate};
 pub use sections::{RawSection, RawSections};
 pub use sessions::RawSession;
+pub use starts::{RawStart, RawWhen};

@@ -1,5 +1,5 @@
 -- A session has as few clients as it is written with, and each of them as few commands.
-use Rattle.std.proofs.Common.{ℕ, ◌≤◌, List, [], ◌∷◌, Option, Some, None, Ok, Err, IfOk, length, sym, subst}
+use Rattle.std.proofs.Common.{ℕ, ℤ, ◌≤◌, List, [], ◌∷◌, ◌++◌, Option, Some, None, Ok, Err, IfOk, length, sym, subst}
 use Rattle.std.proofs.lemmas.List.{length-map}
 use Rattle.std.specs.List.{AllByRecursion}
 use Rattle.aerie_base.specs.declared.models.model.Parts.{Parts}
@@ -17,21 +17,23 @@ use Rattle.session_reader.specs.Diagnostics.{first_diagnostic}
 use Rattle.session_reader.specs.FewClients.{AreFewClients, HasFewClients}
 use Rattle.session_reader.specs.PlanSections.{plan_answer}
 use Rattle.session_reader.specs.Sessions.{session_diagnostics, session_made, session_over, session_planned, session_started}
-use Rattle.session_reader.specs.Starts.{start_answer}
+use Rattle.session_reader.specs.Beginnings.{models_of_plan, plan_diagnostics}
+use Rattle.session_reader.specs.Times.{starts_answer}
 use Rattle.session_reader.specs.WellFormed.{IsLimited}
 use Rattle.diagnostics.specs.declared.diagnostic.Diagnostic.{Diagnostic}
 use Rattle.session_reader.specs.declared.causes.Cause.{Cause}
 use Rattle.session_reader.specs.declared.session.Client.{Client}
 use Rattle.session_reader.specs.declared.session.Session.{Session}
 
-few_commands : (raw : List RawClient) → AllByRecursion IsLimitedClient raw → AllByRecursion (λ (client : Client). length client.commands ≤ command_limit) (clients_meant raw)
-few_commands [] few = tt
-few_commands (client ∷ rest) few = (subst (λ (n : ℕ). n ≤ command_limit) (sym (length-map client.commands command_meant)) few.0, few_commands rest few.1)
+few_commands : (start : ℤ) (raw : List RawClient) → AllByRecursion IsLimitedClient raw → AllByRecursion (λ (client : Client). length client.commands ≤ command_limit) (clients_meant start raw)
+few_commands start [] few = tt
+few_commands start (client ∷ rest) few =
+    (subst (λ (n : ℕ). n ≤ command_limit) (sym (length-map client.commands (command_meant start))) few.0, few_commands start rest few.1)
 
-few_clients : (raw : RawSession) → IsLimited raw → AreFewClients (clients_meant raw.clients)
-few_clients raw limited = record {
-  clients = subst (λ (n : ℕ). n ≤ client_limit) (sym (length-map raw.clients client_meant)) limited.limits.few_clients;
-  commands = few_commands raw.clients limited.limits.commands;
+few_clients : (start : ℤ) (raw : RawSession) → IsLimited raw → AreFewClients (clients_meant start raw.clients)
+few_clients start raw limited = record {
+  clients = subst (λ (n : ℕ). n ≤ client_limit) (sym (length-map raw.clients (client_meant start))) limited.limits.few_clients;
+  commands = few_commands start raw.clients limited.limits.commands;
 }
 
 -- ---- what holds of each session that may be made of a part, step by step
@@ -50,12 +52,14 @@ repeated_holds P None made holds = holds
 repeated_holds P (Some place) made holds = tt
 
 meant_few : (raw : RawSession) (models : List Parts) → IsLimited raw → IfOk (session_over raw models) HasFewClients
-meant_few raw models limited =
-    found_holds HasFewClients (first_diagnostic (session_diagnostics models raw)) _
-    (then_holds HasFewClients (session_started models raw) (start_answer raw.plan.start)
-    (λ start. then_holds HasFewClients (session_planned models raw start) (plan_answer models raw.plan)
+meant_few raw written limited =
+    let wrong = plan_diagnostics raw.plan.beginnings written in
+    let models = models_of_plan raw.plan.beginnings written in
+    found_holds HasFewClients (first_diagnostic (wrong ++ session_diagnostics models raw)) _
+    (then_holds HasFewClients (session_started models raw) (starts_answer raw)
+    (λ start. then_holds HasFewClients (session_planned models raw start) (plan_answer start models raw.plan)
     (λ plan. repeated_holds HasFewClients (repeated_client [] raw.clients) _
-    (then_holds HasFewClients (λ datasets. Ok (session_made models raw start plan datasets)) (datasets_answer 0 raw.datasets) (λ datasets. few_clients raw limited)))))
+    (then_holds HasFewClients (λ datasets. Ok (session_made models raw start plan datasets)) (datasets_answer 0 raw.datasets) (λ datasets. few_clients start raw limited)))))
 
 made_holds : (P : Session → Type 0) (meant result : Answer Session) → IfOk meant P → IsMade meant result → IfOk result P
 made_holds P meant (Ok session) holds made = subst (λ (answer : Answer Session). IfOk answer P) made holds

@@ -5,6 +5,11 @@ pub mod Refusals
 pub mod Quoted
 pub mod Fits
 pub mod DifferentNames
+pub mod OtherStarts
+pub mod BegunModels
+pub mod MisreadInstants
+pub mod PlacedBeginnings
+pub mod JudgedSessions
 pub mod SectionRanges
 pub mod GoodSessions
 pub mod FrontsAreCut

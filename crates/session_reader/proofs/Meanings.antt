@@ -1,5 +1,5 @@
 -- What is refused of the meaning of a session is neither a syntax error nor a limit that is passed.
-use Rattle.std.proofs.Common.{ℕ, ℤ, ◌+◌, List, [], ◌∷◌, Option, Some, None, Result, Ok, Err}
+use Rattle.std.proofs.Common.{ℕ, ℤ, ◌+◌, List, [], ◌∷◌, ◌++◌, Option, Some, None, Result, Ok, Err}
 use Rattle.std.specs.Prelude.{slice_get}
 use Rattle.aerie_base.specs.declared.models.model.Parts.{Parts}
 use Rattle.aerie_base.specs.declared.places.Place.{Place}
@@ -26,8 +26,10 @@ use Rattle.session_reader.specs.DatasetAnswers.{dataset_answer, datasets_answer,
 use Rattle.session_reader.specs.Diagnostics.{first_diagnostic}
 use Rattle.session_reader.specs.PlanSections.{directive_added, directives_added, of_edit, plan_answer, plan_over}
 use Rattle.session_reader.specs.Quotes.{unquoted}
-use Rattle.session_reader.specs.Sessions.{session_answer, session_diagnostics, session_made, session_over, session_planned, session_started}
+use Rattle.session_reader.specs.Sessions.{session_answer, session_begun, session_diagnostics, session_made, session_over, session_planned, session_started}
 use Rattle.session_reader.specs.Starts.{start_answer, start_or_place}
+use Rattle.session_reader.specs.Times.{misread_instant, starts_answer, unless_misread, when_meant}
+use Rattle.session_reader.specs.Beginnings.{models_of_plan, plan_diagnostics}
 use Rattle.diagnostics.specs.declared.diagnostic.Diagnostic.{Diagnostic}
 use Rattle.session_reader.specs.declared.causes.Cause.{Cause}
 use Rattle.session_reader.specs.declared.session_error.SessionError.{SessionError}
@@ -79,19 +81,28 @@ start_meant : (place : Place) (start : Option ℤ) → IsMeant (start_or_place p
 start_meant place None = tt
 start_meant place (Some micros) = tt
 
+misread_meant : (bad : Option Place) (start : ℤ) → IsMeant (unless_misread bad start)
+misread_meant None start = tt
+misread_meant (Some place) start = tt
+
+starts_meant : (raw : RawSession) → IsMeant (starts_answer raw)
+starts_meant raw =
+    then_meant (unless_misread (misread_instant raw)) (start_answer raw.plan.start) (start_meant raw.plan.start.at (start_of (unquoted 34 raw.plan.start.text))) (misread_meant (misread_instant raw))
+
 edit_meant : (number : ℕ) (edited : Result Plan EditError) → IsMeant (of_edit number edited)
 edit_meant number (Ok plan) = tt
 edit_meant number (Err refusal) = tt
 
-directives_meant : (model : Parts) (number : ℕ) (plan : Plan) (raw : List RawDirective) → IsMeant (directives_added model number plan raw)
-directives_meant model number plan [] = tt
-directives_meant model number plan (raw ∷ rest) =
-    then_meant (λ added. directives_added model (number + 1) added rest) (directive_added model number plan raw) (edit_meant number (add_of model plan raw.at raw.given.kind raw.given.arguments))
-    (λ added. directives_meant model (number + 1) added rest)
+directives_meant : (start : ℤ) (model : Parts) (number : ℕ) (plan : Plan) (raw : List RawDirective) → IsMeant (directives_added start model number plan raw)
+directives_meant start model number plan [] = tt
+directives_meant start model number plan (raw ∷ rest) =
+    then_meant (λ added. directives_added start model (number + 1) added rest) (directive_added start model number plan raw)
+    (edit_meant number (add_of model plan (when_meant start raw.at) raw.given.kind raw.given.arguments))
+    (λ added. directives_meant start model (number + 1) added rest)
 
-plan_meant : (raw : RawSession) (model : Option Parts) → IsMeant (plan_over raw.plan model)
-plan_meant raw None = tt
-plan_meant raw (Some model) = directives_meant model 0 (empty_plan raw.plan.duration) raw.plan.directives
+plan_meant : (start : ℤ) (raw : RawSession) (model : Option Parts) → IsMeant (plan_over start raw.plan model)
+plan_meant start raw None = tt
+plan_meant start raw (Some model) = directives_meant start model 0 (empty_plan raw.plan.duration) raw.plan.directives
 
 -- ---- datasets
 
@@ -113,12 +124,15 @@ planned_meant models raw start plan =
 
 started_meant : (models : List Parts) (raw : RawSession) (start : ℤ) → IsMeant (session_started models raw start)
 started_meant models raw start =
-    then_meant (session_planned models raw start) (plan_answer models raw.plan) (plan_meant raw (slice_get models 0)) (planned_meant models raw start)
+    then_meant (session_planned models raw start) (plan_answer start models raw.plan) (plan_meant start raw (slice_get models 0)) (planned_meant models raw start)
+
+begun_meant : (raw : RawSession) (wrong : List (Diagnostic Cause)) (models : List Parts) → IsMeant (session_begun raw wrong models)
+begun_meant raw wrong models =
+    found_meant (first_diagnostic (wrong ++ session_diagnostics models raw)) _
+    (then_meant (session_started models raw) (starts_answer raw) (starts_meant raw) (started_meant models raw))
 
 over_meant : (raw : RawSession) (models : List Parts) → IsMeant (session_over raw models)
-over_meant raw models =
-    found_meant (first_diagnostic (session_diagnostics models raw)) _
-    (then_meant (session_started models raw) (start_answer raw.plan.start) (start_meant raw.plan.start.at (start_of (unquoted 34 raw.plan.start.text))) (started_meant models raw))
+over_meant raw models = begun_meant raw (plan_diagnostics raw.plan.beginnings models) (models_of_plan raw.plan.beginnings models)
 
 pub session_meant : (raw : RawSession) → IsMeant (session_answer raw)
 session_meant raw = then_meant (session_over raw) (models_answer raw.models) (models_meant raw.models) (over_meant raw)

@@ -1,5 +1,5 @@
 -- What calls of other crates refuse, and what of it the session refuses.
-use Rattle.std.proofs.Common.{◌≡◌, ℕ, ◌+◌, ◌-◌, ◌<◌, List, Result, Ok, Err, length, drop, get_or, sym, ap, subst, ◌∙◌, arith}
+use Rattle.std.proofs.Common.{◌≡◌, ℕ, ℤ, ◌+◌, ◌-◌, ◌<◌, List, Result, Ok, Err, length, drop, get_or, sym, ap, subst, ◌∙◌, arith}
 use Rattle.aerie_base.specs.declared.models.model.Parts.{Parts}
 use Rattle.aerie_base.specs.declared.plans.Directive.{Directive}
 use Rattle.aerie_base.specs.declared.plans.Plan.{Plan}
@@ -77,15 +77,15 @@ passes_on make answer (error.Dataset number refusal) is = ap (then_made make) is
 passes_on make answer error.OutOfMemory is = tt
 
 -- the refusal of the directive at a place, behind those that were added
-pub refused_there : (model : Parts) (raws : List RawDirective) (i : ℕ) (raw : RawDirective) (plan : Plan) (whole : Answer Plan) (refusal : SessionError) →
-    i < length raws → raw ≡ get_or raws i raw → plan.next_id ≡ i + 1 → whole ≡ directives_added model i plan (drop i raws) →
-    IsRefusal (directive_added model (plan.next_id - 1) plan raw) refusal → IsRefusal whole refusal
-refused_there model raws i raw plan whole refusal lt is next left refused =
+pub refused_there : (start : ℤ) (model : Parts) (raws : List RawDirective) (i : ℕ) (raw : RawDirective) (plan : Plan) (whole : Answer Plan) (refusal : SessionError) →
+    i < length raws → raw ≡ get_or raws i raw → plan.next_id ≡ i + 1 → whole ≡ directives_added start model i plan (drop i raws) →
+    IsRefusal (directive_added start model (plan.next_id - 1) plan raw) refusal → IsRefusal whole refusal
+refused_there start model raws i raw plan whole refusal lt is next left refused =
     let number : plan.next_id - 1 ≡ i = omega (arith, next) in
-    let here = subst (λ (n : ℕ). IsRefusal (directive_added model n plan raw) refusal) number refused in
+    let here = subst (λ (n : ℕ). IsRefusal (directive_added start model n plan raw) refusal) number refused in
     let behind = drop (i + 1) raws in
-    let all = passes_on (λ (added : Plan). directives_added model (i + 1) added behind) (directive_added model i plan raw) refusal here in
-    subst (λ (answer : Answer Plan). IsRefusal answer refusal) (sym (left ∙ ap (directives_added model i plan) (next_left raws i raw lt is))) all
+    let all = passes_on (λ (added : Plan). directives_added start model (i + 1) added behind) (directive_added start model i plan raw) refusal here in
+    subst (λ (answer : Answer Plan). IsRefusal answer refusal) (sym (left ∙ ap (directives_added start model i plan) (next_left raws i raw lt is))) all
 
 -- ---- a dataset
 

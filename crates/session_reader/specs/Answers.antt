@@ -4,7 +4,7 @@ use Rattle.aerie_base.specs.declared.places.Place.{Place}
 use Rattle.model_check.specs.declared.check_error.CheckError.{CheckError}
 use Rattle.model_check.specs.declared.check_error.CheckError.TheVariants as check
 use Rattle.session_reader.specs.declared.causes.Cause.{Cause}
-use Rattle.session_reader.specs.declared.causes.Cause.TheVariants.{Unknown, Duplicate, WrongType}
+use Rattle.session_reader.specs.declared.causes.Cause.TheVariants.{Unknown, Duplicate, WrongType, OutOfRange}
 use Rattle.diagnostics.specs.declared.diagnostic.Diagnostic.{Diagnostic}
 use Rattle.session_reader.specs.declared.session_error.SessionError.{SessionError}
 use Rattle.session_reader.specs.declared.session_error.SessionError.TheVariants.{Check, OutOfMemory}
@@ -41,6 +41,7 @@ abbrev pub check_error : Cause → Place → CheckError
 check_error Unknown place = check.Unknown place
 check_error Duplicate place = check.Duplicate place
 check_error WrongType place = check.WrongType place
+check_error OutOfRange place = check.OutOfRange place
 
 -- what is made, unless something was found
 abbrev pub unless_found : {A : Type 0} → Option (Diagnostic Cause) → Answer A → Answer A

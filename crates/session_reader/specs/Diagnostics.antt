@@ -3,12 +3,13 @@ use Rattle.std.specs.Prelude.{ℕ, List, Option}
 use Rattle.diagnostics.specs.declared.diagnostic.Diagnostic.{Diagnostic}
 use Rattle.diagnostics.specs.Diagnostics.{noted_by, first_by, MakesBy}
 use Rattle.session_reader.specs.declared.causes.Cause.{Cause}
-use Rattle.session_reader.specs.declared.causes.Cause.TheVariants.{Unknown, Duplicate, WrongType}
+use Rattle.session_reader.specs.declared.causes.Cause.TheVariants.{Unknown, Duplicate, WrongType, OutOfRange}
 
 abbrev pub number_of_cause : Cause → ℕ
 number_of_cause Unknown = 1
 number_of_cause Duplicate = 2
 number_of_cause WrongType = 3
+number_of_cause OutOfRange = 4
 
 -- the first of what was found so far and more of them
 abbrev pub noted : Option (Diagnostic Cause) → List (Diagnostic Cause) → Option (Diagnostic Cause)

@@ -10,12 +10,15 @@ pub mod Quotes
 pub mod Answers
 pub mod CheckedModels
 pub mod Starts
+pub mod Times
+pub mod Beginnings
 pub mod PlanSections
 pub mod ClientNames
 pub mod ClientCommands
 pub mod DatasetAnswers
 pub mod Sessions
 pub mod WellFormed
+pub mod PlacedBeginnings
 pub mod FewClients
 pub mod SessionTexts
 pub mod SessionVerdicts

@@ -1,4 +1,4 @@
--- Literals of a mapping, by the enumerations of the new model: what is wrong with one, its type and its value.
+-- Literals of mappings and of beginnings, by the enumerations of their model: what is wrong with one, its type and its value.
 use Rattle.std.specs.Prelude.{ℕ, false, List, [], Option, Some, None, option_map, option_and_then, position, slice_get}
 use Rattle.aerie_base.specs.declared.models.EnumType.{EnumType}
 use Rattle.aerie_base.specs.declared.values.Kind.{Kind}

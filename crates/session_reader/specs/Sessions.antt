@@ -1,5 +1,5 @@
 -- What the text of a session means.
-use Rattle.std.specs.Prelude.{ℕ, ℤ, ◌+◌, List, [], ◌∷◌, ◌++◌, Option, Ok, map}
+use Rattle.std.specs.Prelude.{◌≡◌, ℕ, ℤ, ◌+◌, List, [], ◌∷◌, ◌++◌, Option, Ok, map}
 use Rattle.aerie_base.specs.declared.models.model.Parts.{Parts}
 use Rattle.aerie_base.specs.declared.plans.Plan.{Plan}
 use Rattle.session_grammar.specs.declared.raw.sections.RawSections.{RawSections}
@@ -9,8 +9,10 @@ use Rattle.session_reader.specs.declared.causes.Cause.{Cause}
 use Rattle.session_reader.specs.declared.session.ModelPart.{ModelPart}
 use Rattle.session_reader.specs.declared.session.Session.{Session}
 use Rattle.session_reader.specs.declared.sessions.AllSections.{AllSections}
+use Rattle.session_reader.specs.declared.sessions.Judged.{Judged}
 use Rattle.session_reader.specs.Answers.{Answer, then_made_of, unless_found}
-use Rattle.session_reader.specs.CheckedModels.{models_answer}
+use Rattle.session_reader.specs.Beginnings.{models_of_plan, plan_diagnostics}
+use Rattle.session_reader.specs.CheckedModels.{AreValid, models_answer}
 use Rattle.session_reader.specs.ClientCommands.{clients_meant}
 use Rattle.session_reader.specs.ClientNames.{repeated_client, unless_repeated}
 use Rattle.session_reader.specs.DatasetAnswers.{NamedSeries, datasets_answer}
@@ -21,7 +23,7 @@ use Rattle.session_reader.specs.MeantMappings.{mappings_meant}
 use Rattle.session_reader.specs.PlanSections.{plan_answer}
 use Rattle.session_reader.specs.RepeatedNames.{repeated_diagnostics}
 use Rattle.session_reader.specs.Sections.{no_sections, section_of, sections_by_model, sections_diagnostics}
-use Rattle.session_reader.specs.Starts.{start_answer}
+use Rattle.session_reader.specs.Times.{starts_answer}
 
 -- ---- names
 
@@ -59,6 +61,14 @@ MakesAllSections models raw = MakesAndNotes (all_sections models raw) (all_secti
 abbrev pub JudgesNames : List Parts → RawSession → Option (Diagnostic Cause) → Option (Diagnostic Cause) → AllSections → Type 0
 JudgesNames models raw = MakesAndNotes (all_sections models raw.sections) (session_diagnostics models raw)
 
+-- From the models as they are written: those of the plan with their sections, and the first of what is wrong with the beginnings of
+-- the plan and the names of the session.
+pub record MakesJudged (written : List Parts) (raw : RawSession) (found : Option (Diagnostic Cause)) (judged : Judged) : Type 0 where
+  pub models : judged.models ≡ models_of_plan raw.plan.beginnings written
+  pub sections : judged.sections ≡ all_sections judged.models raw.sections
+  pub noted : found ≡ first_diagnostic (plan_diagnostics raw.plan.beginnings written ++ session_diagnostics judged.models raw)
+  pub valid : AreValid judged.models
+
 abbrev pub model_part : AllSections → ℕ → Parts → ModelPart
 model_part sections number model =
     record {
@@ -84,7 +94,7 @@ session_made models raw start plan datasets =
       branch = raw.plan.branch.name;
       plan = plan;
       datasets = datasets;
-      clients = clients_meant raw.clients;
+      clients = clients_meant start raw.clients;
     }
 
 -- with the plan: clients have different names, and then the datasets are read
@@ -95,13 +105,18 @@ session_planned models raw start plan =
 
 -- with the start: the plan section's directives are added
 abbrev pub session_started : List Parts → RawSession → ℤ → Answer Session
-session_started models raw start = then_made_of (session_planned models raw start) (plan_answer models raw.plan)
+session_started models raw start = then_made_of (session_planned models raw start) (plan_answer start models raw.plan)
 
--- with the models: names are judged, and then the start
+-- with the models of the plan, and what is wrong with its beginnings: names are judged, and then the start
+abbrev pub session_begun : RawSession → List (Diagnostic Cause) → List Parts → Answer Session
+session_begun raw wrong models =
+    unless_found (first_diagnostic (wrong ++ session_diagnostics models raw))
+    (then_made_of (session_started models raw) (starts_answer raw))
+
+-- with the models as they are written
 abbrev pub session_over : RawSession → List Parts → Answer Session
 session_over raw models =
-    unless_found (first_diagnostic (session_diagnostics models raw))
-    (then_made_of (session_started models raw) (start_answer raw.plan.start))
+    session_begun raw (plan_diagnostics raw.plan.beginnings models) (models_of_plan raw.plan.beginnings models)
 
 -- the session that is meant, or the first refusal
 abbrev pub session_answer : RawSession → Answer Session

@@ -2,7 +2,7 @@
 use Rattle.std.specs.Prelude.{ℤ, Option, Some, None, Ok, Err}
 use Rattle.aerie_base.specs.declared.places.Place.{Place}
 use Rattle.epoch_text.specs.Starts.{start_of}
-use Rattle.session_grammar.specs.declared.raw.plans.RawStart.{RawStart}
+use Rattle.session_grammar.specs.declared.raw.starts.RawStart.{RawStart}
 use Rattle.session_reader.specs.declared.session_error.SessionError.TheVariants.{Start}
 use Rattle.session_reader.specs.Answers.{Answer}
 use Rattle.session_reader.specs.Quotes.{unquoted}

@@ -1,5 +1,5 @@
 -- What holds of every session.
-use Rattle.std.specs.Prelude.{◌≡◌, ℕ, ◌≤◌, List, [], Option, Some, None, Ok, length, map}
+use Rattle.std.specs.Prelude.{◌≡◌, ℕ, ◌≤◌, List, [], ◌++◌, Option, Some, None, Ok, length, map}
 use Rattle.std.specs.List.{AllByRecursion}
 use Rattle.aerie_base.specs.declared.models.model.Parts.{Parts}
 use Rattle.aerie_base.specs.declared.plans.Plan.{Plan}
@@ -9,6 +9,7 @@ use Rattle.session_reader.specs.declared.session.ModelPart.{ModelPart}
 use Rattle.session_reader.specs.declared.session.Session.{Session}
 use Rattle.commands.specs.SessionModels.{AreModels, IsPlanAmong}
 use Rattle.session_reader.specs.DatasetAnswers.{AreSeries}
+use Rattle.session_reader.specs.Beginnings.{models_of_plan, plan_diagnostics}
 use Rattle.session_reader.specs.CheckedModels.{AreValid, models_answer}
 use Rattle.session_reader.specs.Sections.{TokenRange}
 use Rattle.session_reader.specs.Sessions.{session_diagnostics}
@@ -34,12 +35,14 @@ pub record IsLimited (raw : RawSession) : Type 0 where
   pub count : ℕ
   pub limits : IsLimitedSession count raw
 
--- nothing is refused of the models, nor of the names of the session
+-- nothing is refused of the models as they are written, of the beginnings of the plan, nor of the names of the session
 pub record MayBeMade (models : List Parts) (raw : RawSession) : Type 0 where
   pub limits : IsLimited raw
-  pub checked : models_answer raw.models ≡ Ok models
+  pub written : List Parts
+  pub checked : models_answer raw.models ≡ Ok written
+  pub begun : models ≡ models_of_plan raw.plan.beginnings written
   pub valid : AreValid models
-  pub nothing : session_diagnostics models raw ≡ []
+  pub nothing : plan_diagnostics raw.plan.beginnings written ++ session_diagnostics models raw ≡ []
 
 -- ---- sections
 

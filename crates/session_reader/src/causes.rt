@@ -14,6 +14,8 @@ pub(crate) enum Cause {
     Duplicate,
     /// A value of another type than is needed, or a parameter without any value.
     WrongType,
+    /// A rate that no accumulator has.
+    OutOfRange,
 }
 
 impl Ranked for Cause {
@@ -24,6 +26,7 @@ impl Ranked for Cause {
             Cause::Unknown => 1,
             Cause::Duplicate => 2,
             Cause::WrongType => 3,
+            Cause::OutOfRange => 4,
         }
     }
 }

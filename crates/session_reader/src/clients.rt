@@ -3,15 +3,18 @@
 ghost use Rattle.std.specs.Prelude.{◌≡◌, [], map, IfOk};
 ghost use Rattle.commands.specs.declared.commands.Command.TheVariants as command;
 ghost use Rattle.commands.specs.declared.edits.Edit.TheVariants as edit;
+ghost use Rattle.session_grammar.specs.declared.raw.clients.RawCommand.TheVariants as written;
 ghost use Rattle.session_reader.specs.ClientCommands.{command_meant, client_meant, clients_meant};
 ghost use Rattle.session_reader.specs.ClientNames.{is_client_name as is_client_name_by, repeated_client as repeated_client_by};
 ghost use Rattle.session_reader.specs.Quotes.{unquoted as unquoted_by};
 
 use crate::quotes::{BACKQUOTE, unquoted};
 use crate::session::Client;
-use aerie_base::{List, Name, OutOfMemory, Place, RawArgument, Text, When};
+use crate::times::when;
+use aerie_base::{List, Name, OutOfMemory, Place, RawArgument, Text};
 use commands::{Command, Edit};
-use session_grammar::{RawClient, RawCommand, RawGiven};
+use epoch_text::Start;
+use session_grammar::{RawClient, RawCommand, RawGiven, RawWhen};
 use std::alloc::Global;
 
 /// Whether one of some clients has the name.
@@ -35,10 +38,17 @@ pub(crate) fn repeated_client(clients: &[RawClient]) -> Option<Place>
 }
 
 /// The command that adds a directive.
-fn add(alloc: Global, branch: &Name, at: When, given: &RawGiven) -> Result<Command, OutOfMemory>
-    ensures { IfOk result (λ made. made ≡ command.Edit branch.now (edit.Add at given.now.kind given.now.arguments)) }
+fn add(
+    alloc: Global,
+    start: Start,
+    branch: &Name,
+    at: &RawWhen,
+    given: &RawGiven,
+) -> Result<Command, OutOfMemory>
+    ensures { IfOk result (λ made. made ≡ command_meant start (written.Add branch.now at.now given.now)) }
 {
     let branch = branch.copy(alloc)?;
+    let at = when(start, at);
     let edit = Edit::add(alloc, at, &given.kind, given.arguments.as_slice())?;
     Ok(Command::Edit { branch, edit })
 }
@@ -70,8 +80,8 @@ fn load(alloc: Global, branch: &Name, text: &Text) -> Result<Command, OutOfMemor
 }
 
 /// The command that is meant.
-fn command(alloc: Global, raw: &RawCommand) -> Result<Command, OutOfMemory>
-    ensures { IfOk result (λ made. made ≡ command_meant raw.now) }
+fn command(alloc: Global, start: Start, raw: &RawCommand) -> Result<Command, OutOfMemory>
+    ensures { IfOk result (λ made. made ≡ command_meant start raw.now) }
 {
     match raw {
         RawCommand::New { branch } => Ok(Command::New {
@@ -81,14 +91,17 @@ fn command(alloc: Global, raw: &RawCommand) -> Result<Command, OutOfMemory>
         RawCommand::Drop { branch } => Ok(Command::Drop {
             branch: branch.copy(alloc)?,
         }),
-        RawCommand::Add { branch, at, given } => add(alloc, branch, *at, given),
+        RawCommand::Add { branch, at, given } => add(alloc, start, branch, at, given),
         RawCommand::Remove { branch, id } => Ok(Command::Edit {
             branch: branch.copy(alloc)?,
             edit: Edit::Remove { id: *id },
         }),
         RawCommand::Move { branch, id, at } => Ok(Command::Edit {
             branch: branch.copy(alloc)?,
-            edit: Edit::Move { id: *id, at: *at },
+            edit: Edit::Move {
+                id: *id,
+                at: when(start, at),
+            },
         }),
         RawCommand::Set {
             branch,
@@ -118,34 +131,38 @@ fn command(alloc: Global, raw: &RawCommand) -> Result<Command, OutOfMemory>
 }
 
 /// The commands that are meant.
-fn commands(alloc: Global, raw: &[RawCommand]) -> Result<List<Command>, OutOfMemory>
-    ensures { IfOk result (λ made. made ≡ map command_meant raw.now) }
+fn commands(alloc: Global, start: Start, raw: &[RawCommand]) -> Result<List<Command>, OutOfMemory>
+    ensures { IfOk result (λ made. made ≡ map (command_meant start) raw.now) }
 {
     let mut made = List::with_capacity(alloc, raw.len())?;
     for one in raw {
-        made.push(command(alloc, one)?)?;
+        made.push(command(alloc, start, one)?)?;
     }
     Ok(made)
 }
 
 /// The client that is meant.
-fn client(alloc: Global, raw: &RawClient) -> Result<Client, OutOfMemory>
-    ensures { IfOk result (λ made. made ≡ client_meant raw.now) }
+fn client(alloc: Global, start: Start, raw: &RawClient) -> Result<Client, OutOfMemory>
+    ensures { IfOk result (λ made. made ≡ client_meant start raw.now) }
 {
     let name = raw.name.copy(alloc)?;
     Ok(Client {
         name,
-        commands: commands(alloc, raw.commands.as_slice())?,
+        commands: commands(alloc, start, raw.commands.as_slice())?,
     })
 }
 
-/// The clients that are meant. It takes time linear in their commands.
-pub(crate) fn clients(alloc: Global, raw: &[RawClient]) -> Result<List<Client>, OutOfMemory>
-    ensures { IfOk result (λ made. made ≡ clients_meant raw.now) }
+/// The clients that are meant, with the start of their plans. It takes time linear in their commands.
+pub(crate) fn clients(
+    alloc: Global,
+    start: Start,
+    raw: &[RawClient],
+) -> Result<List<Client>, OutOfMemory>
+    ensures { IfOk result (λ made. made ≡ clients_meant start raw.now) }
 {
     let mut made = List::with_capacity(alloc, raw.len())?;
     for one in raw {
-        made.push(client(alloc, one)?)?;
+        made.push(client(alloc, start, one)?)?;
     }
     Ok(made)
 }

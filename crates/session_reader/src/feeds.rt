@@ -64,7 +64,7 @@ fn may_feed_if_known(
 }
 
 /// Whether a type, where it is known, is this one.
-fn same_if_known(found: Option<Kind>, kind: Kind) -> bool
+pub(crate) fn same_if_known(found: Option<Kind>, kind: Kind) -> bool
     ensures { result ≡ same_if_known_by found kind }
 {
     match found {

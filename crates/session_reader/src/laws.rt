@@ -2,6 +2,7 @@
 
 ghost use Rattle.std.specs.Prelude.{ℕ, List};
 ghost use Rattle.session_reader.specs.Answers.{Answer, IsMade};
+ghost use Rattle.session_reader.specs.PlacedBeginnings.{BeginningsArePlaced};
 ghost use Rattle.session_reader.specs.SessionTexts.{text_answer};
 ghost use Rattle.session_reader.specs.SessionVerdicts.{TellsOfReadings};
 ghost use Rattle.session_reader.specs.declared.session.Session.{Session};
@@ -17,3 +18,9 @@ pub fn answers_tell_of_readings()
 {
     sessions_conform();
 }
+
+/// The first model of a session is the model as it is written, with the beginnings of the plan section in place: these are all
+/// that the section changes, and each other model is as it is written.
+pub fn beginnings_are_placed()
+    ensures { BeginningsArePlaced }
+{}

@@ -1,6 +1,8 @@
 //! Sessions: what the text of a session means, or the first thing in it that is refused.
 #![tactic(auto)]
 
+mod beginnings;
+mod begun_models;
 mod causes;
 mod clients;
 mod cut_sessions;
@@ -22,6 +24,7 @@ mod session;
 mod session_error;
 mod sessions;
 mod starts;
+mod times;
 
 pub use cut_sessions::read_cut_session;
 pub use reading::read_session;

@@ -1,4 +1,4 @@
-//! Literals of mappings, by the enumerations of the new model.
+//! Literals of mappings and of beginnings, by the enumerations of their model.
 
 ghost use Rattle.std.specs.Prelude.{◌≡◌, option_copied};
 ghost use Rattle.aerie_base.specs.models.Names.{is_name_among};

@@ -31,7 +31,7 @@ fn refusal(error: CheckError) -> SessionError
 }
 
 /// The model, which can have several owners.
-fn shared(alloc: Global, model: Model) -> Result<Shared<Model>, OutOfMemory>
+pub(crate) fn shared(alloc: Global, model: Model) -> Result<Shared<Model>, OutOfMemory>
     ensures same { IfOk result (λ shared. shared ≡ model) }
     ensures valid { IsTrue (valid_model model) }
 {

@@ -8,7 +8,7 @@ use crate::causes::Cause;
 use aerie_base::{Name, OutOfMemory};
 use diagnostics::{Diagnostic, NameSet, note_repeated};
 use model_reader::{RawModel, RawName};
-use session_grammar::{RawDataset, RawFeed, RawTypeRule};
+use session_grammar::{RawBeginning, RawDataset, RawFeed, RawTypeRule};
 use std::alloc::Global;
 
 /// What has a name in the text.
@@ -43,6 +43,14 @@ impl Named for RawFeed {
 
     fn raw_name(&self) -> &RawName {
         &self.parameter
+    }
+}
+
+impl Named for RawBeginning {
+    ghost named = { λ beginning. beginning.cell };
+
+    fn raw_name(&self) -> &RawName {
+        &self.cell
     }
 }
 

@@ -88,8 +88,8 @@ fn text_session(alloc: Global, text: &str) -> Result<Session, SessionError>
 }
 
 /// Reads a session. Its refusals come in this order over all of it: more than 16,777,216 bytes; bytes that are no UTF-8; the
-/// first place at which its form, or a limit, is broken; the checks of models, then those of mappings, datasets and sections by the
-/// first place; the start; the first directive of the plan section that `add` refuses; the name of a client that an earlier one
+/// first place at which its form, or a limit, is broken; the checks of models, then those of mappings, the plan section's
+/// beginnings, datasets and sections by the first place; the first text that is no instant; the first directive of the plan section that `add` refuses; the name of a client that an earlier one
 /// has; the first dataset that is none. Where no token begins, the front of the text is cut into tokens once more. The time is linear
 /// in the bytes but for what looking up a name by its hash, or among the few parts of a model, takes.
 pub fn read_session(alloc: Global, bytes: &[u8]) -> Result<Session, SessionError>

@@ -10,8 +10,9 @@ use plan_edit::EditError;
 use thiserror::Error;
 
 /// Why a text is no session. It is judged in this order over the whole text: its size, its bytes, its form and limits by the
-/// first place, the models' own checks, the names of models, mappings, datasets and sections by the first place, the start, the
-/// directives of the plan section, the names of clients, and the datasets.
+/// first place, the models' own checks, the names of models, mappings, datasets and sections and the beginnings of the plan
+/// section by the first place, the start and other instants by the first place, the directives of the plan section, the names of
+/// clients, and the datasets.
 #[derive(Debug, Drop, Error)]
 pub enum SessionError {
     /// It has more than 16,777,216 bytes.
@@ -34,10 +35,11 @@ pub enum SessionError {
         /// The first token of the part that is one too many.
         place: Place,
     },
-    /// A model does not pass its checks, or a name in a mapping, a dataset or a section is refused. It is never want of memory.
+    /// A model does not pass its checks, or a name in a mapping, a dataset or a section, or a beginning of the plan section is
+    /// refused. It is never want of memory.
     #[error("check: {0}")]
     Check(CheckError),
-    /// The text at the place is no start.
+    /// The text at the place is no start of a plan, and no instant at which a directive could start.
     #[error("no start at line {}, column {}", .0.line, .0.column)]
     Start(Place),
     /// A directive of the plan section is refused.

@@ -1,16 +1,17 @@
 //! What a session as it is written means.
 
-ghost use Rattle.std.specs.Prelude.{◌≡◌, Ok, IfOk};
+ghost use Rattle.std.specs.Prelude.{◌≡◌, Ok, IfOk, None as Nothing};
 ghost use Rattle.session_reader.specs.declared.session_error.SessionError.TheVariants.{Check};
 ghost use Rattle.session_reader.specs.Answers.{IsMade, check_error, then_made_of};
 ghost use Rattle.session_reader.specs.CheckedModels.{AreValid, models_answer};
 ghost use Rattle.session_reader.specs.DatasetAnswers.{datasets_answer};
 ghost use Rattle.session_reader.specs.FewClients.{HasFewClients};
 ghost use Rattle.session_reader.specs.Sections.{section_of as section_of_by};
-ghost use Rattle.session_reader.specs.Sessions.{all_sections as all_sections_by, MakesAllSections, JudgesNames, model_part as model_part_by, model_parts as model_parts_by, session_made, session_planned, session_started, session_over as session_over_by, session_answer};
-ghost use Rattle.session_reader.specs.Starts.{start_answer};
+ghost use Rattle.session_reader.specs.Sessions.{all_sections as all_sections_by, MakesAllSections, MakesJudged, JudgesNames, model_part as model_part_by, model_parts as model_parts_by, session_made, session_planned, session_started, session_over as session_over_by, session_answer};
+ghost use Rattle.session_reader.specs.Times.{starts_answer};
 ghost use Rattle.session_reader.specs.WellFormed.{HasRangesOf, IsLimited, IsPlanOfFirst, IsSession, MayBeMade};
 
+use crate::beginnings::models_of_plan;
 use crate::causes::Cause;
 use crate::clients::{clients, repeated_client};
 use crate::dataset_names::note_datasets;
@@ -23,7 +24,7 @@ use crate::plans::plan;
 use crate::sections::{SectionsByModel, TokenRange, sections_of};
 use crate::session::{ModelPart, Session};
 use crate::session_error::SessionError;
-use crate::starts::start;
+use crate::times::starts;
 use aerie_base::{List, Model, OutOfMemory, Plan, Shared};
 use diagnostics::Diagnostic;
 use epoch_text::Start;
@@ -75,6 +76,32 @@ fn judge_names(
     all_sections(alloc, models, &raw.sections, found)
 }
 
+/// The models of a session, and their sections.
+#[derive(Drop)]
+struct Judged {
+    models: List<Shared<Model>>,
+    sections: AllSections,
+}
+
+/// Judges the beginnings of the plan section and the names of the session, and gives its models with their sections.
+#[tactic(auto, using(diagnostics::specs::NotedInTurn::noted_appended))]
+fn judge(
+    alloc: Global,
+    written: List<Shared<Model>>,
+    raw: &RawSession,
+    found: &mut Option<Diagnostic<Cause>>,
+) -> Result<Judged, OutOfMemory>
+    requires limits { IsLimited raw.now }
+    requires valid { AreValid written }
+    requires nothing { found.old ≡ Nothing }
+    ensures { IfOk result (MakesJudged written raw.now found.new) }
+{
+    let beginnings = raw.plan.beginnings.as_slice();
+    let models = models_of_plan(alloc, written, beginnings, found)?;
+    let sections = judge_names(alloc, models.as_slice(), raw, found)?;
+    Ok(Judged { models, sections })
+}
+
 /// The error that tells what was found.
 fn refusal(diagnostic: Diagnostic<Cause>) -> SessionError
     ensures { result ≡ Check (check_error diagnostic.cause diagnostic.place) }
@@ -84,6 +111,7 @@ fn refusal(diagnostic: Diagnostic<Cause>) -> SessionError
         Cause::Unknown => CheckError::Unknown(place),
         Cause::Duplicate => CheckError::Duplicate(place),
         Cause::WrongType => CheckError::WrongType(place),
+        Cause::OutOfRange => CheckError::OutOfRange(place),
     })
 }
 
@@ -144,7 +172,7 @@ fn assembled(
     let parts = model_parts(alloc, sections, models)?;
     let mappings = mappings(alloc, models, raw.mappings.as_slice())?;
     let branch = raw.plan.branch.name.copy(alloc)?;
-    let clients = clients(alloc, raw.clients.as_slice())?;
+    let clients = clients(alloc, start, raw.clients.as_slice())?;
     Ok(Session {
         models: parts,
         mappings,
@@ -212,7 +240,7 @@ fn started(
     ensures session { IfOk result IsSession }
     ensures ranges { IfOk result (HasRangesOf raw.now) }
 {
-    let plan = plan(alloc, models, &raw.plan)?;
+    let plan = plan(alloc, start, models, &raw.plan)?;
     planned(alloc, models, sections, raw, start, plan)
 }
 
@@ -225,32 +253,32 @@ fn named(
 ) -> Result<Session, SessionError>
     requires sections { sections.now ≡ all_sections_by models.now raw.now.sections }
     requires good { MayBeMade models.now raw.now }
-    ensures made { IsMade (then_made_of (session_started models.now raw.now) (start_answer raw.now.plan.start)) result }
+    ensures made { IsMade (then_made_of (session_started models.now raw.now) (starts_answer raw.now)) result }
     ensures session { IfOk result IsSession }
     ensures ranges { IfOk result (HasRangesOf raw.now) }
 {
-    let start = start(&raw.plan.start)?;
+    let start = starts(raw)?;
     started(alloc, models, sections, raw, start)
 }
 
-/// The session of these models.
+/// The session of these models as they are written.
 fn session_over(
     alloc: Global,
-    models: &[Shared<Model>],
+    written: List<Shared<Model>>,
     raw: &RawSession,
 ) -> Result<Session, SessionError>
     requires limits { IsLimited raw.now }
-    requires checked { models_answer raw.now.models ≡ Ok models.now }
-    requires valid { AreValid models.now }
-    ensures made { IsMade (session_over_by raw.now models.now) result }
+    requires checked { models_answer raw.now.models ≡ Ok written }
+    requires valid { AreValid written }
+    ensures made { IsMade (session_over_by raw.now written) result }
     ensures session { IfOk result IsSession }
     ensures ranges { IfOk result (HasRangesOf raw.now) }
 {
     let mut found = None;
-    let sections = judge_names(alloc, models, raw, &mut found)?;
+    let judged = judge(alloc, written, raw, &mut found)?;
     match found {
         Some(diagnostic) => Err(refusal(diagnostic)),
-        None => named(alloc, models, &sections, raw),
+        None => named(alloc, judged.models.as_slice(), &judged.sections, raw),
     }
 }
 
@@ -263,5 +291,5 @@ pub(crate) fn session(alloc: Global, raw: &RawSession) -> Result<Session, Sessio
     ensures ranges { IfOk result (HasRangesOf raw.now) }
 {
     let models = models(alloc, raw.models.as_slice())?;
-    session_over(alloc, models.as_slice(), raw)
+    session_over(alloc, models, raw)
 }

@@ -20,7 +20,7 @@ use Rattle.session_grammar.specs.grammar.Factored.{look, edge_form, anchored_for
 use Rattle.session_grammar.specs.grammar.Rules.{Rule, when_rule, given_rule, of_model}
 use Rattle.session_grammar.specs.grammar.Terminals.{Terminal, fits, id_limit, plain, id_number, great_number, no_time, some_time}
 use Rattle.session_grammar.specs.grammar.Written.{id_form, duration_form, argument_form}
-use Rattle.session_grammar.specs.reading.Directives.{id_at, duration_at, edge_word_at, edge_at, anchored_at, unanchored_at, when_at, signed_amount_at, truth_at, variant_at, value_at, argument_at, given_at}
+use Rattle.session_grammar.specs.reading.Directives.{id_at, duration_at, edge_word_at, edge_at, anchored_at, unanchored_at, instant_text_at, when_at, signed_amount_at, truth_at, variant_at, value_at, argument_at, given_at}
 
 abbrev pub Along : {A : Type 0} → Form Rule Terminal → List Mark → Parsed A → Type 0
 Along form marks reading = Conforms look form marks reading
@@ -61,12 +61,18 @@ unanchored_law : (marks : List Mark) → Along duration_form marks (unanchored_a
 unfolding unanchored_at
 unanchored_law marks = then_value _ (duration_law marks) (λ time rest. value)
 
+instant_law : (marks : List Mark) → Along (token (plain sort.Quoted)) marks (instant_text_at marks)
+unfolding instant_text_at
+instant_law marks = then_value _ (taken sort.Quoted _ (refl, refl)) (λ text rest. value)
+
 anchored_begins : Begins look (is_one_of (sort.Start ∷ sort.End ∷ [])) anchored_form
 anchored_begins = begins_both (begins_either (begins_with sort.Start (refl, refl)) (begins_with sort.End (refl, refl))) refl
 
 pub when_law : (marks : List Mark) → Along (rule when_rule) marks (when_at marks)
 unfolding when_at
-when_law marks = rule_conforms predictive (either_conforms _ _ anchored_begins refl (λ next. anchored_law marks) (λ next. unanchored_law marks))
+when_law marks =
+    rule_conforms predictive (either_conforms _ _ anchored_begins refl (λ next. anchored_law marks)
+    (λ next. either_conforms _ _ (begins_with sort.Quoted (refl, refl)) refl (λ next. instant_law marks) (λ next. unanchored_law marks)))
 
 -- ---- literals
 

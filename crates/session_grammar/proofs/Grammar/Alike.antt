@@ -53,7 +53,7 @@ first_step mapping_rule =
 first_step plan_rule =
     same_alternatives (written.form plan_rule) (half.form plan_rule) (record { in_second = 0 ∷ []; in_first = 0 ∷ []; onward = refl; back = refl })
 first_step when_rule =
-    same_alternatives (written.form when_rule) (half.form when_rule) (record { in_second = 4 ∷ 5 ∷ 0 ∷ 1 ∷ 2 ∷ 3 ∷ []; in_first = 2 ∷ 3 ∷ 4 ∷ 5 ∷ 0 ∷ 1 ∷ []; onward = refl; back = refl })
+    same_alternatives (written.form when_rule) (half.form when_rule) (record { in_second = 5 ∷ 6 ∷ 4 ∷ 0 ∷ 1 ∷ 2 ∷ 3 ∷ []; in_first = 3 ∷ 4 ∷ 5 ∷ 6 ∷ 2 ∷ 0 ∷ 1 ∷ []; onward = refl; back = refl })
 first_step r = same_form (written.form r)
 
 -- ---- the second step

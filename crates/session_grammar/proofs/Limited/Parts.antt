@@ -8,7 +8,7 @@ use Rattle.aerie_text.specs.declared.sorts.Sort.{Sort}
 use Rattle.aerie_text.specs.declared.sorts.Sort.TheVariants as sort
 use Rattle.model_reader.proofs.Limited.Keeping.{Nothing, Keeps, gives, fails, passes, and_then, one_of_two, number_keeps, repeated_keeps}
 use Rattle.model_reader.proofs.Limited.Lists.{all_behind, AreListed, optional_list_keeps, row_keeps}
-use Rattle.model_reader.proofs.Limited.Literals.{same_size}
+use Rattle.model_reader.proofs.Limited.Literals.{literal_keeps, same_size}
 use Rattle.model_reader.specs.Limits.{CountNumbers}
 use Rattle.model_reader.specs.declared.raw.names.RawName.{RawName}
 use Rattle.model_reader.specs.reading.Literals.{amount_at, begins_amount, with_minus}
@@ -23,7 +23,7 @@ use Rattle.session_grammar.proofs.Conforming.Directives.{Along, IsPlain, taken}
 use Rattle.session_grammar.proofs.Conforming.Mappings.{raw_name_law, raw_named_law, sign_law}
 use Rattle.session_grammar.proofs.Conforming.Plans.{dataset_law, directives_law, plan_name_law, start_law}
 use Rattle.session_grammar.proofs.Conforming.Sections.{of_model_law, rules_law}
-use Rattle.session_grammar.specs.SessionLimits.{AreFeedsInRange, AreRangesWithin, IsFeedInRange, IsFedInRange, IsLimitedClient, IsMappingInRange, IsRangeWithin, IsTypeRuleInRange}
+use Rattle.session_grammar.specs.SessionLimits.{AreFeedsInRange, AreRangesWithin, IsBeginningInRange, IsLimitedPlan, IsRateInRange, IsFeedInRange, IsFedInRange, IsLimitedClient, IsMappingInRange, IsRangeWithin, IsTypeRuleInRange}
 use Rattle.session_grammar.specs.declared.raw.sections.RawSections.{RawSections}
 use Rattle.session_grammar.specs.grammar.Factored.{look}
 use Rattle.session_grammar.specs.grammar.Rules.{Rule}
@@ -31,7 +31,7 @@ use Rattle.session_grammar.specs.grammar.Terminals.{Terminal}
 use Rattle.session_grammar.specs.reading.Commands.{command_words, most_commands, commands_at, client_at}
 use Rattle.session_grammar.specs.reading.Directives.{duration_at, length_of_time}
 use Rattle.session_grammar.specs.reading.Mappings.{fed_amount_at, fed_truth_at, fed_variant_at, fed_behind_name_at, fed_name_at, fed_value_at, feed_at, feeds_at, type_rule_at, mapping_at, most_mappings, mappings_at}
-use Rattle.session_grammar.specs.reading.Plans.{some_time_at, plan_duration_at, plan_at, most_datasets, datasets_at}
+use Rattle.session_grammar.specs.reading.Plans.{some_time_at, plan_duration_at, some_rate_at, optional_rate_at, beginning_at, plan_at, most_datasets, datasets_at}
 use Rattle.session_grammar.specs.reading.Sections.{section_at, sections_with}
 use Rattle.session_grammar.specs.reading.Sessions.{most_clients, clients_at, sections_at}
 
@@ -174,12 +174,30 @@ plan_duration_keeps marks count =
     behind _ (taken sort.Duration _ (refl, refl)) count (λ word rest left shorter. and_then _ (some_time_keeps rest left) (λ time rest is left.
     behind _ (taken sort.Semicolon _ (refl, refl)) left (λ end rest left shorter. gives is left)))
 
-pub plan_keeps : (marks : List Mark) → CountNumbers marks → Keeps (λ plan. 1 ≤ plan.duration) (plan_at marks)
+some_rate_keeps : (marks : List Mark) → CountNumbers marks → Keeps IsRateInRange (some_rate_at marks)
+unfolding some_rate_at
+some_rate_keeps marks count =
+    behind _ (taken sort.Rate _ (refl, refl)) count (λ word rest left shorter. behind _ (sign_law rest) left (λ sign rest left shorter.
+    and_then _ (number_keeps sort.Number rest left) (λ number last is from. gives (signed sign number is) from)))
+
+rate_keeps : (marks : List Mark) → CountNumbers marks → Keeps IsRateInRange (optional_rate_at marks)
+unfolding optional_rate_at
+rate_keeps marks count = one_of_two (next_is sort.Rate marks) _ _ (some_rate_keeps marks count) (gives tt count)
+
+beginning_keeps : (marks : List Mark) → CountNumbers marks → Keeps IsBeginningInRange (beginning_at marks)
+unfolding beginning_at
+beginning_keeps marks count =
+    behind _ (raw_name_law marks) count (λ cell rest left shorter. behind _ (taken sort.Assign _ (refl, refl)) left (λ equals rest left shorter.
+    and_then _ (literal_keeps rest left) (λ literal rest is left. and_then _ (rate_keeps rest left) (λ rate rest also left.
+    behind _ (taken sort.Semicolon _ (refl, refl)) left (λ end rest left shorter. gives (is, also) left)))))
+
+pub plan_keeps : (marks : List Mark) → CountNumbers marks → Keeps IsLimitedPlan (plan_at marks)
 unfolding plan_at
 plan_keeps marks count =
     behind _ (plan_name_law marks) count (λ branch rest left shorter. behind _ (start_law rest) left (λ start rest left shorter.
-    and_then _ (plan_duration_keeps rest left) (λ duration rest is left. behind _ (directives_law rest) left (λ directives rest left shorter.
-    behind _ (taken sort.CloseBrace _ (refl, refl)) left (λ end rest left shorter. gives is left)))))
+    and_then _ (plan_duration_keeps rest left) (λ duration rest is left.
+    and_then _ (row_keeps beginning_keeps (sort.Name ∷ []) None rest left) (λ beginnings rest are left. behind _ (directives_law rest) left (λ directives rest left shorter.
+    behind _ (taken sort.CloseBrace _ (refl, refl)) left (λ end rest left shorter. gives (record { lasts = is; beginnings = are.all }) left))))))
 
 -- ---- datasets
 

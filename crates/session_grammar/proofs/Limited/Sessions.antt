@@ -77,7 +77,8 @@ module _ (model_law : (marks : List Mark) → Along (rule (of_model model_rule))
         few_models = first.few;
         literals = second.all;
         few_mappings = second.few;
-        lasts = third;
+        lasts = third.lasts;
+        beginnings = third.beginnings;
         few_datasets = fourth.few;
         constraints = fifth.constraints;
         goals = fifth.goals;

@@ -25,8 +25,18 @@ pub sections : verdict (codes "model m { counter n = 0; } model k { } from m to 
 unfolding chars word_sort symbol_sort tokens_of tokens_from token_at digits_at symbol_len
 sections = refl
 
+-- beginnings of cells
+pub beginnings : verdict (head ++ codes "n = 5; battery = -2s rate -150; pointing = E.V; on = true; at 5us A(); at \"s\" A(); }") ≡ whole
+unfolding chars word_sort symbol_sort tokens_of tokens_from token_at digits_at symbol_len
+beginnings = refl
+
+-- none stands behind a directive
+pub a_late_beginning : verdict (head ++ codes "at 5us A(); n = 5; }") ≡ stops (drop 19 (marks_in (head ++ codes "at 5us A(); n = 5; }")))
+unfolding chars word_sort symbol_sort tokens_of tokens_from token_at digits_at symbol_len
+a_late_beginning = refl
+
 -- each command
-pub commands : verdict (head ++ codes "} client c { new b; fork b from a; drop b; add b at 1s A(x = 1); remove b 2; move b 2 to start of 1 + 0us; set b 2 x = E.V; load b `x`; show b; simulate b; schedule b; move b to m; merge b from c of d; expand b; }") ≡ whole
+pub commands : verdict (head ++ codes "} client c { new b; fork b from a; drop b; add b at 1s A(x = 1); add b at \"s\" A(); remove b 2; move b 2 to \"s\"; move b 2 to start of 1 + 0us; set b 2 x = E.V; load b `x`; show b; simulate b; schedule b; move b to m; merge b from c of d; expand b; }") ≡ whole
 unfolding chars word_sort symbol_sort tokens_of tokens_from token_at digits_at symbol_len
 commands = refl
 

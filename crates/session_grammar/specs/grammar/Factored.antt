@@ -4,7 +4,7 @@ use Rattle.std.specs.Prelude.{Bool, true, false, List, [], ◌∷◌}
 use Rattle.aerie_text.specs.declared.sorts.Sort.{Sort}
 use Rattle.aerie_text.specs.declared.sorts.Sort.TheVariants as sort
 use Rattle.model_reader.specs.grammar.Factored.{form_of as model_form_of, rule_first as model_first, rule_follow as model_follow}
-use Rattle.model_reader.specs.grammar.Rules.{Rule as ModelRule, model_rule}
+use Rattle.model_reader.specs.grammar.Rules.{Rule as ModelRule, literal_rule, model_rule}
 use Rattle.readers.specs.Marks.{Mark}
 use Rattle.readers.specs.grammar.Classes.{look_by_class}
 use Rattle.readers.specs.grammar.Forms.{Form, token, rule, many, option, Grammar}
@@ -14,7 +14,7 @@ use Rattle.readers.specs.grammar.Tables.{Tables, look_by_number}
 use Rattle.session_grammar.specs.grammar.Embedding.{in_session, of_sort, terminals_of_all}
 use Rattle.session_grammar.specs.grammar.Rules.{Rule, session_rule, rules_rule, mapping_rule, feed_rule, plan_rule, when_rule, given_rule, client_rule, command_rule, of_model}
 use Rattle.session_grammar.specs.grammar.Terminals.{Terminal, class_of, number_of_terminal, plain, some_time}
-use Rattle.session_grammar.specs.grammar.Written.{rule_terminals, mapped_type_form, dataset_form, section_form, directive_form, argument_form, id_form, duration_form, form_of as written_form}
+use Rattle.session_grammar.specs.grammar.Written.{rule_terminals, mapped_type_form, dataset_form, section_form, beginning_form, directive_form, argument_form, id_form, duration_form, form_of as written_form}
 
 -- WORD NAME, for a word or a symbol
 abbrev pub named_form : Sort → Form Rule Terminal
@@ -74,9 +74,10 @@ start_form = of_sort sort.Start then of_sort sort.Quoted then of_sort sort.Semic
 abbrev pub plan_duration_form : Form Rule Terminal
 plan_duration_form = of_sort sort.Duration then token some_time then of_sort sort.Semicolon
 
--- plan = "plan" NAME "{" "start" STRING ";" "duration" DURATION ";" { "at" when given ";" } "}", the DURATION not 0
+-- plan = "plan" NAME "{" "start" STRING ";" "duration" DURATION ";" { beginning } { "at" when given ";" } "}", the DURATION
+-- not 0
 abbrev pub plan_form : Form Rule Terminal
-plan_form = plan_name_form then start_form then plan_duration_form then many directive_form then of_sort sort.CloseBrace
+plan_form = plan_name_form then start_form then plan_duration_form then many beginning_form then many directive_form then of_sort sort.CloseBrace
 
 -- ---- times of directives
 
@@ -88,9 +89,9 @@ edge_form = of_sort sort.Start or of_sort sort.End
 abbrev pub anchored_form : Form Rule Terminal
 anchored_form = edge_form then of_sort sort.Of then id_form then of_sort sort.Plus then duration_form
 
--- when = ( "start" | "end" ) "of" ID "+" DURATION | DURATION
+-- when = ( "start" | "end" ) "of" ID "+" DURATION | STRING | DURATION
 abbrev pub when_form : Form Rule Terminal
-when_form = anchored_form or duration_form
+when_form = anchored_form or of_sort sort.Quoted or duration_form
 
 -- ---- commands
 
@@ -168,7 +169,7 @@ rule_first rules_rule = rule_terminals
 rule_first mapping_rule = plain sort.From ∷ []
 rule_first feed_rule = plain sort.Name ∷ []
 rule_first plan_rule = plain sort.Plan ∷ []
-rule_first when_rule = terminals_of_all (sort.Time ∷ sort.Start ∷ sort.End ∷ [])
+rule_first when_rule = terminals_of_all (sort.Time ∷ sort.Quoted ∷ sort.Start ∷ sort.End ∷ [])
 rule_first given_rule = plain sort.Name ∷ []
 rule_first client_rule = plain sort.Client ∷ []
 rule_first command_rule = terminals_of_all command_first
@@ -179,6 +180,7 @@ rule_first (of_model r) = terminals_of_all (model_first r)
 -- which may follow a rule of models
 abbrev pub inner_follow : ModelRule → List Sort
 inner_follow model_rule = sort.Model ∷ sort.From ∷ sort.Plan ∷ []
+inner_follow literal_rule = sort.Rate ∷ model_follow literal_rule
 inner_follow r = model_follow r
 
 abbrev pub rule_follow : Rule → List Terminal

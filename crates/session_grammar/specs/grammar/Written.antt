@@ -74,21 +74,28 @@ mapping_form = of_sort sort.From then of_sort sort.Name then of_sort sort.To the
 
 -- ---- the plan
 
+-- beginning = NAME "=" literal [ "rate" INT ] ";"
+abbrev pub beginning_form : Form Rule Terminal
+beginning_form =
+    of_sort sort.Name then of_sort sort.Assign then rule (of_model literal_rule)
+    then option (of_sort sort.Rate then option (of_sort sort.Minus) then of_sort sort.Number) then of_sort sort.Semicolon
+
 -- "at" when given ";"
 abbrev pub directive_form : Form Rule Terminal
 directive_form = of_sort sort.At then rule when_rule then rule given_rule then of_sort sort.Semicolon
 
--- plan = "plan" NAME "{" "start" STRING ";" "duration" DURATION ";" { "at" when given ";" } "}", the DURATION not 0
+-- plan = "plan" NAME "{" "start" STRING ";" "duration" DURATION ";" { beginning } { "at" when given ";" } "}", the DURATION
+-- not 0
 abbrev pub plan_form : Form Rule Terminal
 plan_form =
     of_sort sort.Plan then of_sort sort.Name then of_sort sort.OpenBrace
     then of_sort sort.Start then of_sort sort.Quoted then of_sort sort.Semicolon
     then of_sort sort.Duration then token some_time then of_sort sort.Semicolon
-    then many directive_form then of_sort sort.CloseBrace
+    then many beginning_form then many directive_form then of_sort sort.CloseBrace
 
--- when = DURATION | ( "start" | "end" ) "of" ID "+" DURATION
+-- when = DURATION | STRING | ( "start" | "end" ) "of" ID "+" DURATION
 abbrev pub when_form : Form Rule Terminal
-when_form = duration_form or (of_sort sort.Start or of_sort sort.End) then of_sort sort.Of then id_form then of_sort sort.Plus then duration_form
+when_form = duration_form or of_sort sort.Quoted or (of_sort sort.Start or of_sort sort.End) then of_sort sort.Of then id_form then of_sort sort.Plus then duration_form
 
 -- NAME "=" literal
 abbrev pub argument_form : Form Rule Terminal

@@ -7,15 +7,16 @@ use Rattle.aerie_base.specs.declared.arguments.RawValue.TheVariants as value
 use Rattle.aerie_base.specs.declared.places.Place.{Place}
 use Rattle.aerie_base.specs.declared.plans.Edge.{Edge}
 use Rattle.aerie_base.specs.declared.plans.Edge.TheVariants as edge
-use Rattle.aerie_base.specs.declared.plans.When.{When}
 use Rattle.aerie_text.specs.declared.sorts.Sort.{Sort}
 use Rattle.aerie_text.specs.declared.sorts.Sort.TheVariants as sort
 use Rattle.model_reader.specs.reading.Literals.{amount_at, begins_amount}
 use Rattle.readers.specs.Lists.{parenthesized_at}
 use Rattle.readers.specs.Marks.{Mark}
-use Rattle.readers.specs.Parsed.{Parsed, parsed, ◌>>=◌, is_one_of, next_fits, next_is, next_is_one_of, chosen, take_at, has_at, number_at, name_at}
+use Rattle.readers.specs.Parsed.{Parsed, parsed, ◌>>=◌, is_one_of, next_fits, next_is, next_is_one_of, chosen, take_at, has_at, number_at, name_at, word_at}
 use Rattle.readers.specs.Within.{number_within_at}
 use Rattle.session_grammar.specs.declared.raw.clients.RawGiven.{RawGiven}
+use Rattle.session_grammar.specs.declared.raw.starts.RawWhen.{RawWhen}
+use Rattle.session_grammar.specs.declared.raw.starts.RawWhen.TheVariants.{Planned, Instant}
 use Rattle.session_grammar.specs.grammar.Terminals.{id_limit}
 
 -- ---- when a directive starts
@@ -47,24 +48,32 @@ unfoldable pub edge_at : List Mark → Parsed Edge
 edge_at marks = chosen (next_is sort.Start marks) (edge_word_at sort.Start edge.Start) (edge_word_at sort.End edge.End) marks
 
 -- ( "start" | "end" ) "of" ID "+" DURATION
-unfoldable pub anchored_at : List Mark → Parsed When
+unfoldable pub anchored_at : List Mark → Parsed RawWhen
 anchored_at marks = do
   edge ← edge_at marks
   word ← take_at sort.Of edge.1
   id ← id_at word.1
   plus ← take_at sort.Plus id.1
   time ← duration_at plus.1
-  parsed (record { start = time.0; anchor = Some (record { to = id.0; edge = edge.0 }) }) time.1
+  parsed (Planned (record { start = time.0; anchor = Some (record { to = id.0; edge = edge.0 }) })) time.1
 
 -- DURATION
-unfoldable pub unanchored_at : List Mark → Parsed When
+unfoldable pub unanchored_at : List Mark → Parsed RawWhen
 unanchored_at marks = do
   time ← duration_at marks
-  parsed (record { start = time.0; anchor = None }) time.1
+  parsed (Planned (record { start = time.0; anchor = None })) time.1
 
--- when = ( "start" | "end" ) "of" ID "+" DURATION | DURATION
-unfoldable pub when_at : List Mark → Parsed When
-when_at marks = chosen (next_is_one_of (sort.Start ∷ sort.End ∷ []) marks) anchored_at unanchored_at marks
+-- STRING
+unfoldable pub instant_text_at : List Mark → Parsed RawWhen
+instant_text_at marks = do
+  text ← word_at sort.Quoted marks
+  parsed (Instant (record { at = text.0.0; text = text.0.1 })) text.1
+
+-- when = ( "start" | "end" ) "of" ID "+" DURATION | STRING | DURATION
+unfoldable pub when_at : List Mark → Parsed RawWhen
+when_at marks =
+    chosen (next_is_one_of (sort.Start ∷ sort.End ∷ []) marks) anchored_at
+    (chosen (next_is sort.Quoted marks) instant_text_at unanchored_at) marks
 
 -- ---- what a directive gives
 

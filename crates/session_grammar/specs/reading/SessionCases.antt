@@ -1,5 +1,5 @@
 -- Worked cases of what is read of a session's parts.
-use Rattle.std.specs.Prelude.{◌≡◌, ℕ, negsuc, List, [], ◌∷◌, Some, None, codes, refl}
+use Rattle.std.specs.Prelude.{◌≡◌, ℕ, pos, negsuc, List, [], ◌∷◌, Some, None, codes, refl}
 use Rattle.std.specs.Str.{chars}
 use Rattle.aerie_base.specs.declared.places.Place.{Place}
 use Rattle.aerie_text.specs.Numerals.{digits_at}
@@ -10,14 +10,15 @@ use Rattle.aerie_text.specs.Tokens.{tokens_of, tokens_from}
 use Rattle.aerie_text.specs.declared.sorts.Sort.TheVariants as sort
 use Rattle.model_reader.specs.declared.raw.literals.RawLiteralKind.TheVariants as kind
 use Rattle.model_reader.specs.declared.raw.names.RawName.{RawName}
-use Rattle.model_reader.specs.reading.Literals.{amount_at, minus_at, sign_at}
+use Rattle.model_reader.specs.reading.Literals.{amount_at, amount_literal_at, literal_at, minus_at, sign_at, truth_literal_at, variant_literal_at}
 use Rattle.model_reader.specs.reading.Names.{raw_name_at}
 use Rattle.readers.specs.Marks.{Mark, marks_in}
 use Rattle.readers.specs.Parsed.{Parsed, parsed, failed, over_limit}
 use Rattle.session_grammar.specs.declared.raw.mappings.RawFeedValue.TheVariants as fed
-use Rattle.session_grammar.specs.reading.Directives.{duration_at}
+use Rattle.session_grammar.specs.declared.raw.starts.RawWhen.TheVariants as at
+use Rattle.session_grammar.specs.reading.Directives.{duration_at, anchored_at, instant_text_at, unanchored_at, when_at}
 use Rattle.session_grammar.specs.reading.Mappings.{raw_named_at, fed_amount_at, fed_truth_at, fed_variant_at, fed_behind_name_at, fed_name_at, fed_value_at, feed_at, feeds_at}
-use Rattle.session_grammar.specs.reading.Plans.{some_time_at}
+use Rattle.session_grammar.specs.reading.Plans.{beginning_at, optional_rate_at, some_rate_at, some_time_at}
 use Rattle.session_grammar.specs.reading.Sections.{rules_at, some_model_at, of_model_at, section_at, sections_with}
 
 -- what is read, and nothing behind it; or the columns of the marks that are left
@@ -79,3 +80,27 @@ a_microsecond = refl
 pub no_time : read_of (some_time_at (marks_in (codes "0d"))) ≡ stops (1 ∷ [])
 unfolding some_time_at duration_at chars word_sort symbol_sort tokens_of tokens_from token_at digits_at symbol_len
 no_time = refl
+
+-- an instant is read with its quotation marks
+pub an_instant : read_of (when_at (marks_in (codes "\"2031\""))) ≡ gives (at.Instant (record { at = place 1; text = codes "\"2031\"" }))
+unfolding when_at anchored_at instant_text_at unanchored_at duration_at chars word_sort symbol_sort tokens_of tokens_from token_at digits_at symbol_len
+an_instant = refl
+
+pub a_planned_time : read_of (when_at (marks_in (codes "1h30min"))) ≡ gives (at.Planned (record { start = 5_400_000_000; anchor = None }))
+unfolding when_at anchored_at instant_text_at unanchored_at duration_at chars word_sort symbol_sort tokens_of tokens_from token_at digits_at symbol_len
+a_planned_time = refl
+
+-- what an accumulator begins with: the rate stands where its sign does
+pub a_beginning : read_of (beginning_at (marks_in (codes "b = 5 rate -150;")))
+    ≡ gives (record {
+      cell = name_of 1 (codes "b");
+      value = record { at = place 5; what = kind.Number (pos 5) };
+      rate = Some (record { at = place 7; rate = record { at = place 12; what = kind.Number (negsuc 149) } });
+    })
+unfolding beginning_at optional_rate_at some_rate_at literal_at amount_literal_at truth_literal_at variant_literal_at minus_at sign_at raw_name_at amount_at chars word_sort symbol_sort tokens_of tokens_from token_at digits_at symbol_len
+a_beginning = refl
+
+-- a rate is a whole number
+pub no_rate : read_of (beginning_at (marks_in (codes "b = 5 rate 3s;"))) ≡ stops (12 ∷ 14 ∷ [])
+unfolding beginning_at optional_rate_at some_rate_at literal_at amount_literal_at truth_literal_at variant_literal_at minus_at sign_at raw_name_at amount_at chars word_sort symbol_sort tokens_of tokens_from token_at digits_at symbol_len
+no_rate = refl

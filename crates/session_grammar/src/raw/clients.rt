@@ -1,6 +1,7 @@
 //! Clients as they are written.
 
-use aerie_base::{List, Name, Place, RawArgument, RawValue, Text, When};
+use crate::raw::starts::RawWhen;
+use aerie_base::{List, Name, Place, RawArgument, RawValue, Text};
 
 /// An activity with arguments, as a directive gives it.
 #[derive(Drop)]
@@ -30,7 +31,7 @@ pub enum RawCommand {
     /// Adds a directive.
     Add {
         branch: Name,
-        at: When,
+        at: RawWhen,
         given: RawGiven,
     },
     /// Removes a directive.
@@ -42,7 +43,7 @@ pub enum RawCommand {
     Move {
         branch: Name,
         id: u32,
-        at: When,
+        at: RawWhen,
     },
     /// Gives an argument of a directive another value.
     Set {

@@ -1,25 +1,35 @@
 //! Plans and datasets as they are written.
 
 use crate::raw::clients::RawGiven;
-use aerie_base::{List, Place, Text, Time, When};
-use model_reader::RawName;
-
-/// A text between quotation marks that says when a plan starts.
-#[derive(Drop)]
-pub struct RawStart {
-    /// The place of the text.
-    pub at: Place,
-    /// The text with its quotation marks.
-    pub text: Text,
-}
+use crate::raw::starts::{RawStart, RawWhen};
+use aerie_base::{List, Place, Text, Time};
+use model_reader::{RawLiteral, RawName};
 
 /// A directive of a plan.
 #[derive(Drop)]
 pub struct RawDirective {
     /// When it starts. Ids of other directives are those that they get here: 1, 2 and so on in the order of the text.
-    pub at: When,
+    pub at: RawWhen,
     /// What it gives.
     pub given: RawGiven,
+}
+
+/// The rate with which an accumulator begins.
+#[derive(Drop)]
+pub struct RawRate {
+    /// The place of the word `rate`.
+    pub at: Place,
+    /// A whole number, in units a second.
+    pub rate: RawLiteral,
+}
+
+/// A cell, and what it begins with in place of what the model says.
+#[derive(Drop)]
+pub struct RawBeginning {
+    pub cell: RawName,
+    pub value: RawLiteral,
+    /// Where there is none, an accumulator begins with the model's.
+    pub rate: Option<RawRate>,
 }
 
 /// The plan section.
@@ -30,6 +40,8 @@ pub struct RawPlan {
     pub start: RawStart,
     /// How long the plan lasts, at least 1 microsecond.
     pub duration: Time,
+    /// In the order of the text.
+    pub beginnings: List<RawBeginning>,
     /// In the order of the text, without a limit.
     pub directives: List<RawDirective>,
 }

@@ -58,7 +58,7 @@ fn add(alloc: Global, reader: &mut Reader) -> Result<RawCommand, Refusal>
 {
     let branch = named(alloc, reader, Sort::Add)?;
     reader.take(Sort::At)?;
-    let at = when(reader)?;
+    let at = when(alloc, reader)?;
     let given = given(alloc, reader)?;
     Ok(RawCommand::Add { branch, at, given })
 }
@@ -81,12 +81,12 @@ fn migrate(alloc: Global, reader: &mut Reader, branch: Name) -> Result<RawComman
 }
 
 #[tactic(auto, unfolding(crate::specs::reading::Commands::directive_move_at))]
-fn directive_move(reader: &mut Reader, branch: Name) -> Result<RawCommand, Refusal>
+fn directive_move(alloc: Global, reader: &mut Reader, branch: Name) -> Result<RawCommand, Refusal>
     ensures { Consumes (directive_move_at branch) reader.old reader.new result }
 {
     let id = id(reader)?;
     reader.take(Sort::To)?;
-    let at = when(reader)?;
+    let at = when(alloc, reader)?;
     Ok(RawCommand::Move { branch, id, at })
 }
 
@@ -98,7 +98,7 @@ fn moved(alloc: Global, reader: &mut Reader, branch: Name) -> Result<RawCommand,
     if reader.next_is(Sort::To) {
         migrate(alloc, reader, branch)
     } else {
-        directive_move(reader, branch)
+        directive_move(alloc, reader, branch)
     }
 }
 

@@ -4,9 +4,9 @@ ghost use Rattle.std.specs.Prelude.{◌≡◌, IfOk};
 ghost use Rattle.model_reader.specs.reading.Literals.{begins_amount};
 ghost use Rattle.readers.specs.Implements.{Consumes};
 ghost use Rattle.readers.specs.Parsed.{next_fits};
-ghost use Rattle.session_grammar.specs.reading.Directives.{id_at, duration_at, edge_word_at, edge_at, anchored_at, unanchored_at, when_at, with_sign, signed_amount_at, truth_at, variant_word, variant_at, length_of_time, value_at, argument_at, given_at};
+ghost use Rattle.session_grammar.specs.reading.Directives.{id_at, duration_at, edge_word_at, edge_at, anchored_at, unanchored_at, instant_text_at, when_at, with_sign, signed_amount_at, truth_at, variant_word, variant_at, length_of_time, value_at, argument_at, given_at};
 
-use crate::raw::RawGiven;
+use crate::raw::{RawGiven, RawStart, RawWhen};
 use aerie_base::{
     Anchor, Edge, Name, Number, OutOfMemory, RawArgument, RawValue, Text, Time, When,
 };
@@ -71,7 +71,7 @@ fn edge(reader: &mut Reader) -> Result<Edge, Refusal>
 }
 
 #[tactic(auto, unfolding(crate::specs::reading::Directives::anchored_at))]
-fn anchored(reader: &mut Reader) -> Result<When, Refusal>
+fn anchored(reader: &mut Reader) -> Result<RawWhen, Refusal>
     ensures { Consumes anchored_at reader.old reader.new result }
 {
     let edge = edge(reader)?;
@@ -80,27 +80,36 @@ fn anchored(reader: &mut Reader) -> Result<When, Refusal>
     reader.take(Sort::Plus)?;
     let start = duration(reader)?;
     let anchor = Some(Anchor { to, edge });
-    Ok(When { start, anchor })
+    Ok(RawWhen::Planned(When { start, anchor }))
 }
 
 #[tactic(auto, unfolding(crate::specs::reading::Directives::unanchored_at))]
-fn unanchored(reader: &mut Reader) -> Result<When, Refusal>
+fn unanchored(reader: &mut Reader) -> Result<RawWhen, Refusal>
     ensures { Consumes unanchored_at reader.old reader.new result }
 {
     let start = duration(reader)?;
-    Ok(When {
-        start,
-        anchor: None,
-    })
+    let anchor = None;
+    Ok(RawWhen::Planned(When { start, anchor }))
+}
+
+#[tactic(auto, unfolding(crate::specs::reading::Directives::instant_text_at))]
+fn instant(alloc: Global, reader: &mut Reader) -> Result<RawWhen, Refusal>
+    ensures { Consumes instant_text_at reader.old reader.new result }
+{
+    let (at, text) = reader.word(Sort::Quoted)?;
+    let text = Text::new(alloc, text)?;
+    Ok(RawWhen::Instant(RawStart { at, text }))
 }
 
 /// Reads when a directive starts.
 #[tactic(auto, unfolding(crate::specs::reading::Directives::when_at))]
-pub fn when(reader: &mut Reader) -> Result<When, Refusal>
+pub fn when(alloc: Global, reader: &mut Reader) -> Result<RawWhen, Refusal>
     ensures { Consumes when_at reader.old reader.new result }
 {
     if reader.next_is_one_of(&[Sort::Start, Sort::End]) {
         anchored(reader)
+    } else if reader.next_is(Sort::Quoted) {
+        instant(alloc, reader)
     } else {
         unanchored(reader)
     }

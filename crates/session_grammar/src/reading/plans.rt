@@ -1,14 +1,16 @@
 //! The plan section and the datasets behind it.
 
 ghost use Rattle.readers.specs.Implements.{Consumes, MayConsume};
-ghost use Rattle.session_grammar.specs.reading.Plans.{start_at, some_time_at, plan_duration_at, directive_at, plan_name_at, plan_at, dataset_at, datasets_at};
+ghost use Rattle.session_grammar.specs.reading.Plans.{start_at, some_time_at, plan_duration_at, some_rate_at, optional_rate_at, beginning_at, directive_at, plan_name_at, plan_at, dataset_at, datasets_at};
 
-use crate::raw::{RawDataset, RawDirective, RawPlan, RawStart};
+use crate::raw::{RawBeginning, RawDataset, RawDirective, RawPlan, RawRate, RawStart};
 use crate::reading::directives::{duration, given, when};
 use crate::reading::mappings::raw_named;
 use aerie_base::{List, Text, Time};
 use aerie_text::Sort;
-use model_reader::{RawName, raw_name};
+use model_reader::{
+    RawLiteral, RawLiteralKind, RawName, literal, optional_minus, raw_name, with_minus,
+};
 use readers::{Element, Limit, Most, Reader, Refusal, ended_by, row};
 use std::alloc::Global;
 
@@ -51,6 +53,50 @@ fn plan_duration(reader: &mut Reader) -> Result<Time, Refusal>
     ended_by(reader, Sort::Semicolon, time)
 }
 
+/// Reads the rate with which an accumulator begins.
+#[tactic(auto, unfolding(crate::specs::reading::Plans::some_rate_at))]
+fn some_rate(reader: &mut Reader) -> Result<Option<RawRate>, Refusal>
+    ensures { Consumes some_rate_at reader.old reader.new result }
+{
+    let word = reader.take(Sort::Rate)?;
+    let minus = optional_minus(reader)?;
+    let number = reader.number(Sort::Number)?;
+    let (at, number) = with_minus(minus, number);
+    let what = RawLiteralKind::Number(number);
+    let rate = RawLiteral { at, what };
+    Ok(Some(RawRate { at: word, rate }))
+}
+
+/// Reads a rate, where there is one.
+#[tactic(auto, unfolding(crate::specs::reading::Plans::optional_rate_at))]
+fn rate(reader: &mut Reader) -> Result<Option<RawRate>, Refusal>
+    ensures { MayConsume optional_rate_at reader.old reader.new result }
+{
+    if reader.next_is(Sort::Rate) {
+        some_rate(reader)
+    } else {
+        Ok(None)
+    }
+}
+
+/// What a cell begins with.
+struct OneBeginning;
+
+impl Element for OneBeginning {
+    type Part = RawBeginning;
+
+    ghost part_at = { beginning_at };
+
+    #[tactic(auto, unfolding(crate::specs::reading::Plans::beginning_at))]
+    fn part(alloc: Global, reader: &mut Reader) -> Result<RawBeginning, Refusal> {
+        let cell = raw_name(alloc, reader)?;
+        reader.take(Sort::Assign)?;
+        let value = literal(alloc, reader)?;
+        let rate = rate(reader)?;
+        ended_by(reader, Sort::Semicolon, RawBeginning { cell, value, rate })
+    }
+}
+
 /// A directive.
 struct OneDirective;
 
@@ -62,7 +108,7 @@ impl Element for OneDirective {
     #[tactic(auto, unfolding(crate::specs::reading::Plans::directive_at))]
     fn part(alloc: Global, reader: &mut Reader) -> Result<RawDirective, Refusal> {
         reader.take(Sort::At)?;
-        let at = when(reader)?;
+        let at = when(alloc, reader)?;
         let given = given(alloc, reader)?;
         ended_by(reader, Sort::Semicolon, RawDirective { at, given })
     }
@@ -85,11 +131,13 @@ pub fn plan(alloc: Global, reader: &mut Reader) -> Result<RawPlan, Refusal>
     let branch = plan_name(alloc, reader)?;
     let start = start(alloc, reader)?;
     let duration = plan_duration(reader)?;
+    let beginnings = row::<OneBeginning>(alloc, reader, &[Sort::Name], None)?;
     let directives = row::<OneDirective>(alloc, reader, &[Sort::At], None)?;
     let plan = RawPlan {
         branch,
         start,
         duration,
+        beginnings,
         directives,
     };
     ended_by(reader, Sort::CloseBrace, plan)

@@ -4,6 +4,6 @@ use Rattle.session_reader.proofs.clients.commands.Goals as goal
 
 pub loop-one-preserved : goal.loop-one-preserved
 loop-one-preserved c =
-    map_iteration (command_meant)
+    map_iteration (command_meant c.args.start)
     c.args.raw.now c.loop-one.one-index c.one-item.result c.loop-one-test.true c.one-item.is
     _ _ _ _ c.in_ok-command.ensures c.in_ok-push.ensures.pushed c.loop-one.invariant
