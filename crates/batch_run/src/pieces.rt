@@ -18,9 +18,9 @@ use std::thread;
 use std::thread::Threads;
 use task_step::{FreshWave, Room, run_jobs};
 
-/// How many jobs a piece has at least. To start a thread and to wait for its end takes about as long as 64 short steps, so that a
-/// smaller piece would end later on a thread than here.
-const LEAST_JOBS: usize = 64;
+/// How many jobs a piece has at least, but for the last. As `docs/MEASURED.md` has it, a thread costs as long as some 200 steps of one
+/// statement take, and with 512 such steps each, two pieces end no later than one. Longer steps gain more.
+const LEAST_JOBS: usize = 512;
 
 /// How many neighbouring jobs each piece has, or `None` where there are too few jobs for two pieces. The jobs are cut into at most
 /// so many pieces of this size.

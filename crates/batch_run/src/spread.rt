@@ -140,13 +140,11 @@ impl<'a, R: Threads + Sync, P: Probe> Spread<'a, R, P> {
         ensures opened { RoseAlike self.old.opened steps.old self.new.opened steps.new }
         ensures same { IsSameSpread self.old self.new }
     {
-        let mut opened = self.opened;
+        let _opened = self.opened;
         let pieces = run_pieces(
             self.rt, alloc, model, self.codes, jobs, fuel, size, self.probe,
         )?;
-        let wave = open_pieces(alloc, pieces, fuel, steps, &mut opened);
-        self.opened = opened;
-        wave
+        open_pieces(alloc, pieces, fuel, steps, &mut self.opened)
     }
 
     /// The wave of jobs that are run, in pieces where there are enough of them.

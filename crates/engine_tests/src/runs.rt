@@ -8,7 +8,7 @@ use crate::spreads::told_twice;
 use crate::telling;
 use aerie_base::{Edge, Model, OutOfMemory, Plan, Shared, Steps};
 use body_code::compile_all;
-use engine_core::simulate;
+use engine_core::{Engine, simulate};
 use run_data::Run;
 use std::alloc::Global;
 use std::marker::Brand;
@@ -80,6 +80,29 @@ fn told<L: Ledger, K: Ledger>(
     telling::instants(alloc, &run).ok()
 }
 
+/// The instants of a run that is ended before its first batch, with all instants of the run as a stepper gives it.
+fn retold<L: Ledger, K: Ledger>(
+    steps: Blank,
+    looks: Blank,
+    alloc: Global,
+    planned: &[Planned],
+) -> Option<String>
+    requires steps { (steps.name ≡ L.name) × (steps.parts ≡ L.parts) × (0 < L.parts) }
+    requires looks { (looks.name ≡ K.name) × (looks.parts ≡ K.parts) × (0 < K.parts) }
+{
+    let outline = Outline {
+        duration: 100,
+        first_id: 1,
+        planned,
+    };
+    let model = model_in(alloc, TRIED)?;
+    let plan = Shared::new(alloc, plan_of(alloc, &model, &outline)?).ok()?;
+    let run = simulated::<L, K>(steps, looks, alloc, &model, &plan).ok()?;
+    let engine = Engine::begin(alloc, &model, &plan, 1000).ok()?;
+    let all = engine.end_with(run.instants.as_slice()).ok()?;
+    telling::instants(alloc, &all).ok()
+}
+
 /// The instants of two runs of a plan of the model, over two books and in so many pieces: the first over empty books, the second
 /// over the book of the first; and how many statements and tests were run for the second.
 fn spread<R: Threads + Sync>(
@@ -135,4 +158,16 @@ fn instants_have_batches_and_what_changed(rt: HostRuntime) {
         ],
         "0/0 95/2,0=5",
     );
+}
+
+/// A run that is ended before its first batch, with all instants of the run of the plan, has these instants.
+fn ends_with<R: Abort>(rt: &R, alloc: Global, planned: &[Planned], expected: &str) {
+    let (steps, looks) = (Blank::new(1), Blank::new(1));
+    let told = retold::<Brand, Brand>(steps, looks, alloc, planned).expect(rt, "memory");
+    assert_eq!(rt; told.as_str(), expected);
+}
+
+#[test]
+fn an_engine_ends_with_instants_of_another_run(rt: HostRuntime) {
+    ends_with(&rt, rt.alloc(), &[bump(0, 3)], "0/1,0=3 10/1,0=6");
 }

@@ -11,7 +11,7 @@ use Rattle.run_data.specs.declared.frames.Record.{Record}
 use Rattle.run_data.specs.declared.tasks.TaskState.{TaskState}
 use Rattle.run_data.specs.Records.{Agrees}
 use Rattle.record_book.specs.KeyedItems.{keyed_item}
-use Rattle.record_book.specs.StoredSteps.{FitsView, HasNoneTwice, has_record, with_record}
+use Rattle.record_book.specs.StoredSteps.{FitsView, HasNoneTwice, has_record, with_record, IsPlaceOfRecord}
 use Rattle.record_book.specs.Ways.{AreStepsOf, AreWays, FitsOn, IsIndex, cells_read, records_of, state_key, step_key, way_of}
 use Rattle.record_book.specs.declared.stored_steps.StoredStep.{StoredStep}
 use Rattle.record_book.specs.declared.ways.KnownWay.{KnownWay}
@@ -367,3 +367,17 @@ pub none_twice_put : {A E : Type 0} (result : Result A E) (records made : List R
     HasNoneTwice records → HasNoneTwice made
 none_twice_put (Ok done) records made step stored same none = none_twice_more records made step stored none
 none_twice_put (Err error) records made step stored same none = none_twice_same records made same none
+
+-- the step that was pushed last stands at the place behind the others
+last_there : (steps : List (ℕ × StoredStep)) (last : ℕ × StoredStep) → slice_get (records_of (steps ++ last ∷ [])) (length steps) ≡ Some last.1.step
+last_there [] last = refl
+last_there (first ∷ rest) last = last_there rest last
+
+pub placed_last : (steps made : List (ℕ × StoredStep)) (key way : ℕ) (step of : Record) (at : ℕ) → made ≡ steps ++ (key, record { step = step; way = way }) ∷ [] →
+    at ≡ length steps → step ≡ of → IsPlaceOfRecord (records_of made) of.before of.reads at
+placed_last steps made key way step of at is behind same = record {
+  of = step;
+  there = (λ i. slice_get (records_of (is i)) (behind i)) ∙ last_there steps (key, record { step = step; way = way });
+  before = ap (λ (r : Record). r.before) same;
+  reads_ = ap (λ (r : Record). r.reads) same;
+}

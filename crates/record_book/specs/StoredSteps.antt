@@ -1,5 +1,5 @@
 -- Stored steps: records of steps that were run, kept so that the same step need not be run again.
-use Rattle.std.specs.Prelude.{◌≡◌, ℕ, ◌+◌, ◌≤◌, Bool, false, ◌&&◌, IsTrue, List, [], ◌∷◌, ◌++◌, length, map, take, if◌then◌else◌}
+use Rattle.std.specs.Prelude.{◌≡◌, ℕ, ◌+◌, ◌≤◌, Bool, false, ◌&&◌, IsTrue, List, [], ◌∷◌, ◌++◌, Some, length, map, slice_get, take, if◌then◌else◌}
 use Rattle.std.specs.List.{All, list_any}
 use Rattle.aerie_base.specs.declared.models.model.Parts.{Parts}
 use Rattle.effect_cells.specs.declared.effects.CellState.{CellState}
@@ -46,6 +46,13 @@ pub record FitsView (state : TaskState) (view : List CellState) (of : Record) : 
 abbrev pub HasNoneTwice : List Record → Type 0
 HasNoneTwice [] = Unit {0}
 HasNoneTwice (of ∷ rest) = (has_record rest of.before of.reads ≡ false) × HasNoneTwice rest
+
+-- the record at a place has this state and these reads
+pub record IsPlaceOfRecord (records : List Record) (state : TaskState) (reads : List (ℕ × CellState)) (at : ℕ) : Type 0 where
+  pub of : Record
+  pub there : slice_get records at ≡ Some of
+  pub before : of.before ≡ state
+  pub reads_ : of.reads ≡ reads
 
 -- ---- what is taken in
 

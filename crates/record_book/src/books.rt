@@ -5,7 +5,7 @@ ghost use Rattle.std.specs.List.{All, Contains};
 ghost use Rattle.run_data.specs.Jobs.{AreCellsOf};
 ghost use Rattle.run_data.specs.Records.{IsValid};
 ghost use Rattle.run_data.specs.RunFrames.{frames_in_batches, frames_in_instants, frames_in_run};
-ghost use Rattle.record_book.specs.StoredSteps.{FitsView, HasFirstOf, HasMoreFrames, HasNoneTwice, IsHeldIn, MayTakeIn, StoredSteps, book_limit, has_record, records_in_run, with_chapter, with_records};
+ghost use Rattle.record_book.specs.StoredSteps.{FitsView, HasFirstOf, HasMoreFrames, HasNoneTwice, IsHeldIn, IsPlaceOfRecord, MayTakeIn, StoredSteps, book_limit, has_record, records_in_run, with_chapter, with_record, with_records};
 
 use crate::chapters::Chapter;
 use crate::laws::what_is_taken_in_is_held;
@@ -121,6 +121,26 @@ impl Book {
         }
     }
 
+    /// Puts a step of the model behind the others where none has its state and its reads, without a limit, and answers where the one
+    /// that has them stands. After want of memory the book is as it was. It costs a search.
+    pub fn put(&mut self, alloc: Global, step: &Shared<Record>) -> Result<usize, OutOfMemory>
+        requires { IsValid self.old.model step.now }
+        ensures model { self.new.model ≡ self.old.model }
+        ensures put { OnOk result (self.new.records ≡ with_record self.old.records step.now) }
+        ensures place { IfOk result (IsPlaceOfRecord self.new.records step.now.before step.now.reads) }
+        ensures unchanged { OnErr result (self.new.records ≡ self.old.records) }
+    {
+        self.index.put(alloc, step)
+    }
+
+    /// Keeps the first records, so many. It takes no memory.
+    pub fn keep_first(&mut self, count: usize)
+        ensures model { self.new.model ≡ self.old.model }
+        ensures records { self.new.records ≡ take count self.old.records }
+    {
+        self.index.keep_first(count);
+    }
+
     /// The step of a task in this state that sees these cells, where the book has it. It takes no memory, and a time in the order of
     /// the cells that the steps from this state read, once for each way through the code. `looks` counts the search.
     pub fn find<K: Ledger>(
@@ -175,7 +195,7 @@ fn put_steps(
     ensures first { OnErr result (HasFirstOf index.old steps.now index.new) }
 {
     for step in steps {
-        index.put(alloc, step)?;
+        let _place = index.put(alloc, step)?;
     }
     Ok(())
 }
@@ -185,7 +205,7 @@ fn put_frames(alloc: Global, index: &mut StepIndex, frames: &[Frame]) -> Result<
     ensures { OnOk result (HasMoreFrames index.old frames.now index.new) }
 {
     for frame in frames {
-        index.put(alloc, frame.step())?;
+        let _place = index.put(alloc, frame.step())?;
     }
     Ok(())
 }

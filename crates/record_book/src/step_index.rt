@@ -1,8 +1,8 @@
 //! Steps that are found by their state and by the states of the cells that they read.
 
-ghost use Rattle.std.specs.Prelude.{◌≡◌, [], length, take, OnOk, OnErr, IfSome, IfNone};
+ghost use Rattle.std.specs.Prelude.{◌≡◌, [], length, take, IfOk, OnOk, OnErr, IfSome, IfNone};
 ghost use Rattle.std.specs.List.{All, Contains};
-ghost use Rattle.record_book.specs.StoredSteps.{FitsView, HasNoneTwice, has_record, with_record};
+ghost use Rattle.record_book.specs.StoredSteps.{FitsView, HasNoneTwice, IsPlaceOfRecord, has_record, with_record};
 
 use crate::keyed_items::KeyedItems;
 use crate::stored_steps::{StoredStep, is_stored, position_in_view, store};
@@ -82,9 +82,11 @@ impl StepIndex {
         }
     }
 
-    /// Puts a step behind the others where none has its state and its reads. After want of memory the steps are as they were.
-    pub(crate) fn put(&mut self, alloc: Global, step: &Shared<Record>) -> Result<(), OutOfMemory>
+    /// Puts a step behind the others where none has its state and its reads, and answers where the one that has them stands. After
+    /// want of memory the steps are as they were.
+    pub(crate) fn put(&mut self, alloc: Global, step: &Shared<Record>) -> Result<usize, OutOfMemory>
         ensures put { OnOk result (self.new ≡ with_record self.old step.now) }
+        ensures place { IfOk result (IsPlaceOfRecord self.new step.now.before step.now.reads) }
         ensures unchanged { OnErr result (self.new ≡ self.old) }
     {
         store(alloc, &mut self.ways, &mut self.steps, step)

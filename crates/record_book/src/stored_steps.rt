@@ -1,9 +1,9 @@
 //! Steps with the numbers of their ways: how one is found, and how one is added.
 
-ghost use Rattle.std.specs.Prelude.{◌≡◌, ◌<◌, ◌↔◌, IsTrue, ℕ, Some, length, slice_get, OnOk, OnErr, IfSome, IfNone};
+ghost use Rattle.std.specs.Prelude.{◌≡◌, ◌<◌, ◌↔◌, IsTrue, ℕ, Some, true, false, length, slice_get, IfOk, OnOk, OnErr, OnSome, IfSome, IfNone};
 ghost use Rattle.std.specs.List.{All};
 ghost use Rattle.record_book.specs.KeyedItems.{keyed_item};
-ghost use Rattle.record_book.specs.StoredSteps.{FitsView, has_record, with_record};
+ghost use Rattle.record_book.specs.StoredSteps.{FitsView, IsPlaceOfRecord, has_record, with_record};
 ghost use Rattle.record_book.specs.Ways.{AreKeyed, FitsAt, FitsOn, HoldsOfStep, IsIndex, IsOnWay, NoneFits, NoneFitsUnder, NoneIsOnWay, NoneIsOnWayUnder, ReadOnWay, cells_read, records_of, step_key, way_of, way_of_step};
 ghost use Rattle.record_book.specs.declared.stored_steps.StoredStep.{StoredStep};
 ghost use Rattle.record_book.specs.declared.ways.KnownWay.{KnownWay};
@@ -108,16 +108,39 @@ fn is_stored_on(
     }
 }
 
-/// Puts a step behind the others where none has its state and its reads. After want of memory the steps are as they were.
+/// The position of the step with this state and these reads, whose way has this number.
+fn position_stored(
+    ways: &KeyedItems<KnownWay>,
+    steps: &KeyedItems<StoredStep>,
+    way: usize,
+    state: &TaskState,
+    reads: &[(u16, CellState)],
+) -> Option<usize>
+    requires index { IsIndex ⟦<TaskState as Hash>⟧.hash_input ways.now steps.now }
+    requires way { keyed_item ways.now way ≡ Some (way_of state.now reads.now) }
+    ensures place { IfSome result (IsPlaceOfRecord (records_of steps.now) state.now reads.now) }
+    ensures held { OnSome result (true ≡ has_record (records_of steps.now) state.now reads.now) }
+    ensures none { IfNone result (false ≡ has_record (records_of steps.now) state.now reads.now) }
+{
+    let cells = ways.item(way).cells.as_slice();
+    match step_of_way(steps, way, cells, &reads) {
+        Some(at) => Some(at),
+        None => None,
+    }
+}
+
+/// Puts a step behind the others where none has its state and its reads, and answers where the one that has them stands. After
+/// want of memory the steps are as they were.
 pub(crate) fn store(
     alloc: Global,
     ways: &mut KeyedItems<KnownWay>,
     steps: &mut KeyedItems<StoredStep>,
     step: &Shared<Record>,
-) -> Result<(), OutOfMemory>
+) -> Result<usize, OutOfMemory>
     requires { IsIndex ⟦<TaskState as Hash>⟧.hash_input ways.old steps.old }
     ensures index { IsIndex ⟦<TaskState as Hash>⟧.hash_input ways.new steps.new }
     ensures stored { OnOk result (records_of steps.new ≡ with_record (records_of steps.old) step.now) }
+    ensures place { IfOk result (IsPlaceOfRecord (records_of steps.new) step.now.before step.now.reads) }
     ensures unchanged { OnErr result (records_of steps.new ≡ records_of steps.old) }
 {
     let way = way_taken(alloc, ways, step.get())?;
@@ -130,22 +153,42 @@ fn store_on(
     steps: &mut KeyedItems<StoredStep>,
     way: usize,
     step: &Shared<Record>,
-) -> Result<(), OutOfMemory>
+) -> Result<usize, OutOfMemory>
     requires index { IsIndex ⟦<TaskState as Hash>⟧.hash_input ways.now steps.old }
     requires way { keyed_item ways.now way ≡ Some (way_of_step step.now) }
     ensures index { IsIndex ⟦<TaskState as Hash>⟧.hash_input ways.now steps.new }
     ensures stored { OnOk result (records_of steps.new ≡ with_record (records_of steps.old) step.now) }
+    ensures place { IfOk result (IsPlaceOfRecord (records_of steps.new) step.now.before step.now.reads) }
     ensures unchanged { OnErr result (records_of steps.new ≡ records_of steps.old) }
 {
     let record = step.get();
     let reads = record.reads.as_slice();
-    if is_stored_on(ways, steps, way, record.before.get(), reads) {
-        return Ok(());
+    match position_stored(ways, steps, way, record.before.get(), reads) {
+        Some(at) => Ok(at),
+        None => add_step(ways, steps, way, step),
     }
-    let key = reads_key(way, reads);
+}
+
+/// Puts a step of the way of this number, which is new, behind the others.
+fn add_step(
+    ways: &KeyedItems<KnownWay>,
+    steps: &mut KeyedItems<StoredStep>,
+    way: usize,
+    step: &Shared<Record>,
+) -> Result<usize, OutOfMemory>
+    requires index { IsIndex ⟦<TaskState as Hash>⟧.hash_input ways.now steps.old }
+    requires way { keyed_item ways.now way ≡ Some (way_of_step step.now) }
+    requires new { false ≡ has_record (records_of steps.old) step.now.before step.now.reads }
+    ensures index { IsIndex ⟦<TaskState as Hash>⟧.hash_input ways.now steps.new }
+    ensures stored { OnOk result (records_of steps.new ≡ with_record (records_of steps.old) step.now) }
+    ensures place { IfOk result (IsPlaceOfRecord (records_of steps.new) step.now.before step.now.reads) }
+    ensures unchanged { OnErr result (records_of steps.new ≡ records_of steps.old) }
+{
+    let key = reads_key(way, step.get().reads.as_slice());
+    let at = steps.len();
     let step = step.share()?;
     match steps.push(key, StoredStep { step, way }) {
-        Ok(()) => Ok(()),
+        Ok(()) => Ok(at),
         Err(error) => Err(error),
     }
 }

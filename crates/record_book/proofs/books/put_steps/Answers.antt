@@ -5,5 +5,5 @@ use Rattle.record_book.proofs.books.put_steps.Goals as goal
 
 pub loop-step-preserved : goal.loop-step-preserved
 loop-step-preserved c =
-    c.in_ok-put.ensures.put ∙ ap (λ records. with_record records c.step-item.result) c.loop-step.invariant
+    c.in_ok-_place.ensures.put ∙ ap (λ records. with_record records c.step-item.result) c.loop-step.invariant
     ∙ sym (with_more c.args.index.now c.args.steps.now c.loop-step.step-index c.step-item.result c.loop-step-test.true c.step-item.is)

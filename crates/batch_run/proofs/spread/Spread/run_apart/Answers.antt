@@ -11,5 +11,5 @@ pub returns-clause-wave : goal.returns-clause-wave
 returns-clause-wave g c =
     if_both (λ (wave : Wave). HaveNoError c.in_ok-pieces.pieces.items) (λ (wave : Wave). wave ≡ joined_wave c.args.fuel c.in_ok-pieces.pieces.items)
     (λ (wave : Wave). wave ≡ wave_of c.args.model.now c.args.fuel c.args.jobs.now)
-    (λ wave done is. is ∙ joined_is c.args.model.now c.args.fuel c.args.size c.args.jobs.now c.in_ok-pieces.pieces.items c.in_ok-pieces.ensures.waves done) c.open_pieces-wave.result c.open_pieces-wave.ensures.done
-    c.open_pieces-wave.ensures.wave
+    (λ wave done is. is ∙ joined_is c.args.model.now c.args.fuel c.args.size c.args.jobs.now c.in_ok-pieces.pieces.items c.in_ok-pieces.ensures.waves done) c.open_pieces.result c.open_pieces.ensures.done
+    c.open_pieces.ensures.wave
