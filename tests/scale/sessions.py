@@ -234,6 +234,12 @@ def moves_quiet(number):
     return ORBITER + orbit_plan(number) + client(["simulate main", *moved(number)])
 
 
+def repeats(number):
+    """a plan of 2,000 directives of the orbiter, simulated so many times, each time behind a move of the same directive"""
+    times = [(99_999_999_977 * it) % WEEK for it in range(1, number + 1)]
+    return ORBITER + orbit_plan(2000) + client(it for time in times for it in (f"move main 1001 to {time}us", "simulate main"))
+
+
 def goals(number):
     """the plan of so many directives of the orbiter, with three goals and two constraints that are kept"""
     rules = f"""constraints {{
@@ -250,7 +256,7 @@ goals {{
 
 
 ALL = [orbit, judged, same, waits, rising, chain, star, children, calls, daemon, wide, edits, turns, load, merge, series, sequence, branches]
-ALL += [moves, moves_quiet, goals]
+ALL += [moves, moves_quiet, repeats, goals]
 KINDS = {it.__name__: it for it in ALL}
 
 

@@ -88,11 +88,12 @@ pub fn checked(alloc: Global, input: &[u8]) -> Result<Output, OutOfMemory>
 }
 
 /// A generated session with so many directives is performed, its clients in turn, and summarized.
-fn summarized<R: Wait, G: Gate, L: Ledger, K: Ledger>(
+fn summarized<R: Threads + Wait + Sync, G: Gate, L: Ledger, K: Ledger>(
     alloc: Global,
     rt: &R,
     number: u32,
     limit: u64,
+    pieces: u32,
     judged: &JudgedSession,
     gate: &G,
     steps: &mut Steps<L>,
@@ -108,7 +109,7 @@ fn summarized<R: Wait, G: Gate, L: Ledger, K: Ledger>(
     ensures steps { steps.old ≤ steps.new }
 {
     let mut looks = Steps::<K>::open(blank);
-    let summary = summarize_in_turn(alloc, rt, gate, judged, limit, steps, &mut looks)?;
+    let summary = summarize_in_turn(alloc, rt, gate, judged, limit, pieces, steps, &mut looks)?;
     let text = summary_line(alloc, number, judged.session.clients.len(), summary)?;
     Ok(Output {
         status: ExitStatus::Done,
@@ -117,12 +118,13 @@ fn summarized<R: Wait, G: Gate, L: Ledger, K: Ledger>(
 }
 
 /// A session is made. Where its text is not what is asked for, it is judged and performed as any session is.
-pub fn made<R: Wait, G: Gate, L: Ledger>(
+pub fn made<R: Threads + Wait + Sync, G: Gate, L: Ledger>(
     alloc: Global,
     rt: &R,
     number: u32,
     text: bool,
     limit: u64,
+    pieces: u32,
     gate: &G,
     steps: &mut Steps<L>,
 ) -> Result<Output, OutOfMemory>
@@ -142,7 +144,9 @@ pub fn made<R: Wait, G: Gate, L: Ledger>(
     match judge(alloc, session.as_bytes()) {
         Ok(judged) => {
             let blank = Blank::new(1);
-            summarized::<R, G, L, Brand>(alloc, rt, number, limit, &judged, gate, steps, blank)
+            summarized::<R, G, L, Brand>(
+                alloc, rt, number, limit, pieces, &judged, gate, steps, blank,
+            )
         }
         // A generated session is good. No status tells that one is refused, so nothing would be written.
         Err(_) => Err(OutOfMemory),
@@ -167,16 +171,18 @@ fn performed_good<R: Threads + Wait + Sync, G: Gate, L: Ledger, K: Ledger>(
     ensures performed { IfOk result (HasRun invocation.now judged.now) }
     ensures steps { steps.old ≤ steps.new }
 {
-    let (limit, stats) = (invocation.limit, invocation.stats);
+    let (limit, pieces, stats) = (invocation.limit, invocation.pieces, invocation.stats);
     if invocation.serial {
         let mut looks = Steps::<K>::open(blank);
-        let text = perform_in_turn(alloc, rt, gate, judged, limit, stats, steps, &mut looks)?;
+        let text = perform_in_turn(
+            alloc, rt, gate, judged, limit, pieces, stats, steps, &mut looks,
+        )?;
         return Ok(Output {
             status: ExitStatus::Done,
             text,
         });
     }
-    let text = perform(alloc, rt, gate, judged, limit, stats)?;
+    let text = perform(alloc, rt, gate, judged, limit, pieces, stats)?;
     Ok(Output {
         status: ExitStatus::Done,
         text,

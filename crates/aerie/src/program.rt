@@ -45,8 +45,8 @@ fn output_for<R: Threads + Wait + Sync, S: Source, G: Gate, L: Ledger>(
 {
     match invocation.mode {
         Mode::Make { number, text } => {
-            let limit = invocation.limit;
-            Ok(made(alloc, rt, number, text, limit, gate, steps)?)
+            let (limit, pieces) = (invocation.limit, invocation.pieces);
+            Ok(made(alloc, rt, number, text, limit, pieces, gate, steps)?)
         }
         Mode::Check => {
             let input = read_input(alloc, source)?;

@@ -4,6 +4,7 @@ use crate::program::with_own_counter;
 use crate::tests::words_in;
 use aerie_edge::{Gate, HoldUntil, MemorySink, Point, SureSource};
 use std::alloc::{AllocError, Global};
+use std::process::Abort;
 use std::sync::Wait;
 use std::sync::atomic::{AtomicBool, Ordering};
 use std::test::Fail;
@@ -78,26 +79,35 @@ impl Gate for Meeting {
     }
 }
 
-/// The status of the program where it performs the session with this gate.
-fn status_at<R: Threads + Wait + Sync, G: Gate>(
+/// What is written where the program performs the session with these words and this gate.
+fn done_at<R: Threads + Wait + Sync + Abort, G: Gate>(
     rt: &R,
     alloc: Global,
+    words: &str,
     gate: &G,
-) -> Result<u8, AllocError> {
-    let words = words_in(alloc, "run")?;
+) -> Result<String, AllocError> {
+    let words = words_in(alloc, words)?;
     let mut source = SureSource::new(Vec::from_slice(alloc, APART)?);
     let mut sink = MemorySink::new(alloc, usize::MAX, Vec::new(alloc));
-    Ok(with_own_counter(rt, alloc, &words, &mut source, &mut sink, gate))
+    let status = with_own_counter(rt, alloc, &words, &mut source, &mut sink, gate);
+    assert_eq!(rt; status, 0);
+    let text = str::from_utf8(sink.bytes()).expect(rt, "a text");
+    String::from_str(alloc, text)
 }
 
 /// The first client's simulation is held at its start until the second's has ended. That comes only where clients work beside each
-/// other.
+/// other. The second ran the one statement of its plan, and the first finds it.
 #[test]
 fn simulations_overlap(rt: HostRuntime) -> Result<(), Fail> {
     let alloc = rt.alloc();
     let gate = HoldUntil::new(0, 1, MOST_TURNS);
-    assert_eq!(&rt; status_at(&rt, alloc, &gate)?, 0);
+    let text = done_at(&rt, alloc, "run --stats", &gate)?;
     assert!(&rt; gate.ended());
+    let (_, second) = text
+        .as_str()
+        .split_once(r#""statements":0,"#)
+        .expect(&rt, "no statement");
+    assert!(&rt; second.contains(r#""statements":1,"#));
     Ok(())
 }
 
@@ -105,9 +115,8 @@ fn simulations_overlap(rt: HostRuntime) -> Result<(), Fail> {
 /// has the turn while it simulates.
 #[test]
 fn simulations_meet(rt: HostRuntime) -> Result<(), Fail> {
-    let alloc = rt.alloc();
     let gate = Meeting::new();
-    assert_eq!(&rt; status_at(&rt, alloc, &gate)?, 0);
+    let _text = done_at(&rt, rt.alloc(), "run", &gate)?;
     assert!(&rt; gate.came_about());
     Ok(())
 }

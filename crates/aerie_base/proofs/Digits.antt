@@ -1,7 +1,7 @@
 -- Digits in front of a text, the number that they write, and the digits that write a number.
-use Rattle.std.proofs.Common.{◌≡◌, ℕ, ◌+◌, ◌<◌, ◌≤◌, List, [], ◌∷◌, ◌++◌, length, take, codes, nat_eq, nat_le, nat_lt, Bool, true, false, Some, None, refl, ap, ◌∙◌, drop, arith, add_comm, add-one}
+use Rattle.std.proofs.Common.{◌≡◌, ℕ, ◌+◌, ◌<◌, ◌≤◌, List, [], ◌∷◌, ◌++◌, length, take, codes, nat_eq, nat_le, nat_lt, ◌&&◌, Bool, true, false, Some, None, refl, ap, ◌∙◌, drop, arith, add_comm, add-one}
 use Rattle.std.specs.Char.{is_ascii_digit, digit_value}
-use Rattle.std.specs.List.{list_all}
+use Rattle.std.specs.List.{list_all, starts_with}
 use Rattle.std.specs.Fmt.{decimal}
 use Rattle.std.specs.Str.Parse.{digits_value, AllDigits}
 use Rattle.std.proofs.Math.Seq.{take-append_seam, drop-append_seam}
@@ -12,7 +12,7 @@ use Rattle.std.proofs.lemmas.Str.Parse.{digits_value-take-le, digit_from_value}
 use Rattle.aerie_base.specs.Ranges.{time_of, time_limit}
 use Rattle.std.proofs.lemmas.Bool.{eq-eqb}
 use Rattle.std.proofs.lemmas.List.{length-append}
-use Rattle.aerie_base.specs.Durations.{begins_part, digit_count, duration_len, duration_of, duration_text, parts_len, parts_micros, units}
+use Rattle.aerie_base.specs.Durations.{begins_part, begins_unit, digit_count, unit_text, duration_len, duration_of, duration_text, parts_len, parts_micros, units}
 use Rattle.aerie_base.specs.declared.durations.Unit.{Unit}
 use Rattle.aerie_base.specs.declared.durations.Unit.TheVariants.{Day, Hour, Minute, Second, Millisecond, Microsecond}
 
@@ -102,3 +102,37 @@ written_is_read micros within =
     let same : nat_eq (length text) (length text) ≡ true = eq-eqb (length text) (length text) refl in
     let is : nat_le micros time_limit ≡ true = grind (arith, nat_tests) in
     rw (written.len, written.sum, filled, same, is) refl
+
+-- ---- no unit behind the digits
+
+-- no unit stands in front where none of their letters does
+no_unit : (unit : Unit) (text : List ℕ) → begins_unit text ≡ false → starts_with nat_eq text (unit_text unit) ≡ false
+no_unit Day [] e = refl
+no_unit Hour [] e = refl
+no_unit Minute [] e = refl
+no_unit Second [] e = refl
+no_unit Millisecond [] e = refl
+no_unit Microsecond [] e = refl
+no_unit Day (byte ∷ rest) e = grind (arith, nat_tests, e)
+no_unit Hour (byte ∷ rest) e = grind (arith, nat_tests, e)
+no_unit Minute (byte ∷ rest) e = grind (arith, nat_tests, e)
+no_unit Second (byte ∷ rest) e = grind (arith, nat_tests, e)
+no_unit Millisecond (byte ∷ rest) e = grind (arith, nat_tests, e)
+no_unit Microsecond (byte ∷ rest) e = grind (arith, nat_tests, e)
+
+and_no : (b : Bool) → (b && false) ≡ false
+and_no true = refl
+and_no false = refl
+
+no_part : (unit : Unit) (text : List ℕ) → begins_unit (drop (digit_count text) text) ≡ false → begins_part unit text ≡ false
+no_part unit text e = rw (no_unit unit (drop (digit_count text) text) e) (and_no (nat_lt 0 (digit_count text)))
+
+-- so there is no duration in front
+pub no_parts : (text : List ℕ) → begins_unit (drop (digit_count text) text) ≡ false → duration_len text ≡ 0
+no_parts text e =
+    (passes Day (Hour ∷ Minute ∷ Second ∷ Millisecond ∷ Microsecond ∷ []) text (no_part Day text e)).0
+    ∙ (passes Hour (Minute ∷ Second ∷ Millisecond ∷ Microsecond ∷ []) text (no_part Hour text e)).0
+    ∙ (passes Minute (Second ∷ Millisecond ∷ Microsecond ∷ []) text (no_part Minute text e)).0
+    ∙ (passes Second (Millisecond ∷ Microsecond ∷ []) text (no_part Second text e)).0
+    ∙ (passes Millisecond (Microsecond ∷ []) text (no_part Millisecond text e)).0
+    ∙ (passes Microsecond [] text (no_part Microsecond text e)).0

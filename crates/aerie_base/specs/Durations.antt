@@ -1,5 +1,5 @@
 -- The text of a duration: parts, each of digits and at once a unit, whose units fall, as "2min" and "1h30min".
-use Rattle.std.specs.Prelude.{◌≡◌, ℕ, ◌+◌, ◌*◌, ◌&&◌, nat_eq, nat_lt, List, [], ◌∷◌, ◌++◌, length, take, drop, Bool, Option, Some, None, if◌then◌else◌, codes, refl}
+use Rattle.std.specs.Prelude.{◌≡◌, ℕ, ◌+◌, ◌*◌, ◌&&◌, ◌||◌, nat_eq, nat_lt, List, [], ◌∷◌, ◌++◌, length, take, drop, Bool, false, Option, Some, None, if◌then◌else◌, codes, refl}
 use Rattle.std.specs.Char.{is_ascii_digit}
 use Rattle.std.specs.Fmt.{decimal, digits}
 use Rattle.std.specs.List.{prefix_len, starts_with}
@@ -45,6 +45,11 @@ part_len unit text = if begins_part unit text then digit_count text + length (un
 -- what it comes to in microseconds: so many of the unit as its digits write
 abbrev pub part_micros : Unit → List ℕ → ℕ
 part_micros unit text = if begins_part unit text then digits_value 10 (take (digit_count text) text) * unit_micros unit else 0
+
+-- whether a letter with which a unit begins stands in front
+abbrev pub begins_unit : List ℕ → Bool
+begins_unit [] = false
+begins_unit (byte ∷ rest) = nat_eq byte 100 || nat_eq byte 104 || nat_eq byte 109 || nat_eq byte 115 || nat_eq byte 117
 
 -- how long the parts in front are, of each of these units in their order one or none
 abbrev pub parts_len : List Unit → List ℕ → ℕ

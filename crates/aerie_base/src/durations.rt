@@ -5,7 +5,7 @@ ghost use Rattle.std.specs.Char.{is_ascii_digit};
 ghost use Rattle.std.specs.List.{list_all};
 ghost use Rattle.std.specs.Str.Parse.{digits_value};
 ghost use Rattle.aerie_base.specs.Ranges.{time_of};
-ghost use Rattle.aerie_base.specs.Durations.{begins_part, digit_count, duration_len, duration_of, duration_text, parts_len, parts_micros, unit_micros, unit_text};
+ghost use Rattle.aerie_base.specs.Durations.{begins_part, begins_unit, digit_count, duration_len, duration_of, duration_text, parts_len, parts_micros, unit_micros, unit_text};
 
 use crate::memory::OutOfMemory;
 use crate::numbers::Time;
@@ -62,12 +62,27 @@ pub fn write_duration(alloc: Global, time: Time) -> Result<String, OutOfMemory>
 }
 
 /// How many bytes in front are parts of a duration, as many as there are with units that fall: 0 where there is none.
+#[tactic(auto, using(crate::proofs::Digits::no_parts))]
 pub fn duration_len(bytes: &[u8]) -> usize
     ensures len { result ≡ duration_len bytes.now }
     ensures within { result ≤ length bytes.now }
 {
+    if !begins_unit(&bytes[digit_count(bytes)..]) {
+        return 0;
+    }
     let (len, _) = parts_in_front(&UNITS, bytes);
     len
+}
+
+/// Whether a letter with which a unit begins stands in front. Most numerals are plain numbers, behind which there is none: their length as
+/// a duration is known at once.
+fn begins_unit(bytes: &[u8]) -> bool
+    ensures { result ≡ begins_unit bytes.now }
+{
+    match bytes.first() {
+        Some(byte) => matches!(*byte, b'd' | b'h' | b'm' | b's' | b'u'),
+        None => false,
+    }
 }
 
 /// How long the parts in front are, of each of these units one or none, and what they come to in microseconds, or `None`

@@ -12,7 +12,7 @@ use Rattle.task_step.specs.FreshWaves.{UncountedWave}
 
 -- how many jobs a piece has at least, but for the last
 abbrev pub least_jobs : ℕ
-least_jobs = 512
+least_jobs = 2_048
 
 -- into how many pieces of a size so many jobs are cut
 abbrev pub piece_count : ℕ → ℕ → ℕ

@@ -18,9 +18,10 @@ use std::thread;
 use std::thread::Threads;
 use task_step::{FreshWave, Room, run_jobs};
 
-/// How many jobs a piece has at least, but for the last. As `docs/MEASURED.md` has it, a thread costs as long as some 200 steps of one
-/// statement take, and with 512 such steps each, two pieces end no later than one. Longer steps gain more.
-const LEAST_JOBS: usize = 512;
+/// How many jobs a piece has at least, but for the last. To start a thread and to wait for it costs as long as some 200 to 500 steps of
+/// one statement take (`docs/MEASURED.md`). So two pieces end sooner than one wherever two threads together do a sixth more than one
+/// alone, and two processors that share a core may do little more than that. Longer steps gain more.
+const LEAST_JOBS: usize = 2048;
 
 /// How many neighbouring jobs each piece has, or `None` where there are too few jobs for two pieces. The jobs are cut into at most
 /// so many pieces of this size.

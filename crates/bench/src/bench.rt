@@ -1,154 +1,231 @@
-//! A simulator over the engine and a stepper that stores nothing.
+//! One client's simulator, which remembers.
 
-ghost use Rattle.std.specs.Prelude.{◌≡◌, ◌≤◌, IsTrue, [], IfOk, OnOk};
+ghost use Rattle.std.specs.Prelude.{◌≡◌, ◌≤◌, ◌++◌, [], IfOk, IfSome, IsTrue, OnOk};
 ghost use Rattle.aerie_base.specs.Ranges.{step_limit};
 ghost use Rattle.aerie_base.specs.plans.OfModel.{IsPlanOf};
-ghost use Rattle.run_data.specs.Fresh.{IsFresh};
-ghost use Rattle.run_data.specs.Waves.{last_count, RoseAlike};
 ghost use Rattle.run_data.specs.RunFrames.{PaysForRun};
-ghost use Rattle.bench.specs.Benches.{IsKeptFor, IsMadeFor, IsSameBench};
+ghost use Rattle.run_data.specs.Waves.{RoseAlike};
+ghost use Rattle.resimulate.specs.EvenInstants.{LooksForUneven};
+ghost use Rattle.bench.specs.Benches.{IsFreshRunOf, IsMadeFor, IsSameBench};
+ghost use Rattle.bench.specs.Chapters.{GainsChapters, PublishesWhatRan};
+ghost use Rattle.bench.specs.HeldSteps.{HoldsAll, HoldsRunWithin, records_of_kept};
 
 use crate::compiled_model::CompiledModel;
+use crate::publishing::Publisher;
+use crate::simulating::BenchSetting;
+use crate::stock::Stock;
+use crate::taking::run_over;
 use aerie_base::{Model, OutOfMemory, Plan, Shared, Steps};
-use engine_core::simulate;
-use run_data::laws::fresh_runs;
-use run_data::{Kept, Run, Simulator};
+use history_store::{Receipt, Store};
+use run_data::Kept;
 use std::alloc::Global;
+use std::sync::Wait;
 use std::sync::ledger::Ledger;
-use task_step::Direct;
+use std::thread::Threads;
 
-/// Simulates plans of a compiled model under a bound, and keeps their runs. Contracts see the model, the bound, how many
-/// statements and tests the last simulation ran, and where the model lies.
+/// Simulates plans of a model under a bound for one client, holds the steps that were run, and shares them with the benches of a
+/// store. Contracts see the model, the bound, the steps that it holds, the receipts of the chapters that it published, and how many
+/// statements and tests the last simulation ran.
 #[derive(Drop)]
-pub struct Bench<'a> {
-    compiled: &'a CompiledModel,
-    bound: u64,
+pub struct Bench {
+    setting: BenchSetting,
+    stock: Stock,
+    publisher: Publisher,
+    /// The index in the store from which on its chapters were not yet learnt.
+    next: usize,
     statements: u64,
 }
 
-impl<'a> std::marker::Model for Bench<'a> {
-    ghost use Rattle.std.specs.Prelude.{◌≤◌};
+impl std::marker::Model for Bench {
+    ghost use Rattle.std.specs.Prelude.{◌≡◌, take};
     ghost use Rattle.std.specs.Coded.{codes};
     ghost use Rattle.aerie_base.specs.contracts.expressions.Expr as expr;
     ghost use Rattle.aerie_base.specs.contracts.conditions.Cond as cond;
     ghost use Rattle.aerie_base.specs.contracts.statements.Stmt as stmt;
-    ghost use Rattle.aerie_base.specs.Ranges.{step_limit};
+    ghost use Rattle.record_book.specs.StoredSteps.{book_limit};
     ghost use Rattle.bench.specs.Benches.{BenchOf};
+    ghost use Rattle.bench.specs.Settings.{IsSetting};
 
     ghost Value = { BenchOf };
 
     ghost coded = { Prim.hlevel (codes, expr.the_row.coded, cond.the_row.coded, stmt.the_row.coded) };
 
     ghost view = { λ bench. record {
-      model = bench.compiled.now;
-      bound = bench.bound;
+      model = bench.setting.compiled;
+      bound = bench.setting.bound;
+      records = take book_limit bench.stock.records;
+      receipts = bench.publisher;
       statements = bench.statements;
-      model_at = bench.compiled.ref_ptr.0;
     } };
 
-    ghost invariant = { λ bench. bench.bound ≤ step_limit };
+    ghost invariant = { λ bench. IsSetting bench.setting × (bench.stock.model ≡ bench.setting.compiled) };
 }
 
-/// The count, which is no more than a count of 64 bits can be.
-fn full_count(count: u64) -> u64
-    ensures same { result ≡ count }
-    ensures most { count ≤ last_count }
-{
-    count
-}
-
-impl<'a> Bench<'a> {
-    /// A simulator of the model's plans. A run ends where its cost would pass the bound, at most 100,000,000. It takes no memory.
-    pub fn new(compiled: &'a CompiledModel, bound: u64) -> Bench<'a>
-        requires { bound ≤ step_limit }
-        ensures model { result.model ≡ compiled.now }
-        ensures bound { result.bound ≡ bound }
-        ensures statements { result.statements ≡ 0 }
+impl Bench {
+    /// A bench of the model that holds nothing. A run ends where its cost would pass the bound, at most 100,000,000. Of a wave it
+    /// makes 1 to 64 pieces at most. The bodies of the model are compiled.
+    pub fn new(
+        alloc: Global,
+        model: Shared<Model>,
+        bound: u64,
+        pieces: usize,
+    ) -> Result<Bench, OutOfMemory>
+        requires bound { bound ≤ step_limit }
+        requires pieces { (1 ≤ pieces) × (pieces ≤ 64) }
+        ensures { IfOk result (λ bench. bench ≡ record {
+          model = model;
+          bound = bound;
+          records = [];
+          receipts = [];
+          statements = 0;
+        }) }
     {
-        Bench {
-            compiled,
-            bound,
+        let stock = Stock::new(alloc, &model)?;
+        let compiled = CompiledModel::new(alloc, model)?;
+        Ok(Bench {
+            setting: BenchSetting {
+                compiled,
+                bound,
+                pieces,
+            },
+            stock,
+            publisher: Publisher::new(alloc),
+            next: 0,
             statements: 0,
-        }
+        })
     }
 
-    /// The kept fresh run of the plan. A kept run that is handed in is given back where it is that of this plan, of this model and
-    /// under this bound, which costs time linear in the plan and the model; otherwise the plan is simulated.
-    pub fn simulate<L: Ledger, K: Ledger>(
+    /// The kept fresh run of the plan. A kept run of the model, of any plan and under any bound, may be handed in: where it is that of
+    /// this plan it is given back, and otherwise the plan is simulated beside it. What the bench holds, what other benches published
+    /// in the store and what the kept run has is not run again.
+    ///
+    /// What had to be run is published, in chapters of 4,096, while the bench has published fewer than 16 chapters. For a completed
+    /// run `steps` rises by at most what it costs beyond what was held and what the kept run has, and `looks` by at most two for each
+    /// frame of an instant that is not even with the kept run. After want of memory the bench holds what it held, and maybe more.
+    /// The call may wait for another publisher.
+    #[allow(clippy::too_many_arguments)]
+    pub fn simulate<R: Threads + Wait + Sync, L: Ledger, K: Ledger>(
         &mut self,
+        rt: &R,
         alloc: Global,
+        store: &Store,
         plan: &Shared<Plan>,
-        kept: Option<&Shared<Kept>>,
+        kept: Option<Shared<Kept>>,
         steps: &mut Steps<L>,
         looks: &mut Steps<K>,
     ) -> Result<Shared<Kept>, OutOfMemory>
         requires plan { IsPlanOf self.old.model plan.now }
-        ensures model_of { IfOk result (λ kept. kept.model ≡ self.old.model) }
-        ensures plan_of { IfOk result (λ kept. kept.run.plan ≡ plan.now) }
-        ensures fresh { IfOk result (λ kept. IsFresh self.old.model plan.now self.old.bound kept.run) }
-        ensures counted { OnOk result (RoseAlike 0 steps.old self.new.statements steps.new) }
-        ensures frugal { IfOk result (λ kept. PaysForRun kept.run [] steps.old steps.new) }
-        ensures steps { steps.old ≤ steps.new }
-        ensures looks { looks.old ≤ looks.new }
-        ensures same_bench { IsSameBench self.old self.new }
-    {
-        if let Some(kept) = kept {
-            if self.has_made(kept.get(), plan) {
-                self.statements = 0;
-                return kept.share();
-            }
-        }
-        self.simulate_from_start(alloc, plan, steps, looks)
-    }
-
-    /// Whether a kept run is the fresh run of the plan for this model and under this bound.
-    fn has_made(&self, kept: &Kept, plan: &Shared<Plan>) -> bool
-        ensures same { IsTrue result → IsKeptFor self.now plan.now kept.now }
-        ensures fresh { IsTrue result → IsFresh self.now.model plan.now self.now.bound kept.now.run }
-    {
-        let run = kept.run();
-        self.is_of(kept.model().get(), run, plan)
-    }
-
-    /// Whether a run of a model is of this model, of the plan and under this bound.
-    fn is_of(&self, model: &Model, run: &Run, plan: &Shared<Plan>) -> bool
-        ensures { IsTrue result → IsKeptFor self.now plan.now (record { model = model.now; run = run.now }) }
-    {
-        run.bound == self.bound
-            && run.plan.get().is_same(plan.get())
-            && model.is_same(self.compiled.model().get())
-    }
-
-    /// The kept fresh run of the plan, which is simulated.
-    fn simulate_from_start<L: Ledger, K: Ledger>(
-        &mut self,
-        alloc: Global,
-        plan: &Shared<Plan>,
-        steps: &mut Steps<L>,
-        looks: &mut Steps<K>,
-    ) -> Result<Shared<Kept>, OutOfMemory>
-        requires plan { IsPlanOf self.old.model plan.now }
+        requires kept { IfSome kept (λ kept. kept.model ≡ self.old.model) }
         ensures made { IfOk result (IsMadeFor self.old plan.now) }
-        ensures counted { OnOk result (RoseAlike 0 steps.old self.new.statements steps.new) }
-        ensures frugal { IfOk result (λ kept. PaysForRun kept.run [] steps.old steps.new) }
+        ensures frugal { IfOk result (λ made.
+            PaysForRun made.run (self.old.records ++ records_of_kept kept) steps.old steps.new) }
         ensures steps { steps.old ≤ steps.new }
         ensures looks { looks.old ≤ looks.new }
+        ensures few_looks { IfOk result (λ made. IfSome kept (λ kept.
+            LooksForUneven kept.run made.run looks.old looks.new)) }
         ensures same_bench { IsSameBench self.old self.new }
+        ensures held { HoldsAll self.old.records self.new.records }
+        ensures holds_run { IfOk result (λ made. HoldsRunWithin self.new.records made.run) }
+        ensures gained { GainsChapters store.now self.old.model self.old.receipts self.new.receipts }
+        ensures published { IfOk result (λ made.
+            PublishesWhatRan made.run self.old.receipts self.new.receipts steps.old steps.new) }
+        ensures counted { OnOk result (RoseAlike 0 steps.old self.new.statements steps.new) }
     {
-        fresh_runs();
-        let compiled = self.compiled;
-        let mut stepper = Direct::new(compiled.codes());
-        let run = simulate(
+        match kept {
+            Some(kept) => {
+                if self.has_made(&kept, plan) {
+                    let made = self.give_back(alloc, kept)?;
+                    return Ok(made);
+                }
+                self.simulate_plan(rt, alloc, store, plan, Some(kept), steps, looks)
+            }
+            None => self.simulate_plan(rt, alloc, store, plan, None, steps, looks),
+        }
+    }
+
+    /// Whether a kept run of the model is the fresh run of the plan under the bound. It costs time linear in the plan.
+    fn has_made(&self, kept: &Shared<Kept>, plan: &Shared<Plan>) -> bool
+        requires { kept.now.model ≡ self.now.model }
+        ensures { IsTrue result → IsMadeFor self.now plan.now kept.now }
+    {
+        is_run_of(kept.get(), plan, self.setting.bound)
+    }
+
+    /// Gives back a kept run of the model, whose frames are held from now on.
+    fn give_back(&mut self, alloc: Global, kept: Shared<Kept>) -> Result<Shared<Kept>, OutOfMemory>
+        requires { kept.model ≡ self.old.model }
+        ensures same { IfOk result (λ made. made ≡ kept) }
+        ensures same_bench { IsSameBench self.old self.new }
+        ensures held { HoldsAll self.old.records self.new.records }
+        ensures holds_run { OnOk result (HoldsRunWithin self.new.records kept.run) }
+        ensures receipts { self.new.receipts ≡ self.old.receipts }
+        ensures none { OnOk result (self.new.statements ≡ 0) }
+    {
+        self.stock.hold(alloc, &kept)?;
+        self.statements = 0;
+        Ok(kept)
+    }
+
+    /// The kept fresh run of the plan, which is simulated, beside a kept run where there is one.
+    #[allow(clippy::too_many_arguments)]
+    fn simulate_plan<R: Threads + Wait + Sync, L: Ledger, K: Ledger>(
+        &mut self,
+        rt: &R,
+        alloc: Global,
+        store: &Store,
+        plan: &Shared<Plan>,
+        kept: Option<Shared<Kept>>,
+        steps: &mut Steps<L>,
+        looks: &mut Steps<K>,
+    ) -> Result<Shared<Kept>, OutOfMemory>
+        requires plan { IsPlanOf self.old.model plan.now }
+        requires kept { IfSome kept (λ kept. kept.model ≡ self.old.model) }
+        ensures made { IfOk result (IsMadeFor self.old plan.now) }
+        ensures frugal { IfOk result (λ made.
+            PaysForRun made.run (self.old.records ++ records_of_kept kept) steps.old steps.new) }
+        ensures steps { steps.old ≤ steps.new }
+        ensures looks { looks.old ≤ looks.new }
+        ensures few_looks { IfOk result (λ made. IfSome kept (λ kept.
+            LooksForUneven kept.run made.run looks.old looks.new)) }
+        ensures same_bench { IsSameBench self.old self.new }
+        ensures held { HoldsAll self.old.records self.new.records }
+        ensures holds_run { IfOk result (λ made. HoldsRunWithin self.new.records made.run) }
+        ensures gained { GainsChapters store.now self.old.model self.old.receipts self.new.receipts }
+        ensures published { IfOk result (λ made.
+            PublishesWhatRan made.run self.old.receipts self.new.receipts steps.old steps.new) }
+        ensures counted { OnOk result (RoseAlike 0 steps.old self.new.statements steps.new) }
+    {
+        let next = self.stock.learn(alloc, store, self.next)?;
+        self.next = next;
+        let made = run_over(
+            rt,
             alloc,
-            compiled.model().get(),
+            store,
+            &self.setting,
+            &mut self.stock,
+            &mut self.publisher,
             plan,
-            self.bound,
-            &mut stepper,
+            kept,
             steps,
             looks,
         )?;
-        self.statements = full_count(stepper.opened());
-        Kept::new(alloc, compiled.model().share()?, run)
+        self.statements = made.statements;
+        Ok(made.kept)
+    }
+
+    /// The model. It takes no memory.
+    pub fn model(&self) -> &Shared<Model>
+        ensures model { result.now ≡ self.now.model }
+        ensures bound { self.now.bound ≤ step_limit }
+    {
+        self.setting.compiled.model()
+    }
+
+    /// The receipts of the chapters that it published, in order. It takes no memory.
+    pub fn receipts(&self) -> &[Receipt]
+        ensures { result.now ≡ self.now.receipts }
+    {
+        self.publisher.receipts()
     }
 
     /// How many statements and tests the last simulation ran that did not end for want of memory, or 2^64 - 1 where there were
@@ -160,22 +237,10 @@ impl<'a> Bench<'a> {
     }
 }
 
-impl<'a> Simulator for Bench<'a> {
-    ghost model = { λ bench. bench.model };
-
-    ghost bound = { λ bench. bench.bound };
-
-    ghost address = { λ bench. bench.model_at };
-
-    ghost shares = { Unit {0} };
-
-    fn run<L: Ledger, K: Ledger>(
-        &mut self,
-        alloc: Global,
-        plan: &Shared<Plan>,
-        steps: &mut Steps<L>,
-        looks: &mut Steps<K>,
-    ) -> Result<Shared<Kept>, OutOfMemory> {
-        self.simulate(alloc, plan, None, steps, looks)
-    }
+/// Whether a kept run is the fresh run of a plan under a bound.
+fn is_run_of(kept: &Kept, plan: &Shared<Plan>, bound: u64) -> bool
+    ensures { IsTrue result → IsFreshRunOf kept.now plan.now bound }
+{
+    let run = kept.run();
+    run.bound == bound && run.plan.get().is_same(plan.get())
 }

@@ -12,6 +12,7 @@ use Rattle.hangar_lock.specs.ClientEntries.{RisesTo}
 use Rattle.report_text.specs.declared.answers.Answer.{Answer}
 use Rattle.client_work.specs.declared.missions.Mission.{Mission}
 use Rattle.client_work.specs.declared.workplace.ClientCommand.{ClientCommand}
+use Rattle.client_work.specs.Counts.{PaysAsReplied}
 use Rattle.client_work.specs.Meanings.{meanings_of}
 use Rattle.client_work.specs.Told.{command_told, count_told}
 use Rattle.client_work.specs.Working.{begun_with, entry_of, replies_of, HasGained, HasOneMore, IsCount, IsCarriedOn, IsReplyAt, work_state_at}
@@ -51,14 +52,15 @@ none_gained pass = record {
 module _ (mission : Mission) (whose : ClientCommand) (command : Command) (steps_before steps_after : ℕ) (answer : Answer) where
   -- a command that is over
   pub over : (replies : List Reply) (pass : PassView) (statements : ℕ) → next_action (meanings_of mission.models mission.bound) command replies ≡ None →
-      IsCount command statements steps_before steps_after → answer ≡ command_told mission (count_told mission statements) command replies →
+      IsCount command statements steps_before steps_after → PaysAsReplied mission command replies statements → answer ≡ command_told mission (count_told mission statements) command replies →
       IsCarriedOn (begun_with mission whose command replies) (work_state_at pass steps_before) (work_state_at pass steps_after) answer
-  over replies pass statements none counted told = record {
+  over replies pass statements none counted paid told = record {
     gained = [];
     gains = none_gained pass;
     parts = none;
     statements = statements;
     counted = counted;
+    paid = subst (λ (all : List Reply). PaysAsReplied mission command all statements) (sym (append-nil replies)) paid;
     known = tt;
     told = told ∙ ap (command_told mission (count_told mission statements) command) (sym (append-nil replies));
   }
@@ -77,6 +79,7 @@ module _ (mission : Mission) (whose : ClientCommand) (command : Command) (steps_
         parts = (next, refl, rest.parts);
         statements = rest.statements;
         counted = rest.counted;
+        paid = subst (λ (all : List Reply). PaysAsReplied mission command all rest.statements) (append_assoc replies (reply ∷ []) (replies_of rest.gained)) rest.paid;
         known = (one.known, subst (λ (lock : LockView). AllByRecursion (IsReplyAt lock) (replies_of rest.gained)) one.gains.lock rest.known);
         told = rest.told ∙ ap (command_told mission (count_told mission rest.statements) command) (append_assoc replies (reply ∷ []) (replies_of rest.gained));
       }

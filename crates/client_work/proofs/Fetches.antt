@@ -8,6 +8,8 @@ use Rattle.hangar_core.specs.Fits.{on_fetched}
 use Rattle.report_text.specs.declared.answers.Answer.{Answer}
 use Rattle.report_text.specs.declared.answers.Answer.TheVariants as answer
 use Rattle.client_work.specs.declared.fetching.FetchedBranch.{FetchedBranch}
+use Rattle.client_work.specs.declared.missions.Mission.{Mission}
+use Rattle.client_work.specs.Counts.{PaysAsFetched}
 use Rattle.client_work.specs.Fetching.{fetched_by, reply_with}
 use Rattle.client_work.specs.Told.{by_fetched}
 
@@ -29,29 +31,30 @@ no_err branch refusal e = cc
 no_ok : (branch : FetchedBranch) (refusal : Reply) → Refused refusal ≡ Found branch → ⊥
 no_ok branch refusal e = cc
 
--- a refusal is told as it is, and nothing follows it
+-- a refusal is told as it is, nothing follows it, and no statements are told
 pub record IsRefused (said refusal : Reply) : Type 0 where
   pub same : refusal ≡ said
   pub none : (next : ℕ → Plan → Option Action) → on_fetched said next ≡ None
   pub told : (told : ℕ → Plan → Answer) → by_fetched said told ≡ answer.Reply said
+  pub paid : (mission : Mission) (statements : ℕ) → PaysAsFetched mission said statements
 
 pub refused : (said refusal : Reply) → fetched_by said ≡ Err refusal → IsRefused said refusal
 refused (reply.Fetched revision plan kept) refusal e = absurd (no_err (record { revision = revision; plan = plan; kept = kept }) refusal e)
-refused (reply.Opened revision) refusal e = record { same = sym (same_err (reply.Opened revision) refusal e); none = λ next. refl; told = λ told. refl }
-refused reply.Dropped refusal e = record { same = sym (same_err reply.Dropped refusal e); none = λ next. refl; told = λ told. refl }
-refused (reply.Added id revision) refusal e = record { same = sym (same_err (reply.Added id revision) refusal e); none = λ next. refl; told = λ told. refl }
-refused (reply.Edited revision) refusal e = record { same = sym (same_err (reply.Edited revision) refusal e); none = λ next. refl; told = λ told. refl }
-refused (reply.Loaded first count revision) refusal e = record { same = sym (same_err (reply.Loaded first count revision) refusal e); none = λ next. refl; told = λ told. refl }
-refused reply.Attached refusal e = record { same = sym (same_err reply.Attached refusal e); none = λ next. refl; told = λ told. refl }
-refused (reply.Placed revision) refusal e = record { same = sym (same_err (reply.Placed revision) refusal e); none = λ next. refl; told = λ told. refl }
-refused reply.NoBranch refusal e = record { same = sym (same_err reply.NoBranch refusal e); none = λ next. refl; told = λ told. refl }
-refused reply.BranchExists refusal e = record { same = sym (same_err reply.BranchExists refusal e); none = λ next. refl; told = λ told. refl }
-refused reply.TooManyBranches refusal e = record { same = sym (same_err reply.TooManyBranches refusal e); none = λ next. refl; told = λ told. refl }
-refused reply.NoMapping refusal e = record { same = sym (same_err reply.NoMapping refusal e); none = λ next. refl; told = λ told. refl }
-refused (reply.Unmapped id) refusal e = record { same = sym (same_err (reply.Unmapped id) refusal e); none = λ next. refl; told = λ told. refl }
-refused (reply.Misfit id number) refusal e = record { same = sym (same_err (reply.Misfit id number) refusal e); none = λ next. refl; told = λ told. refl }
-refused (reply.Edit error) refusal e = record { same = sym (same_err (reply.Edit error) refusal e); none = λ next. refl; told = λ told. refl }
-refused (reply.Stale seen now) refusal e = record { same = sym (same_err (reply.Stale seen now) refusal e); none = λ next. refl; told = λ told. refl }
+refused (reply.Opened revision) refusal e = record { same = sym (same_err (reply.Opened revision) refusal e); none = λ next. refl; told = λ told. refl; paid = λ mission statements. tt }
+refused reply.Dropped refusal e = record { same = sym (same_err reply.Dropped refusal e); none = λ next. refl; told = λ told. refl; paid = λ mission statements. tt }
+refused (reply.Added id revision) refusal e = record { same = sym (same_err (reply.Added id revision) refusal e); none = λ next. refl; told = λ told. refl; paid = λ mission statements. tt }
+refused (reply.Edited revision) refusal e = record { same = sym (same_err (reply.Edited revision) refusal e); none = λ next. refl; told = λ told. refl; paid = λ mission statements. tt }
+refused (reply.Loaded first count revision) refusal e = record { same = sym (same_err (reply.Loaded first count revision) refusal e); none = λ next. refl; told = λ told. refl; paid = λ mission statements. tt }
+refused reply.Attached refusal e = record { same = sym (same_err reply.Attached refusal e); none = λ next. refl; told = λ told. refl; paid = λ mission statements. tt }
+refused (reply.Placed revision) refusal e = record { same = sym (same_err (reply.Placed revision) refusal e); none = λ next. refl; told = λ told. refl; paid = λ mission statements. tt }
+refused reply.NoBranch refusal e = record { same = sym (same_err reply.NoBranch refusal e); none = λ next. refl; told = λ told. refl; paid = λ mission statements. tt }
+refused reply.BranchExists refusal e = record { same = sym (same_err reply.BranchExists refusal e); none = λ next. refl; told = λ told. refl; paid = λ mission statements. tt }
+refused reply.TooManyBranches refusal e = record { same = sym (same_err reply.TooManyBranches refusal e); none = λ next. refl; told = λ told. refl; paid = λ mission statements. tt }
+refused reply.NoMapping refusal e = record { same = sym (same_err reply.NoMapping refusal e); none = λ next. refl; told = λ told. refl; paid = λ mission statements. tt }
+refused (reply.Unmapped id) refusal e = record { same = sym (same_err (reply.Unmapped id) refusal e); none = λ next. refl; told = λ told. refl; paid = λ mission statements. tt }
+refused (reply.Misfit id number) refusal e = record { same = sym (same_err (reply.Misfit id number) refusal e); none = λ next. refl; told = λ told. refl; paid = λ mission statements. tt }
+refused (reply.Edit error) refusal e = record { same = sym (same_err (reply.Edit error) refusal e); none = λ next. refl; told = λ told. refl; paid = λ mission statements. tt }
+refused (reply.Stale seen now) refusal e = record { same = sym (same_err (reply.Stale seen now) refusal e); none = λ next. refl; told = λ told. refl; paid = λ mission statements. tt }
 
 -- the reply to a Fetch that gave a branch
 pub was_fetched : (said : Reply) (branch : FetchedBranch) → fetched_by said ≡ Ok branch → said ≡ reply_with branch

@@ -1,3 +1,5 @@
+mod BenchLists
+mod Paying
 mod Carrying
 mod ModelPositions
 mod Fetches

@@ -29,12 +29,12 @@ module _ (mission : Mission) (whose : ClientCommand) where
       ((branch : List ℕ) → command ≡ Simulate branch → ⊥) → ((branch : List ℕ) → command ≡ Schedule branch → ⊥) →
       ((branch : List ℕ) → command ≡ Expand branch → ⊥) → ((target source base : List ℕ) → command ≡ Merge target source base → ⊥) →
       IsCarriedOn (begun_with mission whose command (first ∷ [])) (work_state_at pass steps) (work_state_at pass steps) (answer.Reply first)
-  one_part (New branch) first pass steps a b c d = over mission whose (New branch) steps steps (answer.Reply first) (first ∷ []) pass 0 refl tt refl
-  one_part (Fork branch source) first pass steps a b c d = over mission whose (Fork branch source) steps steps (answer.Reply first) (first ∷ []) pass 0 refl tt refl
-  one_part (Drop branch) first pass steps a b c d = over mission whose (Drop branch) steps steps (answer.Reply first) (first ∷ []) pass 0 refl tt refl
-  one_part (Edit branch edit) first pass steps a b c d = over mission whose (Edit branch edit) steps steps (answer.Reply first) (first ∷ []) pass 0 refl tt refl
-  one_part (Migrate branch model) first pass steps a b c d = over mission whose (Migrate branch model) steps steps (answer.Reply first) (first ∷ []) pass 0 refl tt refl
-  one_part (Show branch) first pass steps a b c d = over mission whose (Show branch) steps steps (answer.Reply first) (first ∷ []) pass 0 refl tt refl
+  one_part (New branch) first pass steps a b c d = over mission whose (New branch) steps steps (answer.Reply first) (first ∷ []) pass 0 refl tt tt refl
+  one_part (Fork branch source) first pass steps a b c d = over mission whose (Fork branch source) steps steps (answer.Reply first) (first ∷ []) pass 0 refl tt tt refl
+  one_part (Drop branch) first pass steps a b c d = over mission whose (Drop branch) steps steps (answer.Reply first) (first ∷ []) pass 0 refl tt tt refl
+  one_part (Edit branch edit) first pass steps a b c d = over mission whose (Edit branch edit) steps steps (answer.Reply first) (first ∷ []) pass 0 refl tt tt refl
+  one_part (Migrate branch model) first pass steps a b c d = over mission whose (Migrate branch model) steps steps (answer.Reply first) (first ∷ []) pass 0 refl tt tt refl
+  one_part (Show branch) first pass steps a b c d = over mission whose (Show branch) steps steps (answer.Reply first) (first ∷ []) pass 0 refl tt tt refl
   one_part (Simulate branch) first pass steps a b c d = absurd (a branch refl)
   one_part (Schedule branch) first pass steps a b c d = absurd (b branch refl)
   one_part (Expand branch) first pass steps a b c d = absurd (c branch refl)
@@ -45,7 +45,7 @@ module _ (mission : Mission) (whose : ClientCommand) where
       IsCarriedOn (begun_with mission whose (Simulate branch) (first ∷ [])) (work_state_at pass steps) (work_state_at pass steps) (answer.Reply refusal)
   no_report branch first refusal pass steps e =
       let is = refused first refusal e in
-      over mission whose (Simulate branch) steps steps (answer.Reply refusal) (first ∷ []) pass 0 (is.none _) (omega arith, λ rise by. omega (arith, by))
+      over mission whose (Simulate branch) steps steps (answer.Reply refusal) (first ∷ []) pass 0 (is.none _) (omega arith, λ rise by. omega (arith, by)) (is.paid mission 0)
       (ap answer.Reply is.same ∙ sym (is.told _))
 
   -- commands for the spans of no branch
@@ -53,14 +53,14 @@ module _ (mission : Mission) (whose : ClientCommand) where
       IsCarriedOn (begun_with mission whose (Expand branch) (first ∷ [])) (work_state_at pass steps) (work_state_at pass steps) (answer.Reply refusal)
   no_sequence branch first refusal pass steps e =
       let is = refused first refusal e in
-      over mission whose (Expand branch) steps steps (answer.Reply refusal) (first ∷ []) pass 0 (is.none _) tt (ap answer.Reply is.same ∙ sym (is.told _))
+      over mission whose (Expand branch) steps steps (answer.Reply refusal) (first ∷ []) pass 0 (is.none _) tt tt (ap answer.Reply is.same ∙ sym (is.told _))
 
   -- a schedule of no branch
   pub no_schedule : (branch : List ℕ) (first refusal : Reply) (pass : PassView) (steps : ℕ) → fetched_by first ≡ Err refusal →
       IsCarriedOn (begun_with mission whose (Schedule branch) (first ∷ [])) (work_state_at pass steps) (work_state_at pass steps) (answer.Reply refusal)
   no_schedule branch first refusal pass steps e =
       let is = refused first refusal e in
-      over mission whose (Schedule branch) steps steps (answer.Reply refusal) (first ∷ []) pass 0 (is.none _) tt (ap answer.Reply is.same ∙ sym (is.told _))
+      over mission whose (Schedule branch) steps steps (answer.Reply refusal) (first ∷ []) pass 0 (is.none _) tt tt (ap answer.Reply is.same ∙ sym (is.told _))
 
   module _ (target source base : List ℕ) (pass : PassView) where
     -- a merge of which no target, no source or no base is there
@@ -68,20 +68,20 @@ module _ (mission : Mission) (whose : ClientCommand) where
         IsMergeCarriedOn (begun_with mission whose (Merge target source base) (first ∷ [])) pass pass (answer.Reply refusal)
     no_target first refusal e steps_before steps_after =
         let is = refused first refusal e in
-        over mission whose (Merge target source base) steps_before steps_after (answer.Reply refusal) (first ∷ []) pass 0 (is.none _) tt (ap answer.Reply is.same ∙ sym (is.told _))
+        over mission whose (Merge target source base) steps_before steps_after (answer.Reply refusal) (first ∷ []) pass 0 (is.none _) tt tt (ap answer.Reply is.same ∙ sym (is.told _))
 
     pub no_source : (target_found : FetchedBranch) (second refusal : Reply) → fetched_by second ≡ Err refusal →
         IsMergeCarriedOn (begun_with mission whose (Merge target source base) (reply_with target_found ∷ second ∷ [])) pass pass (answer.Reply refusal)
     no_source target_found second refusal e steps_before steps_after =
         let is = refused second refusal e in
-        over mission whose (Merge target source base) steps_before steps_after (answer.Reply refusal) (reply_with target_found ∷ second ∷ []) pass 0 (is.none _) tt
+        over mission whose (Merge target source base) steps_before steps_after (answer.Reply refusal) (reply_with target_found ∷ second ∷ []) pass 0 (is.none _) tt tt
         (ap answer.Reply is.same ∙ sym (is.told _))
 
     pub no_base : (target_found source_found : FetchedBranch) (third refusal : Reply) → fetched_by third ≡ Err refusal →
         IsMergeCarriedOn (begun_with mission whose (Merge target source base) (reply_with target_found ∷ reply_with source_found ∷ third ∷ [])) pass pass (answer.Reply refusal)
     no_base target_found source_found third refusal e steps_before steps_after =
         let is = refused third refusal e in
-        over mission whose (Merge target source base) steps_before steps_after (answer.Reply refusal) (reply_with target_found ∷ reply_with source_found ∷ third ∷ []) pass 0 (is.none _) tt
+        over mission whose (Merge target source base) steps_before steps_after (answer.Reply refusal) (reply_with target_found ∷ reply_with source_found ∷ third ∷ []) pass 0 (is.none _) tt tt
         (ap answer.Reply is.same ∙ sym (is.told _))
 
     module _ (target_found source_found base_found : FetchedBranch) where
@@ -90,7 +90,7 @@ module _ (mission : Mission) (whose : ClientCommand) where
           IsMergeCarriedOn (begun_with mission whose (Merge target source base) (reply_with target_found ∷ reply_with source_found ∷ reply_with base_found ∷ [])) pass pass answer.OtherModel
       other_model alike steps_before steps_after =
           over mission whose (Merge target source base) steps_before steps_after answer.OtherModel (reply_with target_found ∷ reply_with source_found ∷ reply_with base_found ∷ []) pass 0
-          (ap (λ (one : Bool). place_merged target target_found.revision (if one then plan_if_merged (merge_of base_found.plan source_found.plan target_found.plan) else None)) alike) tt
+          (ap (λ (one : Bool). place_merged target target_found.revision (if one then plan_if_merged (merge_of base_found.plan source_found.plan target_found.plan) else None)) alike) tt tt
           (sym (ap (λ (one : Bool). if one then merged_or_refused (merge_of base_found.plan source_found.plan target_found.plan) reply.NoBranch else answer.OtherModel) alike))
 
       -- one that is refused
@@ -100,7 +100,7 @@ module _ (mission : Mission) (whose : ClientCommand) where
       no_merge error alike made steps_before steps_after =
           over mission whose (Merge target source base) steps_before steps_after (answer.MergeRefused error) (reply_with target_found ∷ reply_with source_found ∷ reply_with base_found ∷ []) pass 0
           (ap (λ (one : Bool). place_merged target target_found.revision (if one then plan_if_merged (merge_of base_found.plan source_found.plan target_found.plan) else None)) alike
-          ∙ ap (λ (all : Result Merged MergeError). place_merged target target_found.revision (plan_if_merged all)) made) tt
+          ∙ ap (λ (all : Result Merged MergeError). place_merged target target_found.revision (plan_if_merged all)) made) tt tt
           (sym (ap (λ (one : Bool). if one then merged_or_refused (merge_of base_found.plan source_found.plan target_found.plan) reply.NoBranch else answer.OtherModel) alike
           ∙ ap (λ (all : Result Merged MergeError). merged_or_refused all reply.NoBranch) made))
 

@@ -10,6 +10,7 @@ use Rattle.hangar_lock.specs.Places.{Places}
 use Rattle.hangar_lock.specs.ClientEntries.{HasWorked, own_entry, reply_of}
 use Rattle.client_work.specs.declared.missions.Mission.{Mission}
 use Rattle.client_work.specs.declared.workplace.Worker.{Worker}
+use Rattle.client_work.specs.Counts.{PaysAsReplied}
 use Rattle.client_work.specs.Lines.{ClientOf, told_line}
 use Rattle.client_work.specs.Meanings.{meanings_of}
 use Rattle.client_work.specs.Told.{command_told, count_told}
@@ -20,6 +21,8 @@ use Rattle.client_work.proofs.Carrying.{gained_both}
 pub later_on : {L K : Type 0} {first middle last : Worker L K} → IsLater first middle → IsLater middle last → IsLater first last
 later_on one two = record {
   pass = two.pass ∙ one.pass;
+  benches = two.benches ∙ one.benches;
+  bound = two.bound ∙ one.bound;
   steps = two.steps ∙ one.steps;
   looks = two.looks ∙ one.looks;
   rise = let earlier = one.rise in let later = two.rise in omega (arith, earlier, later);
@@ -35,8 +38,9 @@ module _ (mission : Mission) (client : ClientOf) where
     pub one_more : (number at : ℕ) (commands : List Command) (entries : Entries) (text : List ℕ) → at ≡ number + length commands →
         IsWorkTold mission client number commands entries text →
         IsCommand (meanings_of mission.models mission.bound) client.number at command [] own →
+        PaysAsReplied mission command (map reply_of own) statements →
         IsWorkTold mission client number (commands ++ (command ∷ [])) (entries ++ own) (text ++ line_told mission client at command statements own)
-    one_more number at [] entries text count told done =
+    one_more number at [] entries text count told done paid =
         let same : at ≡ number = omega (arith, count) in (
           own,
           [],
@@ -44,20 +48,22 @@ module _ (mission : Mission) (client : ClientOf) where
           [],
           ap (λ (l : Entries). l ++ own) told.0 ∙ sym (append-nil own),
           subst (λ (n : ℕ). IsCommand (meanings_of mission.models mission.bound) client.number n command [] own) same done,
+          paid,
           ap (λ (l : List ℕ). l ++ line_told mission client at command statements own) told.1
               ∙ ap (λ (n : ℕ). line_told mission client n command statements own) same
               ∙ sym (append-nil (line_told mission client number command statements own)),
           (refl, refl),
         )
-    one_more number at (first ∷ commands) entries text count told done =
-        let later = one_more (number + 1) at commands told.1 told.3 (omega (arith, count)) told.7 done in (
+    one_more number at (first ∷ commands) entries text count told done paid =
+        let later = one_more (number + 1) at commands told.1 told.3 (omega (arith, count)) told.8 done paid in (
           told.0,
           told.1 ++ own,
           told.2,
           told.3 ++ line_told mission client at command statements own,
           ap (λ (l : Entries). l ++ own) told.4 ∙ append_assoc told.0 told.1 own,
           told.5,
-          ap (λ (l : List ℕ). l ++ line_told mission client at command statements own) told.6
+          told.6,
+          ap (λ (l : List ℕ). l ++ line_told mission client at command statements own) told.7
               ∙ append_assoc (line_told mission client number first told.2 told.0) told.3 (line_told mission client at command statements own),
           later,
         )
@@ -66,7 +72,7 @@ module _ (mission : Mission) (client : ClientOf) where
   is_work : (number : ℕ) (commands : List Command) (entries : Entries) (text : List ℕ) → IsWorkTold mission client number commands entries text →
       IsWorkOf (meanings_of mission.models mission.bound) client.number number commands entries
   is_work number [] entries text told = told.0
-  is_work number (command ∷ commands) entries text told = (told.0, told.1, told.4, told.5, is_work (number + 1) commands told.1 told.3 told.7)
+  is_work number (command ∷ commands) entries text told = (told.0, told.1, told.4, told.5, is_work (number + 1) commands told.1 told.3 told.8)
 
   pub has_worked : (commands : List Command) (before after : PassView) (text : List ℕ) → IsWorkDone (work_of mission client commands) before after text →
       HasWorked (meanings_of mission.models mission.bound) client.number commands before after
@@ -88,7 +94,7 @@ module _ (mission : Mission) (client : ClientOf) where
       IsCommandDone (told_command_by mission client (length commands) command) (work_state_at middle steps_before) (work_state_at after steps_after) line →
       IsWorkDone (work_of mission client (commands ++ (command ∷ []))) before after (text ++ line)
   one_done command commands before middle after steps_before steps_after text line work whose =
-      let told = one_more command (own_entries whose.gained) whose.statements 0 (length commands) commands (own_entries work.gained) text (omega arith) work.told whose.parts in
+      let told = one_more command (own_entries whose.gained) whose.statements 0 (length commands) commands (own_entries work.gained) text (omega arith) work.told whose.parts whose.paid in
       record {
         gained = work.gained ++ whose.gained;
         gains = gained_both before middle after work.gained whose.gained work.gains whose.gains;

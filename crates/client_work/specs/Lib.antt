@@ -1,7 +1,9 @@
 pub mod Meanings
 pub mod Told
 pub mod Lines
+pub mod Counts
 pub mod Working
+pub mod Benches
 pub mod Fetching
 pub mod MergesCarriedOn
 pub mod laws

@@ -15,6 +15,7 @@ use Rattle.hangar_core.specs.Journals.{Entries}
 use Rattle.hangar_lock.specs.ClientEntries.{reply_of}
 use Rattle.client_work.specs.Meanings.{ruled_by, ruled_or_nothing}
 use Rattle.client_work.specs.Told.{command_told, count_told}
+use Rattle.client_work.specs.Counts.{PaysAsReplied}
 
 -- a client: its name and its number
 pub record ClientOf : Type 0 where
@@ -53,3 +54,9 @@ told_text mission client counts entries number [] = []
 told_text mission client counts entries number (command ∷ commands) =
     told_line mission client.name number command (command_told mission (count_told mission (counts 0)) command (replies_to number entries))
     ++ told_text mission client (λ later. counts (suc later)) entries (number + 1) commands
+
+-- each of these counts is one that its command may tell
+abbrev pub ArePaidFor : Mission → (ℕ → ℕ) → Entries → ℕ → List Command → Type 0
+ArePaidFor mission counts entries number [] = Unit {0}
+ArePaidFor mission counts entries number (command ∷ commands) =
+    PaysAsReplied mission command (replies_to number entries) (counts 0) × ArePaidFor mission (λ later. counts (suc later)) entries (number + 1) commands

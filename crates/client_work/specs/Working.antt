@@ -32,6 +32,7 @@ use Rattle.client_work.specs.declared.workplace.Worker.{Worker}
 use Rattle.client_work.specs.Lines.{ClientOf, model_told, told_line}
 use Rattle.client_work.specs.Meanings.{meanings_of}
 use Rattle.client_work.specs.Told.{count_told, command_told}
+use Rattle.client_work.specs.Counts.{PaysAsReplied}
 
 -- ---- what clients are given
 
@@ -55,6 +56,10 @@ pub record IsAtWork (mission : Mission) (lock : LockView) (pass : PassView) : Ty
 -- a pass of the lock at whose workplace a command is carried out
 abbrev pub IsAssignedTo : {R G : Type 0} → Assignment R G → PassView → Type 0
 IsAssignedTo assignment pass = IsAtWork assignment.workplace.now.mission.now assignment.workplace.now.lock.now pass
+
+-- benches under the bound of the mission
+abbrev pub AreBenchesAt : {R G : Type 0} → Assignment R G → ℕ → Type 0
+AreBenchesAt assignment benches = benches ≡ assignment.workplace.now.mission.now.bound
 
 -- what the lock answers: a plan that it tells of is of the mission
 abbrev pub IsReplyAt : LockView → Reply → Type 0
@@ -120,9 +125,11 @@ work_state_at pass steps = record { pass = pass; steps = steps }
 abbrev pub work_state : {L K : Type 0} → Worker L K → WorkState
 work_state worker = work_state_at worker.pass.now worker.steps.now
 
--- a worker later: it has the pass and the counters that it had, and no count of statements falls
+-- a worker later: it has the pass, the benches and the counters that it had, and no count of statements falls
 pub record IsLater {L K : Type 0} (before after : Worker L K) : Type 0 where
   pub pass : after.pass.ghost_name ≡ before.pass.ghost_name
+  pub benches : after.benches.ghost_name ≡ before.benches.ghost_name
+  pub bound : after.benches.now ≡ before.benches.now
   pub steps : after.steps.ghost_name ≡ before.steps.ghost_name
   pub looks : after.looks.ghost_name ≡ before.looks.ghost_name
   pub rise : before.steps.now ≤ after.steps.now
@@ -150,6 +157,7 @@ pub record IsCarriedOn (of : Begun) (before after : WorkState) (telling : Answer
   pub parts : IsCommand (meanings_of of.mission.models of.mission.bound) of.whose.client of.whose.command of.command of.replies (own_entries gained)
   pub statements : ℕ
   pub counted : IsCount of.command statements before.steps after.steps
+  pub paid : PaysAsReplied of.mission of.command (of.replies ++ replies_of gained) statements
   pub known : AllByRecursion (IsReplyAt before.pass.lock) (replies_of gained)
   pub told : telling ≡ command_told of.mission (count_told of.mission statements) of.command (of.replies ++ replies_of gained)
 
@@ -162,6 +170,7 @@ module _ (mission : Mission) (client : ClientOf) where
   IsWorkTold number (command ∷ commands) entries text =
       (own later : Entries) × (statements : ℕ) × (rest : List ℕ) × (entries ≡ own ++ later)
       × IsCommand (meanings_of mission.models mission.bound) client.number number command [] own
+      × PaysAsReplied mission command (map reply_of own) statements
       × (text ≡ told_line mission client.name number command (command_told mission (count_told mission statements) command (map reply_of own)) ++ rest)
       × IsWorkTold (number + 1) commands later rest
 
@@ -186,6 +195,7 @@ pub record IsCommandDone (of : ToldCommand) (before after : WorkState) (line : L
   pub parts : IsCommand (meanings_of of.mission.models of.mission.bound) of.client.number of.number of.command [] (own_entries gained)
   pub statements : ℕ
   pub counted : IsCount of.command statements before.steps after.steps
+  pub paid : PaysAsReplied of.mission of.command (replies_of gained) statements
   pub told : line ≡ told_line of.mission of.client.name of.number of.command (command_told of.mission (count_told of.mission statements) of.command (replies_of gained))
 
 -- the commands of a client

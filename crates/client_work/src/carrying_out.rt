@@ -1,7 +1,7 @@
 //! A command, with all its parts.
 
 ghost use Rattle.std.specs.Prelude.{[], ◌∷◌, IfOk};
-ghost use Rattle.client_work.specs.Working.{begun, IsAssignedTo, IsCarriedOn, IsLater, IsReplyAt, work_state};
+ghost use Rattle.client_work.specs.Working.{AreBenchesAt, begun, IsAssignedTo, IsCarriedOn, IsLater, IsReplyAt, work_state};
 
 use crate::acting::act;
 use crate::merging::{MergeAssignment, merged};
@@ -16,9 +16,10 @@ use report_text::Answer;
 use std::alloc::Global;
 use std::sync::Wait;
 use std::sync::ledger::Ledger;
+use std::thread::Threads;
 
 /// Carries a command on, by the reply to its first action.
-fn carry_on<R: Wait, G: Gate, L: Ledger, K: Ledger>(
+fn carry_on<R: Threads + Wait + Sync, G: Gate, L: Ledger, K: Ledger>(
     alloc: Global,
     assignment: &Assignment<R, G>,
     command: &Command,
@@ -26,6 +27,7 @@ fn carry_on<R: Wait, G: Gate, L: Ledger, K: Ledger>(
     worker: &mut Worker<L, K>,
 ) -> Result<Answer, OutOfMemory>
     requires workplace { IsAssignedTo assignment.now worker.old.pass.now }
+    requires benches { AreBenchesAt assignment.now worker.old.benches.now }
     requires first { IsReplyAt assignment.now.workplace.now.lock.now first }
     ensures done { IfOk result (IsCarriedOn (begun assignment.now command.now (first ∷ []))
         (work_state worker.old) (work_state worker.new)) }
@@ -54,13 +56,14 @@ fn carry_on<R: Wait, G: Gate, L: Ledger, K: Ledger>(
 
 /// Carries out a command of a client, and answers what is told of it. Only its entries wait for turns of the lock; simulations,
 /// schedules and merges are made outside of these.
-pub fn carry_out<R: Wait, G: Gate, L: Ledger, K: Ledger>(
+pub fn carry_out<R: Threads + Wait + Sync, G: Gate, L: Ledger, K: Ledger>(
     alloc: Global,
     assignment: &Assignment<R, G>,
     command: &Command,
     worker: &mut Worker<L, K>,
 ) -> Result<Answer, OutOfMemory>
     requires workplace { IsAssignedTo assignment.now worker.old.pass.now }
+    requires benches { AreBenchesAt assignment.now worker.old.benches.now }
     ensures done { IfOk result (IsCarriedOn (begun assignment.now command.now [])
         (work_state worker.old) (work_state worker.new)) }
     ensures later { IsLater worker.old worker.new }

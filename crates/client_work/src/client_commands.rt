@@ -1,8 +1,8 @@
 //! All commands of a client.
 
-ghost use Rattle.std.specs.Prelude.{◌<◌, ◌^◌, IfOk, length};
+ghost use Rattle.std.specs.Prelude.{◌≡◌, ◌<◌, ◌^◌, IfOk, length};
 ghost use Rattle.std.specs.String.{string_bytes};
-ghost use Rattle.client_work.specs.Working.{client_of, IsAssignedTo, IsAtWork, IsCommandDone, IsLater, IsWorkDone, work_state, told_command, work_of};
+ghost use Rattle.client_work.specs.Working.{AreBenchesAt, client_of, IsAssignedTo, IsAtWork, IsCommandDone, IsLater, IsWorkDone, work_state, told_command, work_of};
 
 use crate::carrying_out::carry_out;
 use crate::lines::told_line;
@@ -13,9 +13,10 @@ use commands::Command;
 use std::alloc::Global;
 use std::sync::Wait;
 use std::sync::ledger::Ledger;
+use std::thread::Threads;
 
 /// Carries out the command of a client with this name, and answers the line that is printed of it.
-pub fn work_on<R: Wait, G: Gate, L: Ledger, K: Ledger>(
+pub fn work_on<R: Threads + Wait + Sync, G: Gate, L: Ledger, K: Ledger>(
     alloc: Global,
     assignment: &Assignment<R, G>,
     name: &Name,
@@ -23,6 +24,7 @@ pub fn work_on<R: Wait, G: Gate, L: Ledger, K: Ledger>(
     worker: &mut Worker<L, K>,
 ) -> Result<String, OutOfMemory>
     requires workplace { IsAssignedTo assignment.now worker.old.pass.now }
+    requires benches { AreBenchesAt assignment.now worker.old.benches.now }
     ensures done { IfOk result (λ line. IsCommandDone (told_command assignment.now name.now command.now)
         (work_state worker.old) (work_state worker.new) (string_bytes line)) }
     ensures later { IsLater worker.old worker.new }
@@ -35,7 +37,7 @@ pub fn work_on<R: Wait, G: Gate, L: Ledger, K: Ledger>(
 }
 
 /// Carries out all commands of a client, one after another, and answers the text of their lines.
-pub fn work<R: Wait, G: Gate, L: Ledger, K: Ledger>(
+pub fn work<R: Threads + Wait + Sync, G: Gate, L: Ledger, K: Ledger>(
     alloc: Global,
     workplace: &Workplace<R, G>,
     client: NumberedClient,
@@ -43,6 +45,7 @@ pub fn work<R: Wait, G: Gate, L: Ledger, K: Ledger>(
     worker: &mut Worker<L, K>,
 ) -> Result<String, OutOfMemory>
     requires workplace { IsAtWork workplace.now.mission.now workplace.now.lock.now worker.old.pass.now }
+    requires benches { worker.old.benches.now ≡ workplace.now.mission.now.bound }
     requires few { length commands.now < 2 ^ 32 }
     ensures done { IfOk result (λ text. IsWorkDone
         (work_of workplace.now.mission.now (client_of client.entry) commands.now)

@@ -2,6 +2,7 @@
 #![tactic(auto)]
 
 mod acting;
+mod benches;
 mod carrying_out;
 mod client_commands;
 mod fetching;
@@ -13,6 +14,7 @@ mod scheduling;
 mod simulating;
 mod workplace;
 
+pub use benches::Benches;
 pub use carrying_out::carry_out;
 pub use client_commands::{work, work_on};
 pub use missions::{Mission, RuledModel};

@@ -19,7 +19,7 @@ fn model_told<'a>(mission: &'a Mission, answer: &'a Answer) -> &'a Model
     ensures { result.now ≡ model_of_told mission.now answer.now }
 {
     match answer {
-        Answer::Reply(Reply::Fetched { plan, .. }) => mission.ruled(plan).model.model().get(),
+        Answer::Reply(Reply::Fetched { plan, .. }) => mission.ruled(plan).model.get(),
         Answer::Report(report) => report.run.get().model().get(),
         Answer::Expanded(report) => report.run.get().model().get(),
         _ => mission.first(),

@@ -6,7 +6,6 @@ ghost use Rattle.client_work.specs.Told.{count_told};
 ghost use Rattle.client_work.specs.Meanings.{ruled_by};
 
 use aerie_base::{List, Model, Plan, Shared};
-use bench::CompiledModel;
 use constraints::Constraint;
 use epoch_text::Start;
 use goals::Goal;
@@ -16,7 +15,7 @@ use seq_expand::Sequencing;
 #[derive(Drop)]
 pub struct RuledModel {
     /// The model.
-    pub model: CompiledModel,
+    pub model: Shared<Model>,
     /// Its constraints, in the order of the text.
     pub constraints: Shared<List<Constraint>>,
     /// Its goals, likewise.
@@ -52,7 +51,7 @@ impl Mission {
         requires { 0 < length self.now.models }
         ensures { result.now ≡ first_model self.now }
     {
-        self.models.as_slice()[0].model.model().get()
+        self.models.as_slice()[0].model.get()
     }
 
     /// How many statements a simulation ran, where that is told.

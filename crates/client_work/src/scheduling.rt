@@ -1,54 +1,57 @@
 //! Schedules of branches.
 
 ghost use Rattle.std.specs.Prelude.{◌≡◌, ◌≤◌, [], ◌∷◌, IfOk};
-ghost use Rattle.aerie_base.specs.Ranges.{step_limit};
 ghost use Rattle.commands.specs.declared.commands.Command.TheVariants as command;
 ghost use Rattle.scheduler.specs.Told.{IsLikePlan};
 ghost use Rattle.aerie_base.specs.plans.OfModel.{IsPlanOf};
 ghost use Rattle.client_work.specs.Fetching.{IsPlanOfMission, reply_with};
 ghost use Rattle.client_work.specs.Meanings.{ruled_by, scheduled as scheduled_by};
 ghost use Rattle.client_work.specs.Told.{schedule_told as told_by};
-ghost use Rattle.client_work.specs.Working.{begun, IsAssignedTo, IsCarriedOn, IsLater, IsPlanAt, IsReplyAt, work_state};
+ghost use Rattle.client_work.specs.Working.{AreBenchesAt, begun, IsAssignedTo, IsCarriedOn, IsLater, IsPlanAt, IsReplyAt, work_state};
 
 use crate::acting::act;
+use crate::benches::Benches;
 use crate::fetching::{FetchedBranch, fetched};
-use crate::missions::Mission;
-use crate::workplace::{Assignment, Worker};
-use aerie_base::{List, Name, OutOfMemory, Plan, Shared, Steps};
+use crate::workplace::{Assignment, Worker, Workplace};
+use aerie_base::{List, Name, OutOfMemory, Steps};
 use aerie_edge::Gate;
-use bench::Bench;
 use goals::GoalStatus;
 use hangar_core::{Action, Reply};
 use report_text::Answer;
-use scheduler::{Schedule, schedule};
+use scheduler::Schedule;
 use std::alloc::Global;
 use std::sync::Wait;
 use std::sync::ledger::Ledger;
+use std::thread::Threads;
 
-/// The schedule of a plan by the goals and the constraints of its model.
-fn schedule_of<L: Ledger, K: Ledger>(
+/// The schedule of a fetched plan by the goals and the constraints of its model, at the bench of that model.
+fn schedule_of<R: Threads + Wait + Sync, G: Gate, L: Ledger, K: Ledger>(
     alloc: Global,
-    mission: &Mission,
-    plan: &Shared<Plan>,
+    workplace: &Workplace<R, G>,
+    found: &FetchedBranch,
+    benches: &mut Benches,
     steps: &mut Steps<L>,
     looks: &mut Steps<K>,
 ) -> Result<Schedule, OutOfMemory>
-    requires plan { IsPlanOfMission mission.now plan.now }
-    requires bound { mission.now.bound ≤ step_limit }
-    ensures made { IfOk result (λ made. made ≡ scheduled_by mission.now.models mission.now.bound plan.now) }
-    ensures of_model { IfOk result (λ made. IsPlanOf (ruled_by mission.now.models plan.now).model made.plan) }
-    ensures same_position { IfOk result (λ made. IsLikePlan plan.now made.plan) }
+    requires plan { IsPlanOfMission workplace.now.mission.now found.now.plan }
+    requires benches { benches.old ≡ workplace.now.mission.now.bound }
+    ensures made { IfOk result (λ made.
+        made ≡ scheduled_by workplace.now.mission.now.models workplace.now.mission.now.bound found.now.plan) }
+    ensures of_model { IfOk result (λ made.
+        IsPlanOf (ruled_by workplace.now.mission.now.models found.now.plan).model made.plan) }
+    ensures same_position { IfOk result (λ made. IsLikePlan found.now.plan made.plan) }
+    ensures benches { benches.new ≡ benches.old }
     ensures steps { steps.old ≤ steps.new }
 {
-    let ruled = mission.ruled(plan);
-    let mut bench = Bench::new(&ruled.model, mission.bound);
-    let made = schedule(
+    let plan = &found.plan;
+    let ruled = workplace.mission.ruled(plan);
+    let made = benches.schedule(
+        workplace.rt,
         alloc,
-        ruled.model.model().get(),
+        workplace.store,
+        ruled,
         plan,
-        ruled.goals.get().as_slice(),
-        ruled.constraints.get().as_slice(),
-        &mut bench,
+        &found.kept,
         steps,
         looks,
     )?;
@@ -70,7 +73,7 @@ fn schedule_told(goals: List<GoalStatus>, trials: u32, reply: Reply) -> Answer
 }
 
 /// Schedules a fetched branch: the plan is placed where no other change came between.
-fn schedule_fetched<R: Wait, G: Gate, L: Ledger, K: Ledger>(
+fn schedule_fetched<R: Threads + Wait + Sync, G: Gate, L: Ledger, K: Ledger>(
     alloc: Global,
     assignment: &Assignment<R, G>,
     branch: &Name,
@@ -78,14 +81,22 @@ fn schedule_fetched<R: Wait, G: Gate, L: Ledger, K: Ledger>(
     worker: &mut Worker<L, K>,
 ) -> Result<Answer, OutOfMemory>
     requires workplace { IsAssignedTo assignment.now worker.old.pass.now }
+    requires benches { AreBenchesAt assignment.now worker.old.benches.now }
     requires found { IsPlanAt assignment.now.workplace.now.lock.now found.now.plan }
     ensures done { IfOk result (IsCarriedOn
         (begun assignment.now (command.Schedule branch.now) (reply_with found.now ∷ []))
         (work_state worker.old) (work_state worker.new)) }
     ensures later { IsLater worker.old worker.new }
 {
-    let mission = assignment.workplace.mission;
-    let made = schedule_of(alloc, mission, &found.plan, worker.steps, worker.looks)?;
+    let workplace = assignment.workplace;
+    let made = schedule_of(
+        alloc,
+        workplace,
+        found,
+        worker.benches,
+        worker.steps,
+        worker.looks,
+    )?;
     let seen = found.revision;
     let branch = branch.copy(alloc)?;
     let placing = Action::Place {
@@ -98,7 +109,7 @@ fn schedule_fetched<R: Wait, G: Gate, L: Ledger, K: Ledger>(
 }
 
 /// What becomes of a schedule of a branch, by the reply to its Fetch.
-pub(crate) fn scheduled<R: Wait, G: Gate, L: Ledger, K: Ledger>(
+pub(crate) fn scheduled<R: Threads + Wait + Sync, G: Gate, L: Ledger, K: Ledger>(
     alloc: Global,
     assignment: &Assignment<R, G>,
     branch: &Name,
@@ -106,6 +117,7 @@ pub(crate) fn scheduled<R: Wait, G: Gate, L: Ledger, K: Ledger>(
     worker: &mut Worker<L, K>,
 ) -> Result<Answer, OutOfMemory>
     requires workplace { IsAssignedTo assignment.now worker.old.pass.now }
+    requires benches { AreBenchesAt assignment.now worker.old.benches.now }
     requires first { IsReplyAt assignment.now.workplace.now.lock.now first }
     ensures done { IfOk result (IsCarriedOn (begun assignment.now (command.Schedule branch.now) (first ∷ []))
         (work_state worker.old) (work_state worker.new)) }

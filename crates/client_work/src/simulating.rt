@@ -1,23 +1,23 @@
 //! Simulations of branches: reports and sequences.
 
 ghost use Rattle.std.specs.Prelude.{◌≡◌, ◌≤◌, [], ◌∷◌, IfOk};
-ghost use Rattle.aerie_base.specs.Ranges.{step_limit};
 ghost use Rattle.run_data.specs.Waves.{RoseAlike};
 ghost use Rattle.hangar_core.specs.ValidWorkspaces.{IsKeptIn};
 ghost use Rattle.hangar_core.specs.declared.actions.Action.TheVariants as action;
 ghost use Rattle.commands.specs.declared.commands.Command.TheVariants as command;
+ghost use Rattle.client_work.specs.Counts.{PaysAsFetched};
 ghost use Rattle.client_work.specs.Fetching.{IsPlanOfMission, reply_with};
 ghost use Rattle.client_work.specs.Meanings.{simulated};
 ghost use Rattle.client_work.specs.Told.{is_attached as is_run_kept, sequence_told};
-ghost use Rattle.client_work.specs.Working.{begun, entry_of, HasOneMore, IsAssignedTo, IsCarriedOn, IsLater, IsPlanAt, IsReplyAt, work_state};
+ghost use Rattle.client_work.specs.Working.{AreBenchesAt, begun, entry_of, HasOneMore, IsAssignedTo, IsCarriedOn, IsLater, IsPlanAt, IsReplyAt, work_state};
 
 use crate::acting::act;
+use crate::benches::{Benches, SimulatedRun};
 use crate::fetching::{FetchedBranch, fetched};
 use crate::missions::Mission;
-use crate::workplace::{Assignment, Worker};
-use aerie_base::{Name, OutOfMemory, Plan, Shared, Steps};
+use crate::workplace::{Assignment, Worker, Workplace};
+use aerie_base::{Name, OutOfMemory, Shared, Steps};
 use aerie_edge::{Gate, Point};
-use bench::Bench;
 use hangar_core::{Action, Reply};
 use hangar_lock::Pass;
 use report_text::{Answer, Report, SequenceReport};
@@ -27,39 +27,40 @@ use seq_expand::expand;
 use std::alloc::Global;
 use std::sync::Wait;
 use std::sync::ledger::Ledger;
+use std::thread::Threads;
 
-/// A run, and how many statements were simulated for it.
-#[derive(Drop)]
-pub(crate) struct Simulated {
-    /// The kept run.
-    pub(crate) run: Shared<Kept>,
-    /// The count.
-    pub(crate) statements: u64,
-}
-
-/// The fresh run of a plan for its model. A kept run is given back where it is that one.
-fn simulate<L: Ledger, K: Ledger>(
+/// The fresh run of a fetched plan for its model, at the bench of that model.
+fn simulate<R: Threads + Wait + Sync, G: Gate, L: Ledger, K: Ledger>(
     alloc: Global,
-    mission: &Mission,
-    plan: &Shared<Plan>,
-    kept: Option<&Shared<Kept>>,
+    workplace: &Workplace<R, G>,
+    found: &FetchedBranch,
+    benches: &mut Benches,
     steps: &mut Steps<L>,
     looks: &mut Steps<K>,
-) -> Result<Simulated, OutOfMemory>
-    requires plan { IsPlanOfMission mission.now plan.now }
-    requires bound { mission.now.bound ≤ step_limit }
-    ensures run { IfOk result (λ made. made.run ≡ simulated mission.now.models mission.now.bound plan.now) }
+) -> Result<SimulatedRun, OutOfMemory>
+    requires plan { IsPlanOfMission workplace.now.mission.now found.now.plan }
+    requires benches { benches.old ≡ workplace.now.mission.now.bound }
+    ensures run { IfOk result (λ made.
+        made.run ≡ simulated workplace.now.mission.now.models workplace.now.mission.now.bound found.now.plan) }
     ensures counted { IfOk result (λ made. RoseAlike 0 steps.old made.statements steps.new) }
+    ensures paid { IfOk result (λ made.
+        PaysAsFetched workplace.now.mission.now (reply_with found.now) made.statements) }
+    ensures benches { benches.new ≡ benches.old }
     ensures steps { steps.old ≤ steps.new }
 {
     fresh_runs_are_given();
-    let ruled = mission.ruled(plan);
-    let mut bench = Bench::new(&ruled.model, mission.bound);
-    let run = bench.simulate(alloc, plan, kept, steps, looks)?;
-    Ok(Simulated {
-        run,
-        statements: bench.statements(),
-    })
+    let ruled = workplace.mission.ruled(&found.plan);
+    let made = benches.simulate(
+        workplace.rt,
+        alloc,
+        workplace.store,
+        &ruled.model,
+        &found.plan,
+        &found.kept,
+        steps,
+        looks,
+    )?;
+    Ok(made)
 }
 
 /// Whether the reply to an Attach tells that the run is kept.
@@ -91,7 +92,7 @@ fn attach<R: Wait, G: Gate>(
 
 /// The report of a fetched branch, whose run is kept on the branch. The gate is told when its simulation starts and ends, outside
 /// any turn of the lock.
-fn report_of<R: Wait, G: Gate, L: Ledger, K: Ledger>(
+fn report_of<R: Threads + Wait + Sync, G: Gate, L: Ledger, K: Ledger>(
     alloc: Global,
     assignment: &Assignment<R, G>,
     branch: &Name,
@@ -99,6 +100,7 @@ fn report_of<R: Wait, G: Gate, L: Ledger, K: Ledger>(
     worker: &mut Worker<L, K>,
 ) -> Result<Answer, OutOfMemory>
     requires workplace { IsAssignedTo assignment.now worker.old.pass.now }
+    requires benches { AreBenchesAt assignment.now worker.old.benches.now }
     requires found { IsPlanAt assignment.now.workplace.now.lock.now found.now.plan }
     ensures done { IfOk result (IsCarriedOn
         (begun assignment.now (command.Simulate branch.now) (reply_with found.now ∷ []))
@@ -108,18 +110,23 @@ fn report_of<R: Wait, G: Gate, L: Ledger, K: Ledger>(
     let whose = assignment.whose;
     let workplace = assignment.workplace;
     let mission = workplace.mission;
-    let plan = &found.plan;
-    let kept = found.kept.as_ref();
     workplace
         .gate
         .at(whose.client, whose.command, Point::Starts);
-    let made = simulate(alloc, mission, plan, kept, worker.steps, worker.looks)?;
+    let made = simulate(
+        alloc,
+        workplace,
+        found,
+        worker.benches,
+        worker.steps,
+        worker.looks,
+    )?;
     workplace.gate.at(whose.client, whose.command, Point::Ends);
     let reply = attach(alloc, assignment, branch, &made.run, worker.pass)?;
     let report = Report {
         start: mission.start,
         run: made.run,
-        constraints: mission.ruled(plan).constraints.share()?,
+        constraints: mission.ruled(&found.plan).constraints.share()?,
         revision: found.revision,
         attached: is_attached(&reply),
         statements: mission.count(made.statements),
@@ -128,7 +135,7 @@ fn report_of<R: Wait, G: Gate, L: Ledger, K: Ledger>(
 }
 
 /// The report of a branch by the reply to its Fetch.
-pub(crate) fn reported<R: Wait, G: Gate, L: Ledger, K: Ledger>(
+pub(crate) fn reported<R: Threads + Wait + Sync, G: Gate, L: Ledger, K: Ledger>(
     alloc: Global,
     assignment: &Assignment<R, G>,
     branch: &Name,
@@ -136,6 +143,7 @@ pub(crate) fn reported<R: Wait, G: Gate, L: Ledger, K: Ledger>(
     worker: &mut Worker<L, K>,
 ) -> Result<Answer, OutOfMemory>
     requires workplace { IsAssignedTo assignment.now worker.old.pass.now }
+    requires benches { AreBenchesAt assignment.now worker.old.benches.now }
     requires first { IsReplyAt assignment.now.workplace.now.lock.now first }
     ensures done { IfOk result (IsCarriedOn (begun assignment.now (command.Simulate branch.now) (first ∷ []))
         (work_state worker.old) (work_state worker.new)) }
@@ -161,7 +169,7 @@ fn sequence_of<'a>(
     let ruled = mission.ruled(&found.plan);
     let sequence = expand(
         alloc,
-        ruled.model.model().get(),
+        ruled.model.get(),
         ruled.sequence.get(),
         run.get().run(),
     )?;
@@ -174,7 +182,7 @@ fn sequence_of<'a>(
 }
 
 /// The commands that the run of a fetched branch gives; the run is kept on the branch.
-fn expansion_of<R: Wait, G: Gate, L: Ledger, K: Ledger>(
+fn expansion_of<R: Threads + Wait + Sync, G: Gate, L: Ledger, K: Ledger>(
     alloc: Global,
     assignment: &Assignment<R, G>,
     branch: &Name,
@@ -182,23 +190,30 @@ fn expansion_of<R: Wait, G: Gate, L: Ledger, K: Ledger>(
     worker: &mut Worker<L, K>,
 ) -> Result<Answer, OutOfMemory>
     requires workplace { IsAssignedTo assignment.now worker.old.pass.now }
+    requires benches { AreBenchesAt assignment.now worker.old.benches.now }
     requires found { IsPlanAt assignment.now.workplace.now.lock.now found.now.plan }
     ensures done { IfOk result (IsCarriedOn
         (begun assignment.now (command.Expand branch.now) (reply_with found.now ∷ []))
         (work_state worker.old) (work_state worker.new)) }
     ensures later { IsLater worker.old worker.new }
 {
-    let mission = assignment.workplace.mission;
-    let plan = &found.plan;
-    let kept = found.kept.as_ref();
-    let made = simulate(alloc, mission, plan, kept, worker.steps, worker.looks)?;
+    let workplace = assignment.workplace;
+    let mission = workplace.mission;
+    let made = simulate(
+        alloc,
+        workplace,
+        found,
+        worker.benches,
+        worker.steps,
+        worker.looks,
+    )?;
     attach(alloc, assignment, branch, &made.run, worker.pass)?;
     let answer = sequence_of(alloc, mission, found, made.run)?;
     Ok(answer)
 }
 
 /// The commands that the run of a branch gives, by the reply to its Fetch.
-pub(crate) fn expanded<R: Wait, G: Gate, L: Ledger, K: Ledger>(
+pub(crate) fn expanded<R: Threads + Wait + Sync, G: Gate, L: Ledger, K: Ledger>(
     alloc: Global,
     assignment: &Assignment<R, G>,
     branch: &Name,
@@ -206,6 +221,7 @@ pub(crate) fn expanded<R: Wait, G: Gate, L: Ledger, K: Ledger>(
     worker: &mut Worker<L, K>,
 ) -> Result<Answer, OutOfMemory>
     requires workplace { IsAssignedTo assignment.now worker.old.pass.now }
+    requires benches { AreBenchesAt assignment.now worker.old.benches.now }
     requires first { IsReplyAt assignment.now.workplace.now.lock.now first }
     ensures done { IfOk result (IsCarriedOn (begun assignment.now (command.Expand branch.now) (first ∷ []))
         (work_state worker.old) (work_state worker.new)) }

@@ -1,9 +1,11 @@
 //! Which command is carried out, and what clients work with.
 
+use crate::benches::Benches;
 use crate::missions::Mission;
 use aerie_base::{Name, Steps};
 use aerie_edge::Gate;
 use hangar_lock::{HangarLock, Pass};
+use history_store::Store;
 use std::sync::Wait;
 use std::sync::ledger::Ledger;
 
@@ -36,6 +38,10 @@ pub struct Workplace<'a, R: Wait, G: Gate> {
     pub lock: &'a HangarLock,
     /// Who is told when simulations start and end.
     pub gate: &'a G,
+    /// The stored steps that all clients share.
+    pub store: &'a Store,
+    /// Into how many pieces a wave is cut at most: 1 to 64.
+    pub pieces: u32,
 }
 
 /// A client's command that is carried out at a workplace.
@@ -47,11 +53,13 @@ pub struct Assignment<'w, 'a, R: Wait, G: Gate> {
     pub whose: ClientCommand,
 }
 
-/// Who carries commands out: its pass of the lock, and what is counted of its simulations.
+/// Who carries commands out: its pass of the lock, its benches, and what is counted of its simulations.
 #[derive(Drop)]
-pub struct Worker<'p, 's, 'l, L: Ledger, K: Ledger> {
+pub struct Worker<'p, 'b, 's, 'l, L: Ledger, K: Ledger> {
     /// The pass.
     pub pass: &'p mut Pass,
+    /// Where it simulates.
+    pub benches: &'b mut Benches,
     /// How many statements were simulated.
     pub steps: &'s mut Steps<L>,
     /// How many stored steps were looked up.

@@ -69,28 +69,29 @@ fn commit_on(
     }
 }
 
-/// Puts the tree of frames in order on the cells, unless one would leave its range. The views of the jobs are let go before, so
+/// Puts the tree of frames in order on the cells, unless one would leave its range. The jobs and their views are let go before, so
 /// that the cells change in their place, unless a stepper still has a view: then they are copied.
 fn commit(
     alloc: Global,
     cells: &mut Shared<Cells>,
-    jobs: ReadyJobs,
+    jobs: &mut ReadyJobs,
     frames: Vec<Frame>,
     spent: u64,
 ) -> Result<BatchEnd, OutOfMemory>
     requires order { AreByPath frames.items }
     requires few { HaveFewItems frames.items }
-    requires made { EachOf (λ job. job.0 ≤ step_limit) jobs }
+    requires made { EachOf (λ job. job.0 ≤ step_limit) jobs.old }
     requires range { AreInRange cells.old }
-    requires fits { IsTrue (fits_cells cells.old (tree_by_frames frames.items jobs)) }
-    requires worth { magnitude_of (tree_by_frames frames.items jobs) < sum_limit }
+    requires fits { IsTrue (fits_cells cells.old (tree_by_frames frames.items jobs.old)) }
+    requires worth { magnitude_of (tree_by_frames frames.items jobs.old) < sum_limit }
     ensures end { IfOk result (λ end. batch_as end cells.new
-        ≡ committed_by (tree_by_frames frames.items jobs) cells.old frames.items) }
+        ≡ committed_by (tree_by_frames frames.items jobs.old) cells.old frames.items) }
     ensures with_ { IfOk result (λ end. IsCommittedWith frames.items spent end) }
 {
-    let roots = jobs.into_roots();
+    let roots = jobs.take_roots(alloc);
     if let Some(own) = cells.get_mut() {
         let end = commit_on(alloc, own, roots.as_slice(), frames, spent)?;
+        jobs.put_back(roots);
         return Ok(end);
     }
     let mut own = cells.get().copy(alloc)?;
@@ -99,21 +100,22 @@ fn commit(
     Ok(end)
 }
 
-/// Judges a batch that makes these frames: its costs, then its faults, then its cells.
+/// Judges a batch that makes these frames: its costs, then its faults, then its cells. Before it is committed its jobs are let go.
 fn judge(
     alloc: Global,
     model: &Model,
     bound: u64,
     spent: u64,
     cells: &mut Shared<Cells>,
-    jobs: ReadyJobs,
+    jobs: &mut ReadyJobs,
     frames: Vec<Frame>,
 ) -> Result<BatchEnd, OutOfMemory>
     requires bound { bound ≤ step_limit }
     requires spent { spent ≤ bound }
-    requires ready { AreReadyJobs model.now spent cells.old jobs }
-    requires made { AreMade model.now bound jobs frames.items }
-    ensures end { IfOk result (λ end. batch_as end cells.new ≡ batch model.now bound spent cells.old jobs) }
+    requires ready { AreReadyJobs model.now spent cells.old jobs.old }
+    requires made { AreMade model.now bound jobs.old frames.items }
+    ensures end { IfOk result (λ end. batch_as end cells.new
+        ≡ batch model.now bound spent cells.old jobs.old) }
     ensures spends { IfOk result (λ end. SpendsWith spent end) }
     ensures frames { IfOk result (λ end. HasFrames (by_path frames.items) end) }
 {
@@ -137,7 +139,8 @@ fn judge(
 }
 
 /// The batch of the ready jobs, whose frames the stepper gives by waves, one for each generation of children. Its effects are on
-/// the cells where it is committed, and else the cells stay. After want of memory the cells may be either.
+/// the cells where it is committed, and else the cells stay. After want of memory the cells may be either. The jobs may be let go;
+/// the room for them is kept.
 #[allow(clippy::too_many_arguments)]
 pub(crate) fn run_batch<S: Stepper, L: Ledger, K: Ledger>(
     alloc: Global,
@@ -145,7 +148,7 @@ pub(crate) fn run_batch<S: Stepper, L: Ledger, K: Ledger>(
     bound: u64,
     spent: u64,
     cells: &mut Shared<Cells>,
-    ready: ReadyJobs,
+    ready: &mut ReadyJobs,
     stepper: &mut S,
     steps: &mut Steps<L>,
     looks: &mut Steps<K>,
@@ -154,8 +157,9 @@ pub(crate) fn run_batch<S: Stepper, L: Ledger, K: Ledger>(
     requires stepper { S.is_of stepper.old model.now }
     requires bound { bound ≤ step_limit }
     requires spent { spent ≤ bound }
-    requires ready { AreReadyJobs model.now spent cells.old ready }
-    ensures end { IfOk result (λ end. batch_as end cells.new ≡ batch model.now bound spent cells.old ready) }
+    requires ready { AreReadyJobs model.now spent cells.old ready.old }
+    ensures end { IfOk result (λ end. batch_as end cells.new
+        ≡ batch model.now bound spent cells.old ready.old) }
     ensures spends { IfOk result (λ end. SpendsWith spent end) }
     ensures frugal { IfOk result (λ end. IsFrugalEnd end (S.records stepper.old) steps.old steps.new) }
     ensures looks { looks.old ≤ looks.new }
@@ -166,7 +170,7 @@ pub(crate) fn run_batch<S: Stepper, L: Ledger, K: Ledger>(
     ensures address { S.address stepper.new ≡ S.address stepper.old }
 {
     same_by_generations();
-    let made = generations::all_frames(alloc, model, bound, spent, &ready, stepper, steps, looks)?;
+    let made = generations::all_frames(alloc, model, bound, spent, ready, stepper, steps, looks)?;
     let Some(frames) = made else {
         return Ok(BatchEnd::Limit);
     };
@@ -185,21 +189,22 @@ fn shared(alloc: Global, frames: &[Frame]) -> Result<Vec<Frame>, OutOfMemory>
     Ok(shared)
 }
 
-/// The batch of the ready jobs, whose frames the caller has, in any order. They are shared.
+/// The batch of the ready jobs, whose frames the caller has, in any order. They are shared. The jobs may be let go.
 pub(crate) fn take_batch(
     alloc: Global,
     model: &Model,
     bound: u64,
     spent: u64,
     cells: &mut Shared<Cells>,
-    ready: ReadyJobs,
+    ready: &mut ReadyJobs,
     frames: &[Frame],
 ) -> Result<BatchEnd, OutOfMemory>
     requires bound { bound ≤ step_limit }
     requires spent { spent ≤ bound }
-    requires ready { AreReadyJobs model.now spent cells.old ready }
-    requires frames { batch_frames model.now bound ready ≡ Some (by_path frames.now) }
-    ensures end { IfOk result (λ end. batch_as end cells.new ≡ batch model.now bound spent cells.old ready) }
+    requires ready { AreReadyJobs model.now spent cells.old ready.old }
+    requires frames { batch_frames model.now bound ready.old ≡ Some (by_path frames.now) }
+    ensures end { IfOk result (λ end. batch_as end cells.new
+        ≡ batch model.now bound spent cells.old ready.old) }
     ensures spends { IfOk result (λ end. SpendsWith spent end) }
 {
     let shared = shared(alloc, frames)?;

@@ -75,7 +75,8 @@ impl<'a> Engine<'a> {
             LeadsTo model.now plan.now bound (more (pruned (start model.now plan.now))) engine.point) }
     {
         let mut simulation = Simulation::begin(alloc, model, plan, bound)?;
-        let ready = simulation.to_next_job(alloc, model)?;
+        let mut ready = ReadyJobs::new(alloc);
+        simulation.to_next_job(alloc, model, &mut ready)?;
         let engine = engine_at(model, simulation, ready);
         Ok(engine)
     }
@@ -157,10 +158,10 @@ impl<'a> Engine<'a> {
         let Engine {
             model,
             mut simulation,
-            ready,
+            mut ready,
         } = self;
-        let next = simulation.step(alloc, model, ready, stepper, steps, looks)?;
-        let engine = engine_at(model, simulation, next);
+        simulation.step(alloc, model, &mut ready, stepper, steps, looks)?;
+        let engine = engine_at(model, simulation, ready);
         Ok(engine)
     }
 
@@ -179,10 +180,10 @@ impl<'a> Engine<'a> {
         let Engine {
             model,
             mut simulation,
-            ready,
+            mut ready,
         } = self;
-        let next = simulation.step_over(alloc, model, ready, frames)?;
-        let engine = engine_at(model, simulation, next);
+        simulation.step_over(alloc, model, &mut ready, frames)?;
+        let engine = engine_at(model, simulation, ready);
         Ok(engine)
     }
 

@@ -8,6 +8,7 @@ ghost use Rattle.engine_core.specs.EngineStates.{OfSameModels};
 
 use crate::simulation::Simulation;
 use aerie_base::{Model, OutOfMemory, Plan, Shared, Steps};
+use live_tasks::ready_jobs::ReadyJobs;
 use run_data::laws::{
     reached_states_are_of_the_model, weight_falls, what_has_ended_may_be_left_out,
 };
@@ -45,9 +46,10 @@ pub fn simulate<S: Stepper, L: Ledger, K: Ledger>(
     weight_falls();
     let _ = model.cells();
     let mut simulation = Simulation::begin(alloc, model, plan, bound)?;
-    let mut jobs = simulation.to_next_job(alloc, model)?;
+    let mut jobs = ReadyJobs::new(alloc);
+    simulation.to_next_job(alloc, model, &mut jobs)?;
     while jobs.len() > 0 {
-        jobs = simulation.step(alloc, model, jobs, stepper, steps, looks)?;
+        simulation.step(alloc, model, &mut jobs, stepper, steps, looks)?;
     }
     Ok(simulation.into_run())
 }

@@ -107,17 +107,20 @@ impl Simulation {
         }
     }
 
-    /// The jobs of the ready tasks, all with one view of the cells, which is shared; none where it has ended.
-    fn ready(&mut self, alloc: Global) -> Result<ReadyJobs, OutOfMemory>
+    /// In place of other jobs, those of the ready tasks, all with one view of the cells, which is shared; none where it has ended.
+    fn ready(&mut self, alloc: Global, jobs: &mut ReadyJobs) -> Result<(), OutOfMemory>
         requires { AreTasksIn self.old }
-        ensures jobs { IfOk result (λ jobs. jobs ≡ jobs_in (point_in self.old)) }
+        ensures jobs { OnOk result (jobs.new ≡ jobs_in (point_in self.old)) }
         ensures stands { OnOk result (StandsAt self.old.request (point_in self.old) self.new) }
     {
         match self.ending {
-            Some(_) => Ok(ReadyJobs::new(alloc)),
+            Some(_) => {
+                jobs.clear();
+                Ok(())
+            }
             None => {
-                let jobs = self.present.tasks.ready(alloc, &self.present.cells)?;
-                Ok(jobs)
+                self.present.tasks.ready(alloc, &self.present.cells, jobs)?;
+                Ok(())
             }
         }
     }
@@ -200,14 +203,14 @@ impl Simulation {
         &mut self,
         alloc: Global,
         model: &Model,
-        ready: ReadyJobs,
+        ready: &mut ReadyJobs,
         stepper: &mut S,
         steps: &mut Steps<L>,
         looks: &mut Steps<K>,
     ) -> Result<(), OutOfMemory>
         requires course { IsOnCourse model.now self.old }
-        requires ready { ready ≡ jobs_in (point_in self.old) }
-        requires job { ready ≡ [] → ⊥ }
+        requires ready { ready.old ≡ jobs_in (point_in self.old) }
+        requires job { ready.old ≡ [] → ⊥ }
         requires shares { S.shares }
         requires stepper { S.is_of stepper.old model.now }
         ensures stage { OnOk result (IsTransitionFrom model.now self.old self.new) }
@@ -245,13 +248,14 @@ impl Simulation {
         &mut self,
         alloc: Global,
         model: &Model,
-        ready: ReadyJobs,
+        ready: &mut ReadyJobs,
         frames: &[Frame],
     ) -> Result<(), OutOfMemory>
         requires course { IsOnCourse model.now self.old }
-        requires ready { ready ≡ jobs_in (point_in self.old) }
-        requires job { ready ≡ [] → ⊥ }
-        requires frames { batch_frames model.now self.old.request.bound ready ≡ Some (by_path frames.now) }
+        requires ready { ready.old ≡ jobs_in (point_in self.old) }
+        requires job { ready.old ≡ [] → ⊥ }
+        requires frames { batch_frames model.now self.old.request.bound ready.old
+            ≡ Some (by_path frames.now) }
         ensures { OnOk result (IsTransitionFrom model.now self.old self.new) }
     {
         reached_states_are_of_the_model();
@@ -295,14 +299,15 @@ impl Simulation {
         Ok(())
     }
 
-    /// On to the next point that has a job, or to the run. The jobs there are handed out.
+    /// On to the next point that has a job, or to the run, and in place of other jobs those there.
     pub(crate) fn to_next_job(
         &mut self,
         alloc: Global,
         model: &Model,
-    ) -> Result<ReadyJobs, OutOfMemory>
+        jobs: &mut ReadyJobs,
+    ) -> Result<(), OutOfMemory>
         requires { IsOnCourse model.now self.old }
-        ensures before { IfOk result (λ jobs. IsBeforeBatch model.now jobs self.new) }
+        ensures before { OnOk result (IsBeforeBatch model.now jobs.new self.new) }
         ensures request { OnOk result (self.new.request ≡ self.old.request) }
         ensures leads { OnOk result (
             LeadsTo model.now self.old.request.plan self.old.request.bound
@@ -315,27 +320,26 @@ impl Simulation {
         while self.is_idle() {
             self.on(alloc, model)?;
         }
-        let jobs = self.ready(alloc)?;
-        Ok(jobs)
+        self.ready(alloc, jobs)?;
+        Ok(())
     }
 
-    /// The batch of the ready jobs, whose frames the stepper gives by waves, and on to the next point that has a job,
-    /// or to the run. The jobs there are handed out.
+    /// The batch of the ready jobs, whose frames the stepper gives by waves, and on to the next point that has a job, or to the run.
     #[allow(clippy::too_many_arguments)]
     pub(crate) fn step<S: Stepper, L: Ledger, K: Ledger>(
         &mut self,
         alloc: Global,
         model: &Model,
-        jobs: ReadyJobs,
+        jobs: &mut ReadyJobs,
         stepper: &mut S,
         steps: &mut Steps<L>,
         looks: &mut Steps<K>,
-    ) -> Result<ReadyJobs, OutOfMemory>
-        requires before { IsBeforeBatch model.now jobs self.old }
-        requires job { jobs ≡ [] → ⊥ }
+    ) -> Result<(), OutOfMemory>
+        requires before { IsBeforeBatch model.now jobs.old self.old }
+        requires job { jobs.old ≡ [] → ⊥ }
         requires shares { S.shares }
         requires stepper { S.is_of stepper.old model.now }
-        ensures before { IfOk result (λ next. IsBeforeBatch model.now next self.new) }
+        ensures before { OnOk result (IsBeforeBatch model.now jobs.new self.new) }
         ensures request { OnOk result (self.new.request ≡ self.old.request) }
         ensures next { OnOk result (IsAtNext model.now self.old self.new) }
         ensures frugal { OnOk result
@@ -350,31 +354,30 @@ impl Simulation {
         what_has_ended_may_be_left_out();
         let _ = model.cells();
         self.batch(alloc, model, jobs, stepper, steps, looks)?;
-        let next = self.to_next_job(alloc, model)?;
-        Ok(next)
+        self.to_next_job(alloc, model, jobs)?;
+        Ok(())
     }
 
-    /// The batch of the ready jobs, whose frames the caller has, in any order, and on to the next point that has a job,
-    /// or to the run. The jobs there are handed out.
+    /// The batch of the ready jobs, whose frames the caller has, in any order, and on to the next point that has a job, or to the run.
     pub(crate) fn step_over(
         &mut self,
         alloc: Global,
         model: &Model,
-        jobs: ReadyJobs,
+        jobs: &mut ReadyJobs,
         frames: &[Frame],
-    ) -> Result<ReadyJobs, OutOfMemory>
-        requires before { IsBeforeBatch model.now jobs self.old }
-        requires job { jobs ≡ [] → ⊥ }
-        requires frames { batch_frames model.now self.old.request.bound jobs ≡ Some (by_path frames.now) }
-        ensures before { IfOk result (λ next. IsBeforeBatch model.now next self.new) }
+    ) -> Result<(), OutOfMemory>
+        requires before { IsBeforeBatch model.now jobs.old self.old }
+        requires job { jobs.old ≡ [] → ⊥ }
+        requires frames { batch_frames model.now self.old.request.bound jobs.old ≡ Some (by_path frames.now) }
+        ensures before { OnOk result (IsBeforeBatch model.now jobs.new self.new) }
         ensures request { OnOk result (self.new.request ≡ self.old.request) }
         ensures next { OnOk result (IsAtNext model.now self.old self.new) }
     {
         what_has_ended_may_be_left_out();
         let _ = model.cells();
         self.batch_of(alloc, model, jobs, frames)?;
-        let next = self.to_next_job(alloc, model)?;
-        Ok(next)
+        self.to_next_job(alloc, model, jobs)?;
+        Ok(())
     }
 
     /// The run, where it has ended.

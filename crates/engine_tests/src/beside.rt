@@ -130,14 +130,25 @@ fn simulated_beside<L: Ledger, K: Ledger>(
     compared(alloc, &model, &before, &after, &mut steps, &mut looks).ok()
 }
 
-/// Beside the run of one plan another comes to its instants, and runs so many statements and tests.
-fn runs<R: Abort>(rt: &R, alloc: Global, before: &[Planned], after: &[Planned], statements: u64) {
+/// Beside the run of one plan another comes to its instants. How many statements and tests that runs.
+pub(crate) fn runs_alike<R: Abort>(
+    rt: &R,
+    alloc: Global,
+    before: &[Planned],
+    after: &[Planned],
+) -> u64 {
     let (steps, looks) = (Blank::new(1), Blank::new(1));
     let told = simulated_beside::<Brand, Brand>(steps, looks, alloc, before, after).expect(
         rt, "memory",
     );
     assert_eq!(rt; told.beside.as_str(), told.from_start.as_str());
-    assert_eq!(rt; told.statements, statements);
+    told.statements
+}
+
+/// The same, with so many.
+fn runs<R: Abort>(rt: &R, alloc: Global, before: &[Planned], after: &[Planned], statements: u64) {
+    let ran = runs_alike(rt, alloc, before, after);
+    assert_eq!(rt; ran, statements);
 }
 
 #[test]

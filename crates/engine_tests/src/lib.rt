@@ -7,6 +7,8 @@ mod beside;
 #[cfg(test)]
 mod changes;
 #[cfg(test)]
+mod edits;
+#[cfg(test)]
 mod meeting;
 #[cfg(test)]
 mod plans;

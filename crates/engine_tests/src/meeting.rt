@@ -22,7 +22,7 @@ use test_worlds::{Outline, model_in, plan_of};
 const TICKING: &str = "model ticking { counter n = 0; activity Tick() { n += 1; } }";
 
 /// How many tasks begin together: enough for two pieces.
-const TOGETHER: usize = 1100;
+const TOGETHER: usize = 4200;
 
 /// Holds each piece until another has begun, for so many tries at most.
 #[derive(Drop)]
@@ -111,7 +111,7 @@ fn simulated<R: Threads + Sync, L: Ledger, K: Ledger>(
         alloc,
         model.get(),
         plan,
-        2000,
+        5000,
         &mut held,
         &mut steps,
         &mut looks,
@@ -141,7 +141,7 @@ fn each_piece_begins_before_another_ends(rt: HostRuntime) {
         met: AtomicU64::new(0),
     };
     let told = told(&rt, rt.alloc(), &meeting).expect(&rt, "memory");
-    assert_eq!(&rt; told.as_str(), "0/0 5/1,0=1100");
+    assert_eq!(&rt; told.as_str(), "0/0 5/1,0=4200");
     assert_eq!(&rt; meeting.begun.load(Ordering::SeqCst), 2);
     assert_eq!(&rt; meeting.met.load(Ordering::SeqCst), 2);
 }

@@ -2,6 +2,7 @@
 use Rattle.std.proofs.Common.{◌≡◌, ◌≢◌, ◌⊎◌, inl, inr, ℕ, nat_eq, Bool, true, false, not, ◌&&◌, ◌||◌, List, [], ◌∷◌, ◌++◌, Option, Some, None, is_some, refl, sym, ap, ◌∙◌, subst, arith, if◌then◌else◌}
 use Rattle.std.proofs.lemmas.Bool.{false≢true}
 use Rattle.std.proofs.lemmas.Bool.Decides.{nat_tests}
+use Rattle.std.specs.List.{filter}
 use Rattle.std.specs.BTreeSet as set
 use Rattle.std.specs.BTreeSet.{BTreeSet}
 use Rattle.live_tasks.specs.declared.slots.Slot.{Slot}
@@ -179,17 +180,9 @@ module _ (old new last : Slots) (number : ℕ) (found : Option Slot) (was : Bool
 
 -- ---- the ready ones of some numbers
 
-pub push_append : (numbers : List ℕ) (number : ℕ) (rest : List ℕ) → (numbers ++ number ∷ []) ++ rest ≡ numbers ++ number ∷ rest
-push_append [] number rest = refl
-push_append (first ∷ numbers) number rest = ap (λ all. first ∷ all) (push_append numbers number rest)
-
-pub listed_append : (slots : Slots) (numbers : List ℕ) (number : ℕ) (rest : List ℕ) →
-    listed_if (is_ready_slot (slot_at slots number)) number numbers ++ ready_among slots rest ≡ numbers ++ ready_among slots (number ∷ rest)
-listed_append slots numbers number rest = by (is_ready_slot (slot_at slots number))
-  where
-    by : (b : Bool) → listed_if b number numbers ++ ready_among slots rest ≡ numbers ++ (if b then number ∷ ready_among slots rest else ready_among slots rest)
-    by true = push_append numbers number (ready_among slots rest)
-    by false = refl
+pub among_is : (slots : Slots) (numbers : List ℕ) → ready_among slots numbers ≡ filter (λ number. is_ready_slot (slot_at slots number)) numbers
+among_is slots [] = refl
+among_is slots (number ∷ rest) = ap (λ among. if is_ready_slot (slot_at slots number) then number ∷ among else among) (among_is slots rest)
 
 pub append_none : (numbers : List ℕ) → numbers ++ [] ≡ numbers
 append_none [] = refl

@@ -1,6 +1,6 @@
 //! Where the frames of a batch come from, told by their paths.
 
-ghost use Rattle.std.specs.Prelude.{◌≡◌, ◌↔◌, ◌≤◌, false, Some, IfOk, IsTrue, length};
+ghost use Rattle.std.specs.Prelude.{◌≡◌, ◌↔◌, ◌≤◌, false, Some, OnOk, IsTrue, length};
 ghost use Rattle.run_data.specs.laws.BatchFrames.{AreFramesOf};
 ghost use Rattle.live_tasks.specs.BatchOrigins.{is_slot_below, HasSlotPath, AreBelow, IsNotBelow, child_origin, IsFoundOrigin};
 ghost use Rattle.live_tasks.specs.Endings.{AreLive, AreOrigins};
@@ -13,7 +13,6 @@ use crate::slots::Slot;
 use aerie_base::{OutOfMemory, Path};
 use run_data::Frame;
 use slab::Slab;
-use std::alloc::Global;
 
 /// How many depths there are: a path names up to 64 children.
 const DEPTHS: usize = 65;
@@ -93,21 +92,21 @@ fn origin_of(
     }
 }
 
-/// Where the frames of a batch come from. Both the frames and the numbers of the ready tasks are in order of path, so each of them is
-/// looked at once. A child stands behind its maker, which is the last frame before it of the depth above.
-pub fn origins_of(
-    alloc: Global,
+/// In place of other origins, where the frames of a batch come from. Both the frames and the numbers of the ready tasks are in order
+/// of path, so each of them is looked at once. A child stands behind its maker, which is the last frame before it of the depth above.
+pub fn put_origins(
     slots: &Slab<Slot>,
     readies: &[usize],
     frames: &[Frame],
-) -> Result<Vec<Origin>, OutOfMemory>
+    origins: &mut Vec<Origin>,
+) -> Result<(), OutOfMemory>
     requires live_ { AreLive (table_of slots.now.slots) slots.now.slots }
     requires ready { AreReadyNumbers slots.now.slots readies.now }
     requires order { AreByPath frames.now }
     requires frames { AreFramesOf (table_of slots.now.slots) frames.now }
-    ensures { IfOk result (λ origins. AreOrigins slots.now.slots frames.now origins.items) }
+    ensures { OnOk result (AreOrigins slots.now.slots frames.now origins.new.items) }
 {
-    let mut origins = Vec::with_capacity(alloc, frames.len())?;
+    origins.clear();
     let mut makers = [0; DEPTHS];
     let mut next = 0;
     for place in 0..frames.len() {
@@ -116,5 +115,5 @@ pub fn origins_of(
         origins.push(origin_of(slots, readies, next, path, &makers))?;
         makers[path.children().len()] = place;
     }
-    Ok(origins)
+    Ok(())
 }

@@ -41,19 +41,11 @@ fn push_if(numbers: &mut Vec<usize>, number: usize, listed: bool) -> Result<(), 
     Ok(())
 }
 
-/// Of some numbers those of ready tasks.
-fn still_ready(
-    alloc: Global,
-    slots: &Slab<Slot>,
-    numbers: &[usize],
-) -> Result<Vec<usize>, OutOfMemory>
-    ensures { IfOk result (λ still. still.items ≡ ready_among slots.now.slots numbers.now) }
+/// Of some numbers those of ready tasks are left.
+fn keep_ready(slots: &Slab<Slot>, numbers: &mut Vec<usize>)
+    ensures { numbers.new.items ≡ ready_among slots.now.slots numbers.old.items }
 {
-    let mut still = Vec::new(alloc);
-    for number in numbers {
-        push_if(&mut still, *number, is_ready(slots, *number))?;
-    }
-    Ok(still)
+    numbers.retain(|number| is_ready(slots, *number));
 }
 
 impl ListedSlots {
@@ -136,14 +128,12 @@ impl ListedSlots {
     }
 
     /// Of the numbers on the list of ready ones those are left that are ready still.
-    pub fn relist(&mut self, alloc: Global) -> Result<(), OutOfMemory>
+    pub fn relist(&mut self)
         ensures slots { self.new.slots ≡ self.old.slots }
-        ensures listed { OnOk result (ListsAll self.old → ListsExactly self.new) }
-        ensures waits { OnOk result (KeepsWaits self.old self.new) }
+        ensures listed { ListsAll self.old → ListsExactly self.new }
+        ensures waits { KeepsWaits self.old self.new }
     {
-        let still = still_ready(alloc, &self.slots, self.readies.as_slice())?;
-        self.readies = still;
-        Ok(())
+        keep_ready(&self.slots, &mut self.readies);
     }
 
     /// Takes the task of a number out, which has ended.

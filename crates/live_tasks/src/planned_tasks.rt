@@ -165,13 +165,13 @@ impl LiveTasks {
     }
 
     /// Once all are planned, the followers are put in order of id.
-    fn settle_plan(&mut self, alloc: Global) -> Result<(), OutOfMemory>
+    fn settle_plan(&mut self) -> Result<(), OutOfMemory>
         ensures planned { OnOk result (PlansAll (λ table. table) self.old self.new) }
         ensures by_id { OnOk result (AreById self.new.followers.items) }
         ensures listed { OnOk result (ListsAll self.old.tables → ListsExactly self.new.tables) }
         ensures waits { OnOk result (KeepsWaits self.old.tables self.new.tables) }
     {
-        self.tables.relist(alloc)?;
+        self.tables.relist();
         self.followers.sort_by_key(|follower| follower.to)?;
         Ok(())
     }
@@ -188,7 +188,7 @@ impl LiveTasks {
         let mut tasks = LiveTasks::new(alloc, model.cells().len())?;
         tasks.plan_daemons(alloc, model.daemons())?;
         tasks.plan_directives(alloc, model, plan.directives.as_slice())?;
-        tasks.settle_plan(alloc)?;
+        tasks.settle_plan()?;
         tasks.rest(Time::zero())?;
         Ok(tasks)
     }

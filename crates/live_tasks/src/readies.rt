@@ -122,20 +122,20 @@ fn push_job(
     Ok(())
 }
 
-/// The jobs of the ready ones among the tasks of some numbers, each with this view of the cells.
-pub fn jobs_of(
-    alloc: Global,
+/// In place of other jobs, those of the ready ones among the tasks of some numbers, each with this view of the cells.
+pub fn put_jobs(
     slots: &Slab<Slot>,
     numbers: &[usize],
     view: &Shared<Cells>,
-) -> Result<ReadyJobs, OutOfMemory>
-    ensures { IfOk result (λ jobs. jobs ≡ ready_jobs view.now (entries_at slots.now.slots numbers.now)) }
+    jobs: &mut ReadyJobs,
+) -> Result<(), OutOfMemory>
+    ensures { OnOk result (jobs.new ≡ ready_jobs view.now (entries_at slots.now.slots numbers.now)) }
 {
-    let mut jobs = ReadyJobs::with_capacity(alloc, numbers.len())?;
+    jobs.clear();
     for number in numbers {
-        push_job(slots, *number, view, &mut jobs)?;
+        push_job(slots, *number, view, jobs)?;
     }
-    Ok(jobs)
+    Ok(())
 }
 
 /// The jobs of the ready tasks in order of path are those of the table.

@@ -5,6 +5,7 @@ use aerie_base::{OutOfMemory, Path, Shared};
 use run_data::Job;
 use std::alloc::Global;
 use std::marker::Model;
+use std::mem;
 
 /// A ready task: its path, and how many children it has made.
 #[derive(Drop)]
@@ -46,13 +47,12 @@ impl ReadyJobs {
         }
     }
 
-    /// None, with room for so many.
-    pub fn with_capacity(alloc: Global, count: usize) -> Result<ReadyJobs, OutOfMemory>
-        ensures { IfOk result (λ ready. ready ≡ []) }
+    /// None any more. The room for them is kept.
+    pub fn clear(&mut self)
+        ensures { self.new ≡ [] }
     {
-        let jobs = Vec::with_capacity(alloc, count)?;
-        let roots = Vec::with_capacity(alloc, count)?;
-        Ok(ReadyJobs { jobs, roots })
+        self.jobs.clear();
+        self.roots.clear();
     }
 
     /// Puts one more behind the last.
@@ -98,11 +98,22 @@ impl ReadyJobs {
         self.roots[at].made
     }
 
-    /// The tasks. Their jobs are let go, and with them what they see.
-    pub fn into_roots(self) -> Vec<Root>
-        ensures { result.items ≡ map root_of self }
+    /// Takes out the tasks. Their jobs are let go, and with them what they see.
+    pub fn take_roots(&mut self, alloc: Global) -> Vec<Root>
+        ensures roots { result.items ≡ map root_of self.old }
+        ensures none { self.new ≡ [] }
     {
-        let ReadyJobs { jobs: _, roots } = self;
-        roots
+        self.jobs.clear();
+        mem::replace(&mut self.roots, Vec::new(alloc))
+    }
+
+    /// Puts back the room of tasks that were taken out.
+    pub fn put_back(&mut self, roots: Vec<Root>)
+        ensures { self.new ≡ [] }
+    {
+        let mut roots = roots;
+        roots.clear();
+        self.jobs.clear();
+        self.roots = roots;
     }
 }

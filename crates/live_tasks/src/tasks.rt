@@ -21,24 +21,28 @@ ghost use Rattle.live_tasks.specs.InStep.{slots_in, live_count, table_in, IsInSt
 ghost use Rattle.live_tasks.specs.Waking.{KeepsWakesBut};
 ghost use Rattle.live_tasks.specs.LeastTimes.{IsUpToTime};
 
-use crate::batch_origins::origins_of;
+use crate::batch_origins::put_origins;
 use crate::delays::least_end;
 use crate::followers::{Follower, fall_all};
 use crate::listed_slots::ListedSlots;
 use crate::origins::Origin;
-use crate::readies::jobs_of;
+use crate::readies::put_jobs;
 use crate::ready_jobs::ReadyJobs;
 use crate::slots::{Slot, has_ended};
 use aerie_base::{Edge, OutOfMemory, Path, Shared, Time, Value};
 use effect_cells::{Cells, waiting_depends_on_cells_read};
 use run_data::Frame;
 use std::alloc::Global;
+use std::mem;
 
-/// The live tasks by number, and those that are or were anchored, in order of the ids of the directives that they follow.
+/// The live tasks by number, and those that are or were anchored, in order of the ids of the directives that they follow. The room
+/// for where the frames of a batch come from, and for the numbers of their tasks, is kept from batch to batch.
 #[derive(Drop)]
 pub struct LiveTasks {
     pub tables: ListedSlots,
     pub followers: Vec<Follower>,
+    origins: Vec<Origin>,
+    numbers: Vec<usize>,
 }
 
 impl LiveTasks {
@@ -53,6 +57,8 @@ impl LiveTasks {
         Ok(LiveTasks {
             tables,
             followers: Vec::new(alloc),
+            origins: Vec::new(alloc),
+            numbers: Vec::new(alloc),
         })
     }
 
@@ -199,22 +205,23 @@ impl LiveTasks {
         }
     }
 
-    /// The frames of a batch, with their origins. The numbers of their tasks are handed out.
+    /// The frames of a batch, with their origins. The numbers of their tasks take the place of other numbers.
     pub fn take(
         &mut self,
         alloc: Global,
         now: Time,
         frames: &[Frame],
         origins: &[Origin],
-    ) -> Result<Vec<usize>, OutOfMemory>
+        numbers: &mut Vec<usize>,
+    ) -> Result<(), OutOfMemory>
         requires { MayTake now (slots_in self.old) frames.now origins.now }
         ensures followers { self.new.followers ≡ self.old.followers }
-        ensures taken { IfOk result (λ numbers.
-            HasTakenAll now frames.now (slots_in self.old) numbers.items (slots_in self.new)) }
+        ensures taken { OnOk result (
+            HasTakenAll now frames.now (slots_in self.old) numbers.new.items (slots_in self.new)) }
         ensures listed { OnOk result (KeepsAll self.old.tables self.new.tables) }
         ensures waits { OnOk result (KeepsWaits self.old.tables self.new.tables) }
     {
-        let mut numbers = Vec::new(alloc);
+        numbers.clear();
         for place in 0..frames.len() {
             let number = self.take_one(
                 alloc,
@@ -225,7 +232,7 @@ impl LiveTasks {
             )?;
             numbers.push(number)?;
         }
-        Ok(numbers)
+        Ok(())
     }
 
     /// An edge of a directive's start, where a frame is of one.
@@ -289,9 +296,11 @@ impl LiveTasks {
         ensures in_step { OnOk result (IsInStep self.new) }
         ensures waits { OnOk result (KeepsWaits self.old.tables self.new.tables) }
     {
-        let numbers = self.take(alloc, now, frames, origins)?;
-        self.tables.relist(alloc)?;
+        let mut numbers = mem::replace(&mut self.numbers, Vec::new(alloc));
+        self.take(alloc, now, frames, origins, &mut numbers)?;
+        self.tables.relist();
         self.end_batch(alloc, now, frames, numbers.as_slice())?;
+        self.numbers = numbers;
         Ok(())
     }
 
@@ -308,9 +317,11 @@ impl LiveTasks {
         ensures waits { OnOk result (KeepsWaits self.old.tables self.new.tables) }
     {
         self.tables.order(alloc)?;
+        let mut origins = mem::replace(&mut self.origins, Vec::new(alloc));
         let readies = self.tables.readies.as_slice();
-        let origins = origins_of(alloc, &self.tables.slots, readies, frames)?;
+        put_origins(&self.tables.slots, readies, frames, &mut origins)?;
         self.take_batch(alloc, now, frames, origins.as_slice())?;
+        self.origins = origins;
         Ok(())
     }
 
@@ -361,19 +372,24 @@ impl LiveTasks {
         self.tables.is_ready()
     }
 
-    /// The jobs of the ready tasks, in order of path, each with this view of the cells. Nothing is sorted where they are in order, as
-    /// one alone is.
-    pub fn ready(&mut self, alloc: Global, view: &Shared<Cells>) -> Result<ReadyJobs, OutOfMemory>
+    /// In place of other jobs, those of the ready tasks, in order of path, each with this view of the cells. Nothing is sorted where
+    /// they are in order, as one alone is.
+    pub fn ready(
+        &mut self,
+        alloc: Global,
+        view: &Shared<Cells>,
+        jobs: &mut ReadyJobs,
+    ) -> Result<(), OutOfMemory>
         requires { IsInStep self.old }
-        ensures jobs { IfOk result (λ jobs. jobs ≡ ready_jobs view.now (table_in self.old)) }
+        ensures jobs { OnOk result (jobs.new ≡ ready_jobs view.now (table_in self.old)) }
         ensures table { OnOk result (table_in self.new ≡ table_in self.old) }
         ensures in_step { OnOk result (IsInStep self.new) }
         ensures waits { OnOk result (KeepsWaits self.old.tables self.new.tables) }
     {
         self.tables.order(alloc)?;
         let readies = self.tables.readies.as_slice();
-        let jobs = jobs_of(alloc, &self.tables.slots, readies, view)?;
-        Ok(jobs)
+        put_jobs(&self.tables.slots, readies, view, jobs)?;
+        Ok(())
     }
 
     /// The least time at which a delay ends.

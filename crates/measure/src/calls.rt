@@ -8,7 +8,8 @@ use crate::counting::count_all;
 use crate::watch::{MeasureError, Watch};
 use aerie_base::{List, Model, Name, Plan, Resource, STEP_LIMIT, Shared, Steps};
 use aerie_text::tokens;
-use bench::{Bench, CompiledModel};
+use bench::Bench;
+use history_store::Store;
 use profiles::profile;
 use run_data::Run;
 use session_judge::judge;
@@ -16,10 +17,13 @@ use span_table::spans;
 use std::alloc::Global;
 use std::marker::Brand;
 use std::rt::Clock;
+use std::sync::Wait;
 use std::sync::ledger::{Blank, Ledger};
+use std::thread::Threads;
 
 /// Measures cutting and judging the text of a session, and what is made of its plan.
-pub(crate) fn measure_session<R: Clock>(
+pub(crate) fn measure_session<R: Clock + Threads + Wait + Sync>(
+    rt: &R,
     alloc: Global,
     watch: &mut Watch<R>,
     bytes: &[u8],
@@ -41,11 +45,12 @@ pub(crate) fn measure_session<R: Clock>(
     let plan = &judged.session.plan;
     watch.note("judge", "directives", Some(plan.directives.len() as u64))?;
     let model = &judged.session.models.as_slice()[0].model;
-    measure_shared(alloc, watch, model, plan)
+    measure_shared(rt, alloc, watch, model, plan)
 }
 
 /// Measures simulating a plan, which is copied before the clock starts.
-fn measure_shared<R: Clock>(
+fn measure_shared<R: Clock + Threads + Wait + Sync>(
+    rt: &R,
     alloc: Global,
     watch: &mut Watch<R>,
     model: &Shared<Model>,
@@ -54,11 +59,13 @@ fn measure_shared<R: Clock>(
     requires { IsPlanOf model.now plan.now }
 {
     let plan = Shared::new(alloc, plan.copy(alloc)?)?;
-    measure_plan::<R, Brand, Brand>(alloc, watch, model, &plan, Blank::new(1), Blank::new(1))
+    let (steps, looks) = (Blank::new(1), Blank::new(1));
+    measure_plan::<R, Brand, Brand>(rt, alloc, watch, model, &plan, steps, looks)
 }
 
-/// Measures simulating a plan, what is found on its run, and freeing the run.
-fn measure_plan<R: Clock, L: Ledger, K: Ledger>(
+/// Measures simulating a plan at a bench that holds nothing, what is found on its run, and freeing the run.
+fn measure_plan<R: Clock + Threads + Wait + Sync, L: Ledger, K: Ledger>(
+    rt: &R,
     alloc: Global,
     watch: &mut Watch<R>,
     model: &Shared<Model>,
@@ -71,14 +78,16 @@ fn measure_plan<R: Clock, L: Ledger, K: Ledger>(
     requires looks { (looks.name ≡ K.name) × (looks.parts ≡ K.parts) × (1 ≤ K.parts) }
 {
     let (mut steps, mut looks) = (Steps::<L>::open(steps), Steps::<K>::open(looks));
-    let compiled = CompiledModel::new(alloc, model.share()?)?;
-    let mut bench = Bench::new(&compiled, STEP_LIMIT);
+    let store = Store::new(alloc)?;
+    let mut bench = Bench::new(alloc, model.share()?, STEP_LIMIT, 1)?;
     watch.start()?;
-    let kept = bench.simulate(alloc, plan, None, &mut steps, &mut looks)?;
+    let kept = bench.simulate(rt, alloc, &store, plan, None, &mut steps, &mut looks)?;
     watch.stop()?;
+    let statements = bench.statements();
+    drop(bench);
     let run = kept.get().run();
     let frames = count_all(run.instants.as_slice());
-    watch.note("simulate", "statements", Some(bench.statements()))?;
+    watch.note("simulate", "statements", Some(statements))?;
     watch.note("simulate", "instants", Some(run.instants.len() as u64))?;
     watch.note("simulate", "frames", frames)?;
     measure_findings(alloc, watch, model.get(), run)?;

@@ -13,11 +13,13 @@ use aerie_base::List;
 use calls::measure_session;
 use lines::print_calls;
 use std::rt::Runtime;
+use std::sync::Wait;
+use std::thread::Threads;
 use std::{env, fs};
 use watch::{MeasureError, Measured, Watch};
 
 /// Measures the calls on the session in a file, and prints them beside those on the session before. Answers what was measured.
-fn measure_file<R: Runtime + AllocGlobal>(
+fn measure_file<R: Runtime + AllocGlobal + Threads + Wait + Sync>(
     rt: &R,
     file: &str,
     before: &[Measured],
@@ -25,7 +27,7 @@ fn measure_file<R: Runtime + AllocGlobal>(
 ) -> Result<List<Measured>, MeasureError> {
     let bytes = fs::read(rt, file)?;
     let mut watch = Watch::new(rt.alloc(), rt)?;
-    measure_session(rt.alloc(), &mut watch, bytes.as_slice())?;
+    measure_session(rt, rt.alloc(), &mut watch, bytes.as_slice())?;
     println!(rt; "{file}")?;
     print_calls(rt, watch.calls.as_slice(), before, with_times)?;
     Ok(watch.calls)

@@ -6,7 +6,7 @@ ghost use Rattle.measure_books.specs.Counting.{counting};
 
 use crate::chapters::{Differing, StepNumbers, chapters, empty_book};
 use crate::counting::{counting_model, first_cells, raise};
-use aerie_base::{Model, Shared, Steps};
+use aerie_base::{Model, Shared, Steps, Value};
 use effect_cells::Cells;
 use history_store::{Shelf, Store};
 use record_book::{Book, Chapter};
@@ -57,6 +57,32 @@ fn time_take_in<R: Clock>(
         things = things.saturating_add(chapter.steps().len() as u64);
     }
     Some(since(rt, &begun, things))
+}
+
+/// Looks at the state of each step of chapters, as those do that look for it.
+fn time_walk<R: Clock>(rt: &R, chapters: &[Chapter]) -> Option<Measure> {
+    let begun = Instant::now(rt).ok()?;
+    let (mut seen, mut strange): (u64, u64) = (0, 0);
+    for chapter in chapters {
+        seen = seen.saturating_add(chapter.steps().len() as u64);
+        strange = strange.saturating_add(strange_in(chapter));
+    }
+    if strange > 0 {
+        return None;
+    }
+    Some(since(rt, &begun, seen))
+}
+
+/// How many steps of a chapter are from a state whose first local is no number.
+fn strange_in(chapter: &Chapter) -> u64 {
+    let mut strange: u64 = 0;
+    for step in chapter.steps() {
+        match step.get().before.get().locals.as_slice().first() {
+            Some(Value::Int(_)) => {}
+            _ => strange = strange.saturating_add(1),
+        }
+    }
+    strange
 }
 
 /// Finds each step of chapters by its state and the cells, of which the counter rises by so much from step to step.
@@ -203,6 +229,12 @@ fn print_book<R: Runtime, K: Ledger>(
     print_timed(rt, "take_in, 4,000 at a time", timed)?;
     let timed = time_take_in(rt, alloc, book, &chapters.single)?;
     print_timed(rt, "take_in, one at a time", timed)?;
+    let timed = time_walk(rt, &chapters.all)?;
+    print_timed(
+        rt,
+        "the walk of the next two over the steps that they ask for",
+        timed,
+    )?;
     let timed = time_find(rt, book, &chapters.all, view, by, &mut looks)?;
     print_timed(rt, "find", timed)?;
     let timed = time_holds(rt, book, &chapters.all)?;

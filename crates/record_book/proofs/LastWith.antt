@@ -1,5 +1,6 @@
 -- The last item with a key.
-use Rattle.std.proofs.Common.{◌≡◌, ◌≢◌, ℕ, zero, suc, ◌<◌, Bool, true, false, List, [], ◌∷◌, ◌++◌, length, Option, Some, None, nat_eq, take, slice_get, if◌then◌else◌, refl, ap, sym, subst, ◌∙◌, arith}
+use Rattle.std.proofs.Common.{◌≡◌, ◌≢◌, ℕ, zero, suc, ◌<◌, ◌≤◌, Bool, true, false, List, [], ◌∷◌, ◌++◌, length, Option, Some, None, nat_eq, take, slice_get, if◌then◌else◌, ◌⊎◌, inl, inr, refl, ap, sym, subst, ◌∙◌, arith}
+use Rattle.std.proofs.lemmas.Bool.{cases_lt}
 use Rattle.std.proofs.lemmas.Bool.Decides.{nat_tests}
 use Rattle.record_book.specs.KeyedItems.{position_behind, last_with}
 
@@ -97,3 +98,27 @@ module _ {T : Type 0} where
   first_get (suc n) at [] lt = refl
   first_get (suc n) zero (first ∷ rest) lt = refl
   first_get (suc n) (suc at) (first ∷ rest) lt = first_get n at rest (omega arith)
+
+  -- ---- which it is
+
+  -- an item with the key behind which none has it is the last
+  pub last_is : (key at : ℕ) (item : T) (items : List (ℕ × T)) → slice_get items at ≡ Some (key, item) →
+      ((other : ℕ) (one : T) → at < other → slice_get items other ≡ Some (key, one) → ⊥) → last_with key items ≡ Some at
+  last_is key at item items there none = by (last_with key items) refl
+    where
+      same : (n : ℕ) → last_with key items ≡ Some n → (n < at) ⊎ (at ≤ n) → (at < n) ⊎ (n ≤ at) → n ≡ at
+      same n is (inl lt) other = absurd (none_behind key n at item items is lt there)
+      same n is (inr ge) (inl lt) = let has = last_has_key key n items is in absurd (none n has.0 lt has.1)
+      same n is (inr ge) (inr le) = omega arith
+
+      by : (last : Option ℕ) → last_with key items ≡ last → last ≡ Some at
+      by None is = absurd (none_has_key key at item items is there)
+      by (Some n) is = ap Some (same n is (cases_lt n at) (cases_lt at n))
+
+  -- where none has the key there is no last
+  pub last_is_none : (key : ℕ) (items : List (ℕ × T)) → ((at : ℕ) (one : T) → slice_get items at ≡ Some (key, one) → ⊥) → last_with key items ≡ None
+  last_is_none key items none = by (last_with key items) refl
+    where
+      by : (last : Option ℕ) → last_with key items ≡ last → last ≡ None
+      by None is = refl
+      by (Some n) is = let has = last_has_key key n items is in absurd (none n has.0 has.1)

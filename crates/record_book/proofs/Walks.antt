@@ -43,24 +43,23 @@ module _ {T : Type 0} where
   pub walk_within : (items : List (ℕ × T)) (key : ℕ) (Passes : ℕ → T → Type 0) (at : ℕ) → IsWalk items key Passes (Some at) → at < length items
   walk_within items key Passes at walk = let there = walk_at items key Passes at walk in slice_get_within items at (key, there.0) there.1
 
+  -- none passes behind the item at which it stands
+  pub walk_passed : (items : List (ℕ × T)) (key : ℕ) (Passes : ℕ → T → Type 0) (at : ℕ) → IsWalk items key Passes (Some at) →
+      (other : ℕ) (item : T) → at < other → slice_get items other ≡ Some (key, item) → Passes other item → ⊥
+  walk_passed items key Passes at walk other item lt there passes = elim (cases_lt other walk.from) [
+    | inl below ↦ none_behind key at other item (take walk.from items) (sym walk.is_next) lt (first_get walk.from other items below ∙ there)
+    | inr le ↦ walk.passed other item le there passes
+  ]
+
   pub walk_goes_on : (items : List (ℕ × T)) (key : ℕ) (Passes : ℕ → T → Type 0) (at : ℕ) (next : Option ℕ) → IsWalk items key Passes (Some at) →
       ((item : T) → slice_get items at ≡ Some (key, item) → Passes at item → ⊥) → next ≡ last_with key (take at items) → IsWalk items key Passes next
   walk_goes_on items key Passes at next walk here e = record { from = at; is_next = e; passed = passed }
     where
-      is : last_with key (take walk.from items) ≡ Some at
-      is = sym walk.is_next
-
-      between : (other : ℕ) (item : T) → at < other → slice_get items other ≡ Some (key, item) → Passes other item → ⊥
-      between other item lt there passes = elim (cases_lt other walk.from) [
-        | inl below ↦ none_behind key at other item (take walk.from items) is lt (first_get walk.from other items below ∙ there)
-        | inr le ↦ walk.passed other item le there passes
-      ]
-
       passed : (other : ℕ) (item : T) → at ≤ other → slice_get items other ≡ Some (key, item) → Passes other item → ⊥
       passed other item le there passes = by (cases_lt at other)
         where
           by : (at < other) ⊎ (other ≤ at) → ⊥
-          by (inl lt) = between other item lt there passes
+          by (inl lt) = walk_passed items key Passes at walk other item lt there passes
           by (inr ge) =
               let same : at ≡ other = omega arith in
               here item (ap (slice_get items) same ∙ there) (subst (λ n. Passes n item) (sym same) passes)

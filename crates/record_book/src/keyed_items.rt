@@ -1,28 +1,32 @@
 //! Items with keys of 64 bits, found by their keys, the last ones first.
 
-ghost use Rattle.std.specs.Prelude.{◌≡◌, ◌++◌, ◌∷◌, ◌<◌, ◌-◌, [], length, nat_eq, slice_get, take, OnOk, OnErr, IfSome, IsSome, Some};
-ghost use Rattle.std.specs.HashMap.{get};
-ghost use Rattle.record_book.specs.Chains.{HasAt};
+ghost use Rattle.std.specs.Prelude.{◌≡◌, ◌++◌, ◌∷◌, ◌<◌, ◌≤◌, ◌-◌, ◌^◌, [], length, replicate, slice_get, take, OnOk, OnErr, IfSome, None, Some};
+ghost use Rattle.record_book.specs.Chains.{AreChained, AreInBuckets, bucket, last_beside, with_keys};
 ghost use Rattle.record_book.specs.KeyedItems.{keyed_item, last_with};
 
 use aerie_base::OutOfMemory;
 use std::alloc::Global;
-use std::collections::HashMap;
 use std::marker::Model;
 
-/// An item with its key, and where the last item before it with the same key stands.
+/// How many buckets there are once there is an item.
+const LEAST_BUCKETS: usize = 16;
+
+/// An item with its key, and where the last item before it in its bucket stands.
 #[derive(Drop)]
 pub(crate) struct Keyed<T> {
     key: u64,
     item: T,
-    older: Option<usize>,
+    older: Option<u32>,
 }
 
 /// Items in the order in which they came, each with a key; several may have one key. Contracts see them with their keys.
+///
+/// Keys are spread over buckets, two to four for each item. Of each bucket it is known where its last item stands, and with each item
+/// where the last before it in the same bucket stands: so a search reads one place, and then little else than the items with the key.
 #[derive(Drop)]
 pub(crate) struct KeyedItems<T> {
     items: Vec<Keyed<T>>,
-    newest: HashMap<u64, usize>,
+    newest: Vec<Option<u32>>,
 }
 
 impl<T> Model for KeyedItems<T> {
@@ -36,7 +40,7 @@ impl<T> Model for KeyedItems<T> {
 
     ghost view = { λ it. map with_key it.items.items };
 
-    ghost invariant = { λ it. AreChained it.items.items it.newest };
+    ghost invariant = { λ it. AreChained it.items.items it.newest.items };
 }
 
 impl<T> KeyedItems<T> {
@@ -46,7 +50,7 @@ impl<T> KeyedItems<T> {
     {
         KeyedItems {
             items: Vec::new(alloc),
-            newest: HashMap::new(alloc),
+            newest: Vec::new(alloc),
         }
     }
 
@@ -69,7 +73,9 @@ impl<T> KeyedItems<T> {
     pub(crate) fn newest(&self, key: u64) -> Option<usize>
         ensures { result ≡ last_with key self.now }
     {
-        self.newest.get(&key).copied()
+        let (items, newest) = (self.items.as_slice(), self.newest.as_slice());
+        let first = last_of_bucket(items, newest, key);
+        last_from(items, newest, items.len(), first, key)
     }
 
     /// The position of the last item before this one with the same key.
@@ -77,26 +83,20 @@ impl<T> KeyedItems<T> {
         requires { at < length self.now }
         ensures { IfSome (slice_get self.now at) (λ item. result ≡ last_with item.0 (take at self.now)) }
     {
-        self.items[at].older
+        let (items, newest) = (self.items.as_slice(), self.newest.as_slice());
+        let keyed = &items[at];
+        last_from(items, newest, at, keyed.older, keyed.key)
     }
 }
 
 impl<T: Drop> KeyedItems<T> {
     /// Puts an item with a key behind the last. After want of memory the items are as they were, and the new one is dropped.
-    pub(crate) fn push(&mut self, key: u64, item: T) -> Result<(), OutOfMemory>
+    pub(crate) fn push(&mut self, alloc: Global, key: u64, item: T) -> Result<(), OutOfMemory>
         ensures pushed { OnOk result (self.new ≡ self.old ++ (key, item) ∷ []) }
         ensures unchanged { OnErr result (self.new ≡ self.old) }
     {
-        let older = self.newest(key);
-        let at = self.len();
-        self.items.push(Keyed { key, item, older })?;
-        match self.newest.insert(key, at) {
-            Ok(_) => Ok(()),
-            Err(_) => {
-                let _dropped = self.items.pop();
-                Err(OutOfMemory)
-            }
-        }
+        make_room(alloc, &mut self.items, &mut self.newest)?;
+        push_linked(&mut self.items, &mut self.newest, key, item)
     }
 
     /// Keeps the first items, so many.
@@ -115,22 +115,117 @@ impl<T: Drop> KeyedItems<T> {
         let Some(last) = self.items.pop() else {
             return;
         };
-        put_back(&mut self.newest, last.key, last.older);
+        let at = bucket_of(last.key, self.newest.len());
+        self.newest[at] = last.older;
     }
 }
 
-/// Gives a key that is there the position before its last one; without such a position the key is taken out.
-fn put_back(newest: &mut HashMap<u64, usize>, key: u64, older: Option<usize>)
-    requires { IsSome (get nat_eq newest.old key) }
-    ensures { HasAt key older newest.old newest.new }
+/// The bucket of a key, of so many.
+fn bucket_of(key: u64, count: usize) -> usize
+    requires { 0 < count }
+    ensures value { result ≡ bucket count key }
+    ensures within { result < count }
 {
-    match older {
-        Some(at) => match newest.insert(key, at) {
-            Ok(_) => {}
-            Err(_) => {}
-        },
-        None => {
-            let _at = newest.remove(&key);
-        }
+    (key & (count as u64 - 1)) as usize
+}
+
+/// The position of the last item in the bucket of a key.
+fn last_of_bucket<T>(items: &[Keyed<T>], newest: &[Option<u32>], key: u64) -> Option<u32>
+    requires { AreChained items.now newest.now }
+    ensures { result ≡ last_beside (length newest.now) key (with_keys items.now) }
+{
+    let _ = items;
+    if newest.len() == 0 {
+        return None;
     }
+    let at = bucket_of(key, newest.len());
+    newest[at]
+}
+
+/// The position of the last item with a key before a position, where the last one of its bucket stands before it.
+fn last_from<T>(
+    items: &[Keyed<T>],
+    newest: &[Option<u32>],
+    before: usize,
+    first: Option<u32>,
+    key: u64,
+) -> Option<usize>
+    requires chained { AreChained items.now newest.now }
+    requires within { before ≤ length items.now }
+    requires first { first ≡ last_beside (length newest.now) key (take before (with_keys items.now)) }
+    ensures { result ≡ last_with key (take before (with_keys items.now)) }
+{
+    let (_, _) = (newest, before);
+    let mut next = first;
+    while let Some(at) = next {
+        let keyed = &items[at as usize];
+        if keyed.key == key {
+            return Some(at as usize);
+        }
+        next = keyed.older;
+    }
+    None
+}
+
+/// Makes more buckets where there are fewer than twice as many as items.
+fn make_room<T>(
+    alloc: Global,
+    items: &mut Vec<Keyed<T>>,
+    newest: &mut Vec<Option<u32>>,
+) -> Result<(), OutOfMemory>
+    requires { AreChained items.old.items newest.old.items }
+    ensures chained { AreChained items.new.items newest.new.items }
+    ensures same { with_keys items.new.items ≡ with_keys items.old.items }
+    ensures room { OnOk result (length items.new.items < length newest.new.items) }
+{
+    if items.len() < newest.len() / 2 {
+        return Ok(());
+    }
+    let Some(count) = newest.len().max(LEAST_BUCKETS / 2).checked_mul(2) else {
+        return Err(OutOfMemory);
+    };
+    let mut more = Vec::new(alloc);
+    more.resize(count, None)?;
+    link_all(items.as_mut_slice(), more.as_mut_slice());
+    *newest = more;
+    Ok(())
+}
+
+/// Links items anew, where no bucket has one yet.
+fn link_all<T>(items: &mut [Keyed<T>], newest: &mut [Option<u32>])
+    requires few { length items.old ≤ 2 ^ 32 }
+    requires buckets { 0 < length newest.old }
+    requires none { newest.old ≡ replicate (length newest.old) None }
+    ensures linked { AreInBuckets (length newest.old) (length items.old) items.new newest.new }
+    ensures same { with_keys items.new ≡ with_keys items.old }
+    ensures len { length newest.new ≡ length newest.old }
+{
+    for at in 0..items.len() {
+        let bucket = bucket_of(items[at].key, newest.len());
+        items[at].older = newest[bucket];
+        newest[bucket] = Some(at as u32);
+    }
+}
+
+/// Puts an item with a key behind the last, where there is a bucket for it.
+fn push_linked<T: Drop>(
+    items: &mut Vec<Keyed<T>>,
+    newest: &mut Vec<Option<u32>>,
+    key: u64,
+    item: T,
+) -> Result<(), OutOfMemory>
+    requires chained { AreChained items.old.items newest.old.items }
+    requires room { length items.old.items < length newest.old.items }
+    ensures chained { AreChained items.new.items newest.new.items }
+    ensures pushed { OnOk result (with_keys items.new.items ≡ with_keys items.old.items ++ (key, item) ∷ []) }
+    ensures unchanged { OnErr result (with_keys items.new.items ≡ with_keys items.old.items) }
+{
+    let Ok(place) = u32::try_from(items.len()) else {
+        return Err(OutOfMemory);
+    };
+    let at = bucket_of(key, newest.len());
+    let older = newest[at];
+    items.push(Keyed { key, item, older })?;
+    newest[at] = Some(place);
+    Ok(())
 }

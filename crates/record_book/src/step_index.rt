@@ -18,6 +18,8 @@ use std::hash::Hash;
 pub(crate) struct StepIndex {
     steps: KeyedItems<StoredStep>,
     ways: KeyedItems<KnownWay>,
+    /// For each way where its first step is likely to stand.
+    firsts: Vec<usize>,
 }
 
 impl std::marker::Model for StepIndex {
@@ -43,7 +45,12 @@ impl StepIndex {
     {
         let steps = KeyedItems::new(alloc);
         let ways = KeyedItems::new(alloc);
-        StepIndex { steps, ways }
+        let firsts = Vec::new(alloc);
+        StepIndex {
+            steps,
+            ways,
+            firsts,
+        }
     }
 
     /// How many steps there are.
@@ -58,7 +65,13 @@ impl StepIndex {
     pub(crate) fn has(&self, state: &TaskState, reads: &[(u16, CellState)]) -> bool
         ensures { result ≡ has_record self.now state.now reads.now }
     {
-        is_stored(&self.ways, &self.steps, state, reads)
+        is_stored(
+            &self.ways,
+            &self.steps,
+            self.firsts.as_slice(),
+            state,
+            reads,
+        )
     }
 
     /// The step from this state with whose reads a view of so many cells agrees.
@@ -76,7 +89,14 @@ impl StepIndex {
         if self.steps.len() == 0 {
             return None;
         }
-        match position_in_view(&self.ways, &self.steps, count, state, view) {
+        match position_in_view(
+            &self.ways,
+            &self.steps,
+            self.firsts.as_slice(),
+            count,
+            state,
+            view,
+        ) {
             Some(at) => Some(&self.steps.item(at).step),
             None => None,
         }
@@ -89,7 +109,13 @@ impl StepIndex {
         ensures place { IfOk result (IsPlaceOfRecord self.new step.now.before step.now.reads) }
         ensures unchanged { OnErr result (self.new ≡ self.old) }
     {
-        store(alloc, &mut self.ways, &mut self.steps, step)
+        store(
+            alloc,
+            &mut self.ways,
+            &mut self.steps,
+            &mut self.firsts,
+            step,
+        )
     }
 
     /// Keeps the first steps, so many.

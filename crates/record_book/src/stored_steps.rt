@@ -26,9 +26,10 @@ pub(crate) struct StoredStep {
     pub(crate) way: usize,
 }
 
-/// The position of a step of a way with whose reads the probe agrees.
+/// The position of a step of a way with whose reads the probe agrees. The first step of the way is tried before its key is made.
 pub(crate) fn step_of_way<P: Probe>(
     steps: &KeyedItems<StoredStep>,
+    firsts: &[usize],
     way: usize,
     cells: &[u16],
     probe: &P,
@@ -40,7 +41,29 @@ pub(crate) fn step_of_way<P: Probe>(
     ensures within { IfSome result (λ at. at < length steps.now) }
     ensures none { IfNone result (NoneIsOnWay steps.now way (P.agrees probe.now)) }
 {
-    step_under(steps, probe.key(way, cells), way, probe)
+    match first_of_way(steps, firsts, way, probe) {
+        Some(at) => Some(at),
+        None => step_under(steps, probe.key(way, cells), way, probe),
+    }
+}
+
+/// The position where the first step of a way is likely to stand, where such a step is there and the probe agrees with its reads.
+fn first_of_way<P: Probe>(
+    steps: &KeyedItems<StoredStep>,
+    firsts: &[usize],
+    way: usize,
+    probe: &P,
+) -> Option<usize>
+    requires { ReadOnWay steps.now way (P.covers probe.now) }
+    ensures found { IfSome result (HoldsOfStep steps.now (IsOnWay way (P.agrees probe.now))) }
+    ensures within { IfSome result (λ at. at < length steps.now) }
+{
+    let at = *firsts.get(way)?;
+    if at < steps.len() && is_step_of(steps.item(at), way, probe) {
+        Some(at)
+    } else {
+        None
+    }
 }
 
 /// The position of a step of a way with whose reads the probe agrees, among those with a key.
@@ -77,6 +100,7 @@ fn is_step_of<P: Probe>(stored: &StoredStep, way: usize, probe: &P) -> bool
 pub(crate) fn is_stored(
     ways: &KeyedItems<KnownWay>,
     steps: &KeyedItems<StoredStep>,
+    firsts: &[usize],
     state: &TaskState,
     reads: &[(u16, CellState)],
 ) -> bool
@@ -84,7 +108,7 @@ pub(crate) fn is_stored(
     ensures { result ≡ has_record (records_of steps.now) state.now reads.now }
 {
     match way_number(ways, state, reads) {
-        Some(way) => is_stored_on(ways, steps, way, state, reads),
+        Some(way) => is_stored_on(ways, steps, firsts, way, state, reads),
         None => false,
     }
 }
@@ -93,6 +117,7 @@ pub(crate) fn is_stored(
 fn is_stored_on(
     ways: &KeyedItems<KnownWay>,
     steps: &KeyedItems<StoredStep>,
+    firsts: &[usize],
     way: usize,
     state: &TaskState,
     reads: &[(u16, CellState)],
@@ -102,7 +127,7 @@ fn is_stored_on(
     ensures { result ≡ has_record (records_of steps.now) state.now reads.now }
 {
     let cells = ways.item(way).cells.as_slice();
-    match step_of_way(steps, way, cells, &reads) {
+    match step_of_way(steps, firsts, way, cells, &reads) {
         Some(_) => true,
         None => false,
     }
@@ -112,6 +137,7 @@ fn is_stored_on(
 fn position_stored(
     ways: &KeyedItems<KnownWay>,
     steps: &KeyedItems<StoredStep>,
+    firsts: &[usize],
     way: usize,
     state: &TaskState,
     reads: &[(u16, CellState)],
@@ -123,7 +149,7 @@ fn position_stored(
     ensures none { IfNone result (false ≡ has_record (records_of steps.now) state.now reads.now) }
 {
     let cells = ways.item(way).cells.as_slice();
-    match step_of_way(steps, way, cells, &reads) {
+    match step_of_way(steps, firsts, way, cells, &reads) {
         Some(at) => Some(at),
         None => None,
     }
@@ -135,6 +161,7 @@ pub(crate) fn store(
     alloc: Global,
     ways: &mut KeyedItems<KnownWay>,
     steps: &mut KeyedItems<StoredStep>,
+    firsts: &mut Vec<usize>,
     step: &Shared<Record>,
 ) -> Result<usize, OutOfMemory>
     requires { IsIndex ⟦<TaskState as Hash>⟧.hash_input ways.old steps.old }
@@ -144,13 +171,25 @@ pub(crate) fn store(
     ensures unchanged { OnErr result (records_of steps.new ≡ records_of steps.old) }
 {
     let way = way_taken(alloc, ways, step.get())?;
-    store_on(ways, steps, way, step)
+    note_first(firsts, way, steps.len())?;
+    store_on(alloc, ways, steps, firsts.as_slice(), way, step)
+}
+
+/// Notes where the first step of a way is going to stand, where the way is new. No answer rests on it: it saves a search where a way
+/// has one step, as most have.
+fn note_first(firsts: &mut Vec<usize>, way: usize, at: usize) -> Result<(), OutOfMemory> {
+    if firsts.len() <= way {
+        firsts.resize(way.saturating_add(1), at)?;
+    }
+    Ok(())
 }
 
 /// Puts a step of the way of this number behind the others where none has its state and its reads.
 fn store_on(
+    alloc: Global,
     ways: &KeyedItems<KnownWay>,
     steps: &mut KeyedItems<StoredStep>,
+    firsts: &[usize],
     way: usize,
     step: &Shared<Record>,
 ) -> Result<usize, OutOfMemory>
@@ -163,14 +202,15 @@ fn store_on(
 {
     let record = step.get();
     let reads = record.reads.as_slice();
-    match position_stored(ways, steps, way, record.before.get(), reads) {
+    match position_stored(ways, steps, firsts, way, record.before.get(), reads) {
         Some(at) => Ok(at),
-        None => add_step(ways, steps, way, step),
+        None => add_step(alloc, ways, steps, way, step),
     }
 }
 
 /// Puts a step of the way of this number, which is new, behind the others.
 fn add_step(
+    alloc: Global,
     ways: &KeyedItems<KnownWay>,
     steps: &mut KeyedItems<StoredStep>,
     way: usize,
@@ -187,7 +227,7 @@ fn add_step(
     let key = reads_key(way, step.get().reads.as_slice());
     let at = steps.len();
     let step = step.share()?;
-    match steps.push(key, StoredStep { step, way }) {
+    match steps.push(alloc, key, StoredStep { step, way }) {
         Ok(()) => Ok(at),
         Err(error) => Err(error),
     }
@@ -197,6 +237,7 @@ fn add_step(
 pub(crate) fn position_in_view(
     ways: &KeyedItems<KnownWay>,
     steps: &KeyedItems<StoredStep>,
+    firsts: &[usize],
     count: usize,
     state: &TaskState,
     view: &Cells,
@@ -207,13 +248,14 @@ pub(crate) fn position_in_view(
     ensures within { IfSome result (λ at. at < length steps.now) }
     ensures none { IfNone result (NoneFits steps.now state.now view.now) }
 {
-    position_under(ways, steps, state_key(state), count, state, view)
+    position_under(ways, steps, firsts, state_key(state), count, state, view)
 }
 
 /// The position of the step from this state with whose reads a view of so many cells agrees, of the ways with a key.
 fn position_under(
     ways: &KeyedItems<KnownWay>,
     steps: &KeyedItems<StoredStep>,
+    firsts: &[usize],
     key: u64,
     count: usize,
     state: &TaskState,
@@ -227,7 +269,7 @@ fn position_under(
 {
     let mut next = ways.newest(key);
     while let Some(way) = next {
-        match position_on(ways, steps, way, count, state, view) {
+        match position_on(ways, steps, firsts, way, count, state, view) {
             Some(at) => return Some(at),
             None => next = ways.older(way),
         }
@@ -239,6 +281,7 @@ fn position_under(
 fn position_on(
     ways: &KeyedItems<KnownWay>,
     steps: &KeyedItems<StoredStep>,
+    firsts: &[usize],
     way: usize,
     count: usize,
     state: &TaskState,
@@ -254,7 +297,7 @@ fn position_on(
     let taken = ways.item(way);
     let cells = taken.cells.as_slice();
     if taken.state.get().is_same(state) && are_within(cells, count) {
-        step_of_way(steps, way, cells, view)
+        step_of_way(steps, firsts, way, cells, view)
     } else {
         None
     }

@@ -108,19 +108,23 @@ pub(crate) fn way_taken(
     ensures ways { AreWays ⟦<TaskState as Hash>⟧.hash_input ways.new }
     ensures stay { AllStay ways.old ways.new }
 {
-    match way_number(ways, step.before.get(), step.reads.as_slice()) {
+    let (state, reads) = (step.before.get(), step.reads.as_slice());
+    let key = state_key(state);
+    match way_under(ways, key, state, reads) {
         Some(at) => Ok(at),
-        None => add_way(alloc, ways, step),
+        None => add_way(alloc, ways, key, step),
     }
 }
 
-/// Puts the way of a step, which is new, behind the others.
+/// Puts the way of a step, which is new, behind the others, under its key.
 fn add_way(
     alloc: Global,
     ways: &mut KeyedItems<KnownWay>,
+    key: u64,
     step: &Record,
 ) -> Result<usize, OutOfMemory>
     requires ways { AreWays ⟦<TaskState as Hash>⟧.hash_input ways.old }
+    requires key { key ≡ state_key ⟦<TaskState as Hash>⟧.hash_input step.now.before }
     requires new { HasNo ways.old (way_of_step step.now) }
     ensures found { IfOk result (λ at. keyed_item ways.new at ≡ Some (way_of_step step.now)) }
     ensures ways { AreWays ⟦<TaskState as Hash>⟧.hash_input ways.new }
@@ -128,9 +132,8 @@ fn add_way(
 {
     let cells = read_cells(alloc, step.reads.as_slice())?;
     let state = step.before.share()?;
-    let key = state_key(state.get());
     let at = ways.len();
-    match ways.push(key, KnownWay { state, cells }) {
+    match ways.push(alloc, key, KnownWay { state, cells }) {
         Ok(()) => Ok(at),
         Err(error) => Err(error),
     }

@@ -6,3 +6,11 @@ mod EngineBatches
 mod Looping
 mod Noted
 mod SettledBefore
+mod UnbegunTasks
+mod AlikeByFrames
+mod RisingStates
+mod LastChanges
+mod TaskTraces
+mod CellChanges
+mod Likenesses
+mod EarlyEnds

@@ -31,10 +31,10 @@ cost_by records frames = unmatched frames records
 abbrev pub looks_by : List Frame → ℕ
 looks_by frames = 2 * length frames
 
-cost_adds : (records : List Record) (first rest : List Frame) → cost_by records (first ++ rest) ≡ cost_by records first + cost_by records rest
+pub cost_adds : (records : List Record) (first rest : List Frame) → cost_by records (first ++ rest) ≡ cost_by records first + cost_by records rest
 cost_adds records first rest = unmatched_append first rest records
 
-looks_adds : (first rest : List Frame) → looks_by (first ++ rest) ≡ looks_by first + looks_by rest
+pub looks_adds : (first rest : List Frame) → looks_by (first ++ rest) ≡ looks_by first + looks_by rest
 looks_adds first rest = (let whole = length-append first rest in omega (arith, whole))
 
 -- an engine of a plan, and what was counted beside an old run

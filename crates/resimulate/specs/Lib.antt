@@ -3,4 +3,10 @@ pub mod Noting
 pub mod OldBatches
 pub mod Walks
 pub mod SettledBefore
+pub mod UnbegunTasks
+pub mod AlikeByFrames
 pub mod Cases
+pub mod LastChanges
+pub mod Traces
+pub mod Likeness
+pub mod EarlyEnds

@@ -1,8 +1,14 @@
 //! The fresh run of a plan beside an old run of the model: what the old run has alike is taken over.
 #![tactic(auto)]
 
+mod alike;
+mod cells;
+mod costs;
+mod early_ends;
 pub mod laws;
 mod old_batches;
+mod pace;
+mod traces;
 mod walk;
 
 pub use walk::resimulate;

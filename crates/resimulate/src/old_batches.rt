@@ -9,7 +9,7 @@ use aerie_base::{Shared, Time};
 use run_data::{Frame, Instant};
 
 /// Whether an instant is before a time.
-fn is_earlier(instant: &Shared<Instant>, time: Time) -> bool
+pub(crate) fn is_earlier(instant: &Shared<Instant>, time: Time) -> bool
     ensures { result ≡ is_earlier time instant.now }
 {
     instant.get().time < time

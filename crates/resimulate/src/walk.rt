@@ -1,17 +1,20 @@
 //! The simulation of a plan beside an old run.
 
-ghost use Rattle.std.specs.Prelude.{◌≡◌, ◌≤◌, [], None, IfOk, IfSome, option_map};
+ghost use Rattle.std.specs.Prelude.{◌≡◌, ◌≤◌, [], None, IsTrue, IfOk, IfSome, option_map};
 ghost use Rattle.aerie_base.specs.Ranges.{step_limit};
 ghost use Rattle.aerie_base.specs.plans.OfModel.{IsPlanOf};
 ghost use Rattle.run_data.specs.Fresh.{IsFresh};
 ghost use Rattle.run_data.specs.Waves.{RoseAlike};
 ghost use Rattle.engine_core.specs.BatchGenerations.{Ran};
-ghost use Rattle.engine_core.specs.EngineStates.{jobs_in, OfSameModels};
+ghost use Rattle.engine_core.specs.EngineStates.{batches_in, jobs_in, OfSameModels};
 ghost use Rattle.fitting.specs.Fitting.{IsOldBatch};
+ghost use Rattle.resimulate.specs.EarlyEnds.{IsRest, MayBeEnded};
 ghost use Rattle.resimulate.specs.EvenInstants.{PaysForUneven, LooksForUneven};
 ghost use Rattle.resimulate.specs.Walks.{FindsReady, AreOfNextBatch, BatchDiffers, GoesOn, counts_by};
 
+use crate::early_ends::{may_be_ended, rest_if_alike};
 use crate::old_batches::old_batch;
+use crate::pace::Pace;
 use aerie_base::{Model, OutOfMemory, Plan, Shared, Steps};
 use engine_core::Engine;
 use fitting::fit_job;
@@ -20,7 +23,7 @@ use run_data::laws::{
     reached_states_are_of_the_model, steps_are_small, tasks_stand_by_number, weight_falls,
     what_has_ended_may_be_left_out,
 };
-use run_data::{Frame, Kept, Run, Stepper};
+use run_data::{Frame, Instant, Kept, Run, Stepper};
 use std::alloc::Global;
 use std::sync::ledger::Ledger;
 
@@ -80,7 +83,8 @@ fn old_frames<'a>(
     Ok(found)
 }
 
-/// The next batch of an engine: of the old frames, where all of its own are among these, and else by the stepper.
+/// The next batch of an engine: of the old frames, where all of its own are among these, and else by the stepper. The pace is
+/// told which.
 #[allow(clippy::too_many_arguments)]
 fn next_batch<'a, S: Stepper, L: Ledger, K: Ledger>(
     alloc: Global,
@@ -88,6 +92,7 @@ fn next_batch<'a, S: Stepper, L: Ledger, K: Ledger>(
     bound: u64,
     engine: Engine<'a>,
     beside: Option<&[Frame]>,
+    pace: &mut Pace,
     stepper: &mut S,
     steps: &mut Steps<L>,
     looks: &mut Steps<K>,
@@ -108,20 +113,73 @@ fn next_batch<'a, S: Stepper, L: Ledger, K: Ledger>(
     let found = old_frames(alloc, model, bound, &engine, beside)?;
     match found {
         Some(frames) => {
+            pace.go_on();
             let later = engine.take_over(alloc, frames.as_slice())?;
             Ok(later)
         }
         None => {
+            pace.part();
             let later = engine.step(alloc, stepper, steps, looks)?;
             Ok(later)
         }
     }
 }
 
+/// Whether it is time to compare, at the beginning of an instant.
+fn is_due<'a>(engine: &Engine<'a>, old: &Run, directives: usize, pace: &mut Pace) -> bool
+    requires { jobs_in engine.now.point ≡ [] → ⊥ }
+{
+    let olds = old.instants.as_slice();
+    pace.begin_instant(olds, engine.time());
+    let instants = engine.instants().len();
+    let left = olds.len().saturating_sub(instants);
+    let yes = pace.is_due(instants, left, directives);
+    if yes {
+        pace.compare(instants, directives);
+    }
+    yes
+}
+
+/// The rest of the old run, where it is time to compare and it is known to be the rest of the new run.
+#[allow(clippy::too_many_arguments)]
+fn rest_if_due<'a, 'r>(
+    alloc: Global,
+    model: &Model,
+    plan: &Plan,
+    bound: u64,
+    engine: &Engine<'a>,
+    old: &'r Run,
+    may_end: bool,
+    pace: &mut Pace,
+) -> Result<Option<&'r [Shared<Instant>]>, OutOfMemory>
+    requires model { engine.now.model ≡ model.now }
+    requires plan { engine.now.plan ≡ plan.now }
+    requires bound { engine.now.bound ≡ bound }
+    requires job { jobs_in engine.now.point ≡ [] → ⊥ }
+    requires fresh { IsFresh model.now old.now.plan old.now.bound old.now }
+    requires old_plan { IsPlanOf model.now old.now.plan }
+    requires may { IsTrue may_end → MayBeEnded plan.now old.now }
+    ensures begins { IfOk result (λ found. IfSome found (λ rest. batches_in engine.now.point ≡ [])) }
+    ensures rest { IfOk result (λ found. IfSome found (λ rest. IsRest model.now plan.now bound engine.now rest.now)) }
+{
+    if !may_end {
+        return Ok(None);
+    }
+    if !engine.batches().is_empty() {
+        return Ok(None);
+    }
+    if !is_due(engine, old, plan.directives.as_slice().len(), pace) {
+        return Ok(None);
+    }
+    let found = rest_if_alike(alloc, model, plan, bound, engine, old)?;
+    Ok(found)
+}
+
 /// The fresh run of the plan, for every stepper, whatever the old run is, of any plan of the same model and under any bound.
 /// The bound is at most 100,000,000. A batch whose frames are all among those of the old run at the same time and place is
-/// taken over. For a completed run `steps` rises by at most what no stored step fits of the frames of those instants that are
-/// not even with the old run, and `looks` by at most two for each of these frames.
+/// taken over; where the two are known to be alike behind an instant, the rest of a completed old run is shared. For a
+/// completed run `steps` rises by at most what no stored step fits of the frames of those instants that are not even with the
+/// old run, and `looks` by at most two for each of these frames.
 #[allow(clippy::too_many_arguments)]
 pub fn resimulate<S: Stepper, L: Ledger, K: Ledger>(
     alloc: Global,
@@ -154,11 +212,24 @@ pub fn resimulate<S: Stepper, L: Ledger, K: Ledger>(
     reached_states_are_of_the_model();
     what_has_ended_may_be_left_out();
     let _ = model.cells();
-    let instants = old.run().instants.as_slice();
+    let run = old.run();
+    let instants = run.instants.as_slice();
+    let planned = plan.get();
+    let may_end = may_be_ended(planned, run);
+    let mut pace = Pace::new(instants.len(), planned.directives.as_slice().len());
     let mut engine = Engine::begin(alloc, model, plan, bound)?;
     while !engine.ready().is_empty() {
+        let rest = rest_if_due(
+            alloc, model, planned, bound, &engine, run, may_end, &mut pace,
+        )?;
+        if let Some(rest) = rest {
+            let ended = engine.end_with(rest)?;
+            return Ok(ended);
+        }
         let beside = old_batch(instants, engine.time(), engine.batches().len());
-        engine = next_batch(alloc, model, bound, engine, beside, stepper, steps, looks)?;
+        engine = next_batch(
+            alloc, model, bound, engine, beside, &mut pace, stepper, steps, looks,
+        )?;
     }
     Ok(engine.finish())
 }

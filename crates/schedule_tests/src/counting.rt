@@ -1,42 +1,56 @@
 //! A simulator that counts the plans that are simulated.
 
-ghost use Rattle.std.specs.Prelude.{◌≡◌, ◌≤◌};
+ghost use Rattle.std.specs.Prelude.{◌≡◌, ◌≤◌, IfOk};
 ghost use Rattle.aerie_base.specs.Ranges.{step_limit};
 
-use aerie_base::{OutOfMemory, Plan, Shared, Steps};
-use bench::{Bench, CompiledModel};
+use aerie_base::{Model, OutOfMemory, Plan, Shared, Steps};
+use bench::Bench;
+use history_store::Store;
 use run_data::{Kept, Simulator};
 use std::alloc::Global;
+use std::sync::Wait;
 use std::sync::ledger::Ledger;
+use std::thread::Threads;
 
-/// A bench, with how many plans it was given.
+/// A bench with a store of its own, and how many plans it was given.
 #[derive(Drop)]
-pub(crate) struct Counting<'a> {
-    bench: Bench<'a>,
+pub(crate) struct Counting<'s, R: Threads + Wait + Sync> {
+    bench: Bench,
+    store: Store,
+    rt: &'s R,
     pub(crate) runs: u32,
 }
 
-impl<'a> Counting<'a> {
-    pub(crate) fn new(compiled: &'a CompiledModel, bound: u64) -> Counting<'a>
+impl<'s, R: Threads + Wait + Sync> Counting<'s, R> {
+    pub(crate) fn new(
+        alloc: Global,
+        rt: &'s R,
+        model: Shared<Model>,
+        bound: u64,
+    ) -> Result<Counting<'s, R>, OutOfMemory>
         requires { bound ≤ step_limit }
-        ensures model { result.bench.model ≡ compiled.now }
-        ensures bound { result.bench.bound ≡ bound }
+        ensures model { IfOk result (λ made. made.bench.model ≡ model) }
+        ensures bound { IfOk result (λ made. made.bench.bound ≡ bound) }
     {
-        Counting {
-            bench: Bench::new(compiled, bound),
+        Ok(Counting {
+            bench: Bench::new(alloc, model, bound, 1)?,
+            store: Store::new(alloc)?,
+            rt,
             runs: 0,
-        }
+        })
     }
 }
 
-impl<'a> Simulator for Counting<'a> {
+impl<R: Threads + Wait + Sync> Simulator for Counting<'_, R> {
+    ghost use Rattle.std.specs.Thread.{IsSync};
+
     ghost model = { λ counting. counting.bench.model };
 
     ghost bound = { λ counting. counting.bench.bound };
 
-    ghost address = { λ counting. counting.bench.model_at };
+    ghost address = { λ counting. counting.rt.ref_ptr.0 };
 
-    ghost shares = { Unit {0} };
+    ghost shares = { IsSync R.row };
 
     fn run<L: Ledger, K: Ledger>(
         &mut self,
@@ -46,6 +60,7 @@ impl<'a> Simulator for Counting<'a> {
         looks: &mut Steps<K>,
     ) -> Result<Shared<Kept>, OutOfMemory> {
         self.runs = self.runs.saturating_add(1);
-        self.bench.simulate(alloc, plan, None, steps, looks)
+        self.bench
+            .simulate(self.rt, alloc, &self.store, plan, None, steps, looks)
     }
 }

@@ -8,14 +8,15 @@ ghost use Rattle.goals.specs.OfModel.{is_goal};
 use crate::counting::Counting;
 use crate::rules::goals_in;
 use crate::telling::told;
-use aerie_base::{Plan, Shared, Steps};
-use bench::CompiledModel;
+use aerie_base::{Model, Plan, Shared, Steps};
 use goals::Goal;
 use scheduler::{Schedule, schedule};
 use std::alloc::Global;
 use std::marker::Brand;
 use std::process::Abort;
+use std::sync::Wait;
 use std::sync::ledger::{Blank, Ledger};
+use std::thread::Threads;
 use test_worlds::{Outline, Planned, model_in, plan_of};
 
 /// A plan of a model with goals.
@@ -30,25 +31,26 @@ struct Case<'a> {
 type Counted = (Schedule, u32);
 
 /// The schedule of a plan over a bench, of which a copy is answered.
-fn scheduled<L: Ledger, K: Ledger>(
+fn scheduled<R: Threads + Wait + Sync, L: Ledger, K: Ledger>(
+    rt: &R,
     steps: Blank,
     looks: Blank,
     alloc: Global,
-    compiled: &CompiledModel,
+    model: &Shared<Model>,
     plan: &Shared<Plan>,
     goals: &[Goal],
 ) -> Option<Counted>
     requires steps { (steps.name ≡ L.name) × (steps.parts ≡ L.parts) × (0 < L.parts) }
     requires looks { (looks.name ≡ K.name) × (looks.parts ≡ K.parts) × (0 < K.parts) }
-    requires plan { IsPlanOf compiled.now plan.now }
-    requires goals { IsTrue (list_all (is_goal compiled.now) goals.now) }
+    requires plan { IsPlanOf model.now plan.now }
+    requires goals { IsTrue (list_all (is_goal model.now) goals.now) }
 {
-    let mut counting = Counting::new(compiled, 1000);
+    let mut counting = Counting::new(alloc, rt, model.share().ok()?, 1000).ok()?;
     let mut steps = Steps::<L>::open(steps);
     let mut looks = Steps::<K>::open(looks);
     let made = schedule(
         alloc,
-        compiled.model().get(),
+        model.get(),
         plan,
         goals,
         &[],
@@ -60,26 +62,19 @@ fn scheduled<L: Ledger, K: Ledger>(
     Some((made.copy(alloc).ok()?, counting.runs))
 }
 
-/// The model of a text, with its bodies compiled.
-fn compiled_in(alloc: Global, text: &str) -> Option<CompiledModel> {
-    let model = Shared::new(alloc, model_in(alloc, text)?).ok()?;
-    CompiledModel::new(alloc, model).ok()
-}
-
 /// The schedule of a case.
-fn schedule_of(alloc: Global, case: &Case) -> Option<Counted> {
-    let compiled = compiled_in(alloc, case.model)?;
-    let model = compiled.model().get();
-    let plan = plan_of(alloc, model, &case.outline)?;
-    let goals = goals_in(alloc, case.goals, model, plan.duration)?;
+fn schedule_of<R: Threads + Wait + Sync>(rt: &R, alloc: Global, case: &Case) -> Option<Counted> {
+    let model = Shared::new(alloc, model_in(alloc, case.model)?).ok()?;
+    let plan = plan_of(alloc, model.get(), &case.outline)?;
+    let goals = goals_in(alloc, case.goals, model.get(), plan.duration)?;
     let plan = Shared::new(alloc, plan).ok()?;
     let (steps, looks) = (Blank::new(1), Blank::new(1));
-    scheduled::<Brand, Brand>(steps, looks, alloc, &compiled, &plan, goals.as_slice())
+    scheduled::<R, Brand, Brand>(rt, steps, looks, alloc, &model, &plan, goals.as_slice())
 }
 
 /// The schedule of a case is told so: the goals with what is placed, trials, plans that were simulated, directives.
-fn gives<R: Abort>(rt: &R, alloc: Global, case: &Case, expected: &str) {
-    let (made, runs) = schedule_of(alloc, case).expect(rt, "a schedule");
+fn gives<R: Abort + Threads + Wait + Sync>(rt: &R, alloc: Global, case: &Case, expected: &str) {
+    let (made, runs) = schedule_of(rt, alloc, case).expect(rt, "a schedule");
     let told = told(alloc, &made, runs).expect(rt, "memory");
     assert_eq!(rt; told.as_str(), expected);
 }

@@ -19,7 +19,7 @@ use Rattle.client_work.specs.Working.{own_entries, IsWorkTold}
 use Rattle.session_run.specs.Joined.{joined_texts}
 use Rattle.session_run.specs.Missions.{all_commands, mission_of, opening_of, session_meanings}
 use Rattle.session_run.specs.Performed.{IsPerformedInTurn, serial_journal}
-use Rattle.session_run.specs.Texts.{client_numbered, clients_text}
+use Rattle.session_run.specs.Texts.{AreAllPaidFor, client_numbered, clients_text}
 use Rattle.session_run.specs.Rounds.{AreToldUntil, AreEntriesOf, done_until, HasDoneRounds}
 use Rattle.session_run.proofs.Placed.{placed_all}
 use Rattle.session_run.proofs.Replayed.{in_turn}
@@ -45,9 +45,9 @@ module _ (mission : Mission) (journal : Entries) where
       IsWorkTold mission (client_numbered (base + which) client) 0 client.commands (filter (is_of_client (base + which)) journal) text
 
   pub joined : (base : ℕ) (clients : List Client) (texts : List (List ℕ)) → length texts ≡ length clients → AreTold base clients texts →
-      (counts : ℕ → ℕ → ℕ) × (joined_texts texts ≡ clients_text mission counts journal base clients)
+      (counts : ℕ → ℕ → ℕ) × ((joined_texts texts ≡ clients_text mission counts journal base clients) × AreAllPaidFor mission counts journal base clients)
   unfolding first_then
-  joined base [] [] count told = ((λ which number. 0), refl)
+  joined base [] [] count told = ((λ which number. 0), (refl, tt))
   joined base [] (text ∷ texts) count told = absurd (omega (arith, count))
   joined base (client ∷ clients) [] count told = absurd (omega (arith, count))
   joined base (client ∷ clients) (text ∷ texts) count told =
@@ -56,8 +56,11 @@ module _ (mission : Mission) (journal : Entries) where
       let rest = joined (base + 1) clients texts (omega (arith, count)) (λ which x t at there.
       subst (λ (n : ℕ). IsWorkTold mission (client_numbered n x) 0 x.commands (filter (is_of_client n) journal) t) (omega arith) (told (suc which) x t at there)) in (
         first_then own.0 rest.0,
-        ap (λ (l : List ℕ). l ++ joined_texts texts) own.1
-            ∙ ap (λ (l : List ℕ). told_text mission (client_numbered base client) own.0 (filter (is_of_client base) journal) 0 client.commands ++ l) rest.1,
+        (
+          ap (λ (l : List ℕ). l ++ joined_texts texts) own.1.0
+              ∙ ap (λ (l : List ℕ). told_text mission (client_numbered base client) own.0 (filter (is_of_client base) journal) 0 client.commands ++ l) rest.1.0,
+          (own.1.1, rest.1.1),
+        ),
       )
 
 -- ---- together
@@ -100,8 +103,9 @@ module _ (judged : JudgedSession) (bound : ℕ) (stats : Rattle.std.specs.Prelud
       let all_texts = joined mission journal 0 clients texts told.count (told_whole journal texts told) in
       record {
         counts = all_texts.0;
+        paid = subst (λ (l : Entries). AreAllPaidFor mission all_texts.0 l 0 clients) serial_one all_texts.1.1;
         told =
             whole
-            ∙ ap (λ (l : List ℕ). line_of (journal_data journal) ++ l) all_texts.1
+            ∙ ap (λ (l : List ℕ). line_of (journal_data journal) ++ l) all_texts.1.0
             ∙ ap (λ (l : Entries). line_of (journal_data l) ++ clients_text mission all_texts.0 l 0 clients) serial_one;
       }

@@ -1,3 +1,4 @@
+pub mod ClientBenches
 pub mod Placed
 pub mod Replayed
 pub mod Telling

@@ -283,7 +283,7 @@ module _ (mission : Mission) (clients : List Client) (number which : ℕ) (clien
           sym (take_at client.commands number command has) ∙ ap (λ (n : ℕ). take n client.commands) (next ∙ sym (done_after number (suc which) which (omega arith))) in
           let more = one_more mission (client_numbered which client) command (own_entries numbered.gained) numbered.statements 0 number (take number client.commands)
           (filter (is_of_client which) (own_entries earlier)) text_before (let k = take_length client.commands number command has in omega (arith, k))
-          (subst (λ (l : List Command). IsWorkTold mission (client_numbered which client) 0 l (filter (is_of_client which) (own_entries earlier)) text_before) was_taken was) numbered.parts in
+          (subst (λ (l : List Command). IsWorkTold mission (client_numbered which client) 0 l (filter (is_of_client which) (own_entries earlier)) text_before) was_taken was) numbered.parts numbered.paid in
           let own : filter (is_of_client which) (own_entries earlier) ++ own_entries numbered.gained ≡ filter (is_of_client which) (own_entries earlier ++ own_entries numbered.gained) =
           ap (λ (l : Entries). filter (is_of_client which) (own_entries earlier) ++ l) (sym (all_by meanings which number command [] (own_entries numbered.gained) numbered.parts))
           ∙ sym (filter-append (is_of_client which) (own_entries earlier) (own_entries numbered.gained)) in

@@ -12,7 +12,8 @@ use Rattle.hangar_core.specs.Fits.{IsCommand, Meanings}
 use Rattle.hangar_core.specs.Journals.{Entries}
 use Rattle.hangar_lock.specs.ClientEntries.{reply_of}
 use Rattle.client_work.specs.declared.missions.Mission.{Mission}
-use Rattle.client_work.specs.Lines.{ClientOf, replies_to, told_line, told_text}
+use Rattle.client_work.specs.Counts.{PaysAsReplied}
+use Rattle.client_work.specs.Lines.{ArePaidFor, ClientOf, replies_to, told_line, told_text}
 use Rattle.client_work.specs.Meanings.{meanings_of}
 use Rattle.client_work.specs.Told.{command_told, count_told}
 use Rattle.client_work.specs.Working.{IsWorkTold}
@@ -27,8 +28,9 @@ module _ (mission : Mission) (client : ClientOf) (command : Command) (own : Entr
   pub one_more : (number at : ℕ) (commands : List Command) (entries : Entries) (text : List ℕ) → at ≡ number + length commands →
       IsWorkTold mission client number commands entries text →
       IsCommand (meanings_of mission.models mission.bound) client.number at command [] own →
+      PaysAsReplied mission command (map reply_of own) statements →
       IsWorkTold mission client number (commands ++ (command ∷ [])) (entries ++ own) (text ++ line_told mission client at command statements own)
-  one_more number at [] entries text count told done =
+  one_more number at [] entries text count told done paid =
       let same : at ≡ number = omega (arith, count) in (
         own,
         [],
@@ -36,20 +38,22 @@ module _ (mission : Mission) (client : ClientOf) (command : Command) (own : Entr
         [],
         ap (λ (l : Entries). l ++ own) told.0 ∙ sym (append-nil own),
         subst (λ (n : ℕ). IsCommand (meanings_of mission.models mission.bound) client.number n command [] own) same done,
+        paid,
         ap (λ (l : List ℕ). l ++ line_told mission client at command statements own) told.1
             ∙ ap (λ (n : ℕ). line_told mission client n command statements own) same
             ∙ sym (append-nil (line_told mission client number command statements own)),
         (refl, refl),
       )
-  one_more number at (first ∷ commands) entries text count told done =
-      let later = one_more (number + 1) at commands told.1 told.3 (omega (arith, count)) told.7 done in (
+  one_more number at (first ∷ commands) entries text count told done paid =
+      let later = one_more (number + 1) at commands told.1 told.3 (omega (arith, count)) told.8 done paid in (
         told.0,
         told.1 ++ own,
         told.2,
         told.3 ++ line_told mission client at command statements own,
         ap (λ (l : Entries). l ++ own) told.4 ∙ append_assoc told.0 told.1 own,
         told.5,
-        ap (λ (l : List ℕ). l ++ line_told mission client at command statements own) told.6
+        told.6,
+        ap (λ (l : List ℕ). l ++ line_told mission client at command statements own) told.7
             ∙ append_assoc (line_told mission client number first told.2 told.0) told.3 (line_told mission client at command statements own),
         later,
       )
@@ -84,7 +88,7 @@ of_later mission client number (command ∷ commands) entries text told =
     (of_weaker (λ n. n ≡ number) (λ n. number ≤ n) (λ n same. omega (arith, same)) told.0
     (of_command (meanings_of mission.models mission.bound) client.number number command [] told.0 told.5))
     (of_weaker (λ n. number + 1 ≤ n) (λ n. number ≤ n) (λ n more. omega (arith, more)) told.1
-    (of_later mission client (number + 1) commands told.1 told.3 told.7)))
+    (of_later mission client (number + 1) commands told.1 told.3 told.8)))
 
 -- ---- the entries of a command among all
 
@@ -123,9 +127,10 @@ first_then first later zero = first
 first_then first later (suc number) = later number
 
 pub told_by : (mission : Mission) (client : ClientOf) (number : ℕ) (commands : List Command) (before entries : Entries) (text : List ℕ) → AreOf (λ n. n < number) before →
-    IsWorkTold mission client number commands entries text → (counts : ℕ → ℕ) × (text ≡ told_text mission client counts (before ++ entries) number commands)
+    IsWorkTold mission client number commands entries text →
+    (counts : ℕ → ℕ) × ((text ≡ told_text mission client counts (before ++ entries) number commands) × ArePaidFor mission counts (before ++ entries) number commands)
 unfolding first_then
-told_by mission client number [] before entries text earlier told = ((λ n. 0), told.1)
+told_by mission client number [] before entries text earlier told = ((λ n. 0), (told.1, tt))
 told_by mission client number (command ∷ commands) before entries text earlier told =
     let own : Entries = told.0 in
     let later : Entries = told.1 in
@@ -135,20 +140,28 @@ told_by mission client number (command ∷ commands) before entries text earlier
     (of_both (λ n. n < number + 1) before own
     (of_weaker (λ n. n < number) (λ n. n < number + 1) (λ n less. omega (arith, less)) before earlier)
     (of_weaker (λ n. n ≡ number) (λ n. n < number + 1) (λ n same. omega (arith, same)) own are_own))
-    told.7 in
+    told.8 in
     let replies : replies_to number (before ++ entries) ≡ map reply_of own =
     ap (replies_to number) whole
     ∙ picked number before own later
     (of_weaker (λ n. n < number) (λ n. n ≢ number) (λ n less same. omega (arith, less, same)) before earlier) are_own
     (of_weaker (λ n. number + 1 ≤ n) (λ n. n ≢ number) (λ n more same. omega (arith, more, same)) later
-    (of_later mission client (number + 1) commands later told.3 told.7)) in (
+    (of_later mission client (number + 1) commands later told.3 told.8)) in
+    let later_is : before ++ own ++ later ≡ before ++ entries = append_assoc before own later ∙ sym whole in (
       first_then told.2 rest.0,
-      told.6
-          ∙ ap (λ (l : List Reply). told_line mission client.name number command (command_told mission (count_told mission told.2) command l) ++ told.3) (sym replies)
-          ∙ ap (λ (l : List ℕ). told_line mission client.name number command (command_told mission (count_told mission told.2) command (replies_to number (before ++ entries))) ++ l)
-          (rest.1 ∙ ap (λ (l : Entries). told_text mission client rest.0 l (number + 1) commands) (append_assoc before own later ∙ sym whole)),
+      (
+        told.7
+            ∙ ap (λ (l : List Reply). told_line mission client.name number command (command_told mission (count_told mission told.2) command l) ++ told.3) (sym replies)
+            ∙ ap (λ (l : List ℕ). told_line mission client.name number command (command_told mission (count_told mission told.2) command (replies_to number (before ++ entries))) ++ l)
+            (rest.1.0 ∙ ap (λ (l : Entries). told_text mission client rest.0 l (number + 1) commands) later_is),
+        (
+          subst (λ (l : List Reply). PaysAsReplied mission command l told.2) (sym replies) told.6,
+          subst (λ (l : Entries). ArePaidFor mission rest.0 l (number + 1) commands) later_is rest.1.1,
+        ),
+      ),
     )
 
 pub told_is_text : (mission : Mission) (client : ClientOf) (commands : List Command) (entries : Entries) (text : List ℕ) →
-    IsWorkTold mission client 0 commands entries text → (counts : ℕ → ℕ) × (text ≡ told_text mission client counts entries 0 commands)
+    IsWorkTold mission client 0 commands entries text →
+    (counts : ℕ → ℕ) × ((text ≡ told_text mission client counts entries 0 commands) × ArePaidFor mission counts entries 0 commands)
 told_is_text mission client commands entries text told = told_by mission client 0 commands [] entries text tt told

@@ -217,5 +217,6 @@ module _ (judged : JudgedSession) (bound : ℕ) (stats : Bool) (lock : LockView)
         journal = journal;
         fits = fits;
         counts = all_texts.0;
-        told = whole_text ∙ ap (λ (l : List ℕ). line_of (journal_data journal) ++ l) all_texts.1;
+        paid = all_texts.1.1;
+        told = whole_text ∙ ap (λ (l : List ℕ). line_of (journal_data journal) ++ l) all_texts.1.0;
       }

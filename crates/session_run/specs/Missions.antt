@@ -1,5 +1,5 @@
 -- What the clients of a session work on, and what they do with it.
-use Rattle.std.specs.Prelude.{ℕ, ◌+◌, Bool, List, [], ◌∷◌, get_or, map}
+use Rattle.std.specs.Prelude.{◌≡◌, ℕ, ◌+◌, Bool, List, [], ◌∷◌, get_or, length, map, replicate}
 use Rattle.commands.specs.declared.commands.Command.{Command}
 use Rattle.hangar_core.specs.declared.workspaces.Workspace.{Workspace}
 use Rattle.hangar_core.specs.Fits.{Meanings}
@@ -35,6 +35,10 @@ mission_of judged bound stats = record {
   bound = bound;
   stats = stats;
 }
+
+-- the benches of all clients, each under the bound
+abbrev pub AreBenchesOf : Mission → List Client → List ℕ → Type 0
+AreBenchesOf mission clients benches = benches ≡ replicate (length clients) mission.bound
 
 -- what their commands make of the plans that they fetch
 abbrev pub session_meanings : JudgedSession → ℕ → Meanings

@@ -4,8 +4,8 @@ use Rattle.hangar_core.specs.Fits.{Fits}
 use Rattle.hangar_core.specs.Journals.{Entries}
 use Rattle.hangar_core.specs.Serial.{serial}
 use Rattle.session_judge.specs.declared.judged.JudgedSession.{JudgedSession}
-use Rattle.session_run.specs.Missions.{all_commands, opening_of, session_meanings}
-use Rattle.session_run.specs.Texts.{session_text}
+use Rattle.session_run.specs.Missions.{all_commands, mission_of, opening_of, session_meanings}
+use Rattle.session_run.specs.Texts.{AreAllPaidFor, session_text}
 
 -- a journal that fits the commands of all clients
 abbrev pub FitsSession : JudgedSession → ℕ → Entries → Type 0
@@ -17,14 +17,17 @@ abbrev pub serial_journal : JudgedSession → ℕ → Entries
 serial_journal judged bound =
     serial (session_meanings judged bound) (opening_of judged.session) (all_commands judged.session.clients)
 
--- a text is that of a session along a journal that fits it
+-- A text is that of a session along a journal that fits it. Of the counts of statements, each is at most what the run paid for that is
+-- reported, beside the run that its Fetch gave.
 pub record IsPerformed (judged : JudgedSession) (bound : ℕ) (stats : Bool) (text : List ℕ) : Type 0 where
   pub journal : Entries
   pub fits : FitsSession judged bound journal
   pub counts : ℕ → ℕ → ℕ
+  pub paid : AreAllPaidFor (mission_of judged bound stats) counts journal 0 judged.session.clients
   pub told : text ≡ session_text judged bound stats counts journal
 
 -- along the one of clients in rounds
 pub record IsPerformedInTurn (judged : JudgedSession) (bound : ℕ) (stats : Bool) (text : List ℕ) : Type 0 where
   pub counts : ℕ → ℕ → ℕ
+  pub paid : AreAllPaidFor (mission_of judged bound stats) counts (serial_journal judged bound) 0 judged.session.clients
   pub told : text ≡ session_text judged bound stats counts (serial_journal judged bound)

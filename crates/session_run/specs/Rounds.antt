@@ -9,6 +9,7 @@ use Rattle.hangar_lock.specs.Passes.{PassView}
 use Rattle.hangar_lock.specs.Places.{Places}
 use Rattle.session_reader.specs.declared.session.Client.{Client}
 use Rattle.client_work.specs.declared.missions.Mission.{Mission}
+use Rattle.client_work.specs.Counts.{PaysAsReplied}
 use Rattle.client_work.specs.Meanings.{meanings_of}
 use Rattle.client_work.specs.Lines.{told_line}
 use Rattle.client_work.specs.Told.{command_told, count_told}
@@ -62,6 +63,7 @@ pub record TakesCommand (mission : Mission) (which : ℕ) (client : Client) (num
   pub gains : HasGained before after gained
   pub parts : IsCommand (meanings_of mission.models mission.bound) which number command [] (own_entries gained)
   pub statements : ℕ
+  pub paid : PaysAsReplied mission command (replies_of gained) statements
   pub told : text_after ≡ text_before ++ told_line mission client.name number command (command_told mission (count_told mission statements) command (replies_of gained))
 
 -- a round is done with a pass

@@ -8,7 +8,7 @@ use Rattle.report_text.specs.JournalLines.{journal_data}
 use Rattle.session_reader.specs.declared.session.Client.{Client}
 use Rattle.session_judge.specs.declared.judged.JudgedSession.{JudgedSession}
 use Rattle.client_work.specs.declared.missions.Mission.{Mission}
-use Rattle.client_work.specs.Lines.{ClientOf, told_text}
+use Rattle.client_work.specs.Lines.{ArePaidFor, ClientOf, told_text}
 use Rattle.session_run.specs.Missions.{mission_of}
 
 -- a client with its number
@@ -22,6 +22,13 @@ clients_text mission counts journal number [] = []
 clients_text mission counts journal number (client ∷ clients) =
     told_text mission (client_numbered number client) (counts 0) (filter (is_of_client number) journal) 0 client.commands
     ++ clients_text mission (λ later. counts (suc later)) journal (number + 1) clients
+
+-- each of these counts is one that its command may tell, by what was replied to it in the journal
+abbrev pub AreAllPaidFor : Mission → (ℕ → ℕ → ℕ) → Entries → ℕ → List Client → Type 0
+AreAllPaidFor mission counts journal number [] = Unit {0}
+AreAllPaidFor mission counts journal number (client ∷ clients) =
+    ArePaidFor mission (counts 0) (filter (is_of_client number) journal) 0 client.commands
+    × AreAllPaidFor mission (λ later. counts (suc later)) journal (number + 1) clients
 
 -- the text of a session along a journal: whose part of which command each entry is, and what is told of all commands
 abbrev pub session_text : JudgedSession → ℕ → Bool → (ℕ → ℕ → ℕ) → Entries → List ℕ

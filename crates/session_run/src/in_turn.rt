@@ -1,22 +1,24 @@
 //! The clients' commands in turn: the first of each client, then the second of each, and so on, each whole.
 
-ghost use Rattle.std.specs.Prelude.{◌≡◌, ◌≤◌, IfOk, length, map};
+ghost use Rattle.std.specs.Prelude.{◌≡◌, ◌≤◌, IfOk, OnOk, length, map};
 ghost use Rattle.std.specs.String.{string_bytes};
 ghost use Rattle.hangar_core.specs.Serial.{longest};
 ghost use Rattle.session_reader.specs.FewClients.{AreFewClients};
 ghost use Rattle.client_work.specs.Working.{IsAtWork};
-ghost use Rattle.session_run.specs.Missions.{all_commands};
+ghost use Rattle.session_run.specs.Missions.{AreBenchesOf, all_commands};
 ghost use Rattle.session_run.specs.Rounds.{HasDoneRounds, TakesRound, TakesCommand, texts_without};
 
+use crate::client_benches::client_benches;
 use aerie_base::{OutOfMemory, Steps};
 use aerie_edge::Gate;
-use client_work::{Assignment, ClientCommand, Worker, Workplace, work_on};
+use client_work::{Assignment, Benches, ClientCommand, Worker, Workplace, work_on};
 use commands::Command;
 use hangar_lock::Pass;
 use session_reader::Client as SessionClient;
 use std::alloc::Global;
 use std::sync::Wait;
 use std::sync::ledger::Ledger;
+use std::thread::Threads;
 
 /// The most commands of a client.
 pub(crate) fn longest_of(clients: &[SessionClient]) -> usize
@@ -42,7 +44,7 @@ fn empty_texts(alloc: Global, count: usize) -> Result<Vec<String>, OutOfMemory>
 }
 
 /// A client's command with a number is carried out, and the line that is told of it goes to the end of its text.
-fn take_command<R: Wait, G: Gate, L: Ledger, K: Ledger>(
+fn take_command<R: Threads + Wait + Sync, G: Gate, L: Ledger, K: Ledger>(
     alloc: Global,
     workplace: &Workplace<R, G>,
     client: &SessionClient,
@@ -51,13 +53,16 @@ fn take_command<R: Wait, G: Gate, L: Ledger, K: Ledger>(
     command: &Command,
     pass: &mut Pass,
     text: &mut String,
+    benches: &mut Benches,
     steps: &mut Steps<L>,
     looks: &mut Steps<K>,
 ) -> Result<(), OutOfMemory>
     requires workplace { IsAtWork workplace.now.mission.now workplace.now.lock.now pass.old }
+    requires benches { benches.old ≡ workplace.now.mission.now.bound }
     ensures taken { IfOk result (λ _.
         TakesCommand workplace.now.mission.now which client.now number command.now pass.old pass.new
         (string_bytes text.old) (string_bytes text.new)) }
+    ensures benches { benches.new ≡ benches.old }
     ensures steps { steps.old ≤ steps.new }
 {
     let whose = ClientCommand {
@@ -65,29 +70,37 @@ fn take_command<R: Wait, G: Gate, L: Ledger, K: Ledger>(
         command: number,
     };
     let assignment = Assignment { workplace, whose };
-    let mut worker = Worker { pass, steps, looks };
+    let mut worker = Worker {
+        pass,
+        benches,
+        steps,
+        looks,
+    };
     let line = work_on(alloc, &assignment, &client.name, command, &mut worker)?;
     text.push_str(line.as_str())?;
     Ok(())
 }
 
 /// A round: the command with a number of each client that has one.
-fn take_round<R: Wait, G: Gate, L: Ledger, K: Ledger>(
+fn take_round<R: Threads + Wait + Sync, G: Gate, L: Ledger, K: Ledger>(
     alloc: Global,
     workplace: &Workplace<R, G>,
     clients: &[SessionClient],
     number: usize,
     pass: &mut Pass,
     texts: &mut Vec<String>,
+    benches: &mut Vec<Benches>,
     steps: &mut Steps<L>,
     looks: &mut Steps<K>,
 ) -> Result<(), OutOfMemory>
     requires workplace { IsAtWork workplace.now.mission.now workplace.now.lock.now pass.old }
+    requires benches { AreBenchesOf workplace.now.mission.now clients.now benches.old.items }
     requires few { AreFewClients clients.now }
     requires texts { length texts.old.items ≡ length clients.now }
     ensures taken { IfOk result (λ _.
         TakesRound workplace.now.mission.now clients.now number pass.old pass.new
         (map string_bytes texts.old.items) (map string_bytes texts.new.items)) }
+    ensures benches { OnOk result (AreBenchesOf workplace.now.mission.now clients.now benches.new.items) }
     ensures steps { steps.old ≤ steps.new }
 {
     for which in 0..clients.len() {
@@ -95,6 +108,7 @@ fn take_round<R: Wait, G: Gate, L: Ledger, K: Ledger>(
             let client = &clients[which];
             let command = &client.commands.as_slice()[number];
             let text = &mut texts[which];
+            let benches = &mut benches[which];
             take_command(
                 alloc,
                 workplace,
@@ -104,6 +118,7 @@ fn take_round<R: Wait, G: Gate, L: Ledger, K: Ledger>(
                 command,
                 pass,
                 text,
+                benches,
                 steps,
                 looks,
             )?;
@@ -113,7 +128,7 @@ fn take_round<R: Wait, G: Gate, L: Ledger, K: Ledger>(
 }
 
 /// All rounds, with a pass that has done nothing; the texts are those of the clients.
-pub(crate) fn take_rounds<R: Wait, G: Gate, L: Ledger, K: Ledger>(
+pub(crate) fn take_rounds<R: Threads + Wait + Sync, G: Gate, L: Ledger, K: Ledger>(
     alloc: Global,
     workplace: &Workplace<R, G>,
     clients: &[SessionClient],
@@ -128,9 +143,19 @@ pub(crate) fn take_rounds<R: Wait, G: Gate, L: Ledger, K: Ledger>(
     ensures steps { steps.old ≤ steps.new }
 {
     let mut texts = empty_texts(alloc, clients.len())?;
+    let bound = workplace.mission.bound;
+    let mut benches = client_benches(alloc, clients.len(), bound, workplace.pieces)?;
     for number in 0..longest_of(clients) {
         take_round(
-            alloc, workplace, clients, number, pass, &mut texts, steps, looks,
+            alloc,
+            workplace,
+            clients,
+            number,
+            pass,
+            &mut texts,
+            &mut benches,
+            steps,
+            looks,
         )?;
     }
     Ok(texts)

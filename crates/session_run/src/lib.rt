@@ -2,6 +2,7 @@
 //! together, or what is told of them is counted.
 #![tactic(auto)]
 
+mod client_benches;
 mod counting;
 mod in_turn;
 pub mod laws;

@@ -6,7 +6,6 @@ ghost use Rattle.session_run.specs.Missions.{mission_of, opening_of, ruled_part,
 ghost use Rattle.session_run.specs.Ruled.{HasAllRules};
 
 use aerie_base::{List, Model, OutOfMemory, Shared};
-use bench::CompiledModel;
 use client_work::{Mission, RuledModel};
 use hangar_core::Hangar;
 use plan_edit::{Mapping, copy_plan};
@@ -14,10 +13,9 @@ use session_judge::JudgedSession;
 use session_reader::{ModelPart, Session};
 use std::alloc::Global;
 
-/// A model, compiled, with the rules that stand at its number.
+/// A model with the rules that stand at its number.
 #[tactic(auto, using(crate::proofs::Rules::constraints_many, crate::proofs::Rules::goals_many, crate::proofs::Rules::sequences_many))]
 fn ruled_model(
-    alloc: Global,
     judged: &JudgedSession,
     number: usize,
     part: &ModelPart,
@@ -27,7 +25,7 @@ fn ruled_model(
     ensures { IfOk result (λ ruled. ruled ≡ ruled_part judged.now number part.now) }
 {
     Ok(RuledModel {
-        model: CompiledModel::new(alloc, part.model.share()?)?,
+        model: part.model.share()?,
         constraints: judged.constraints.as_slice()[number].share()?,
         goals: judged.goals.as_slice()[number].share()?,
         sequence: judged.sequences.as_slice()[number].share()?,
@@ -42,7 +40,7 @@ fn ruled_models(alloc: Global, judged: &JudgedSession) -> Result<List<RuledModel
     let mut models = List::with_capacity(alloc, judged.session.models.len())?;
     let parts = judged.session.models.as_slice();
     for number in 0..parts.len() {
-        models.push(ruled_model(alloc, judged, number, &parts[number])?)?;
+        models.push(ruled_model(judged, number, &parts[number])?)?;
     }
     Ok(models)
 }

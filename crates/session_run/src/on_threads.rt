@@ -11,7 +11,7 @@ ghost use Rattle.session_run.specs.Works.{AreDone, AreOf, AreWorksOf, CanWork, H
 
 use aerie_base::{OutOfMemory, Steps};
 use aerie_edge::Gate;
-use client_work::{NumberedClient, Worker, Workplace, work};
+use client_work::{Benches, NumberedClient, Worker, Workplace, work};
 use hangar_lock::{HangarLock, Pass};
 use session_reader::Client as SessionClient;
 use std::alloc::Global;
@@ -59,8 +59,8 @@ pub fn split_works(
     Ok(works)
 }
 
-/// A client's work, with counters that nobody else reads.
-fn counted<R: Wait, G: Gate, L: Ledger, K: Ledger>(
+/// A client's work, with benches of its own and counters that nobody else reads.
+fn counted<R: Threads + Wait + Sync, G: Gate, L: Ledger, K: Ledger>(
     alloc: Global,
     workplace: &Workplace<R, G>,
     client: &SessionClient,
@@ -87,8 +87,10 @@ fn counted<R: Wait, G: Gate, L: Ledger, K: Ledger>(
         name: &client.name,
         number: which,
     };
+    let mut benches = Benches::new(alloc, workplace.mission.bound, workplace.pieces);
     let mut worker = Worker {
         pass,
+        benches: &mut benches,
         steps: &mut steps,
         looks: &mut looks,
     };
@@ -103,7 +105,7 @@ fn counted<R: Wait, G: Gate, L: Ledger, K: Ledger>(
 }
 
 /// The work of a client is done.
-fn do_work<R: Wait, G: Gate>(
+fn do_work<R: Threads + Wait + Sync, G: Gate>(
     alloc: Global,
     workplace: &Workplace<R, G>,
     clients: &[SessionClient],

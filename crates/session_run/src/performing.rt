@@ -18,6 +18,7 @@ use hangar_lock::HangarLock;
 use hangar_lock::laws::{
     commands_are_done, joined_passes_are_whole, joined_passes_fit, passes_have_their_entries,
 };
+use history_store::Store;
 use session_judge::JudgedSession;
 use std::alloc::Global;
 use std::sync::Wait;
@@ -27,13 +28,14 @@ use std::thread::Threads;
 /// Performs a session, its clients in turn: the first command of each, then the second of each, and so on, each whole. Answers
 /// the text that is printed: the line of the journal, and what is told of each client's commands, client by client. A
 /// simulation ends where its cost would pass the bound, at most 100,000,000; with `stats`, reports tell how many statements
-/// their simulations ran. The gate is told when each command's simulation starts and ends; statements and looks are counted.
-pub fn perform_in_turn<R: Wait, G: Gate, L: Ledger, K: Ledger>(
+/// their simulations ran. A wave of a simulation is cut into 1 to 64 pieces, and into no more than are said. The gate is told when each command's simulation starts and ends; statements and looks are counted.
+pub fn perform_in_turn<R: Threads + Wait + Sync, G: Gate, L: Ledger, K: Ledger>(
     alloc: Global,
     rt: &R,
     gate: &G,
     judged: &JudgedSession,
     bound: u64,
+    pieces: u32,
     stats: bool,
     steps: &mut Steps<L>,
     looks: &mut Steps<K>,
@@ -45,12 +47,15 @@ pub fn perform_in_turn<R: Wait, G: Gate, L: Ledger, K: Ledger>(
 {
     commands_are_done();
     let mission = mission(alloc, judged, bound, stats)?;
+    let store = Store::new(alloc)?;
     let (lock, mut pass) = HangarLock::open(alloc, hangar(alloc, &judged.session)?)?;
     let workplace = Workplace {
         rt,
         mission: &mission,
         lock: &lock,
         gate,
+        store: &store,
+        pieces,
     };
     let clients = judged.session.clients.as_slice();
     let texts = take_rounds(alloc, &workplace, clients, &mut pass, steps, looks)?;
@@ -67,6 +72,7 @@ pub fn perform<R: Threads + Wait + Sync, G: Gate>(
     gate: &G,
     judged: &JudgedSession,
     bound: u64,
+    pieces: u32,
     stats: bool,
 ) -> Result<String, OutOfMemory>
     requires session { CanBePerformed judged.now }
@@ -78,12 +84,15 @@ pub fn perform<R: Threads + Wait + Sync, G: Gate>(
     joined_passes_fit();
     joined_passes_are_whole();
     let mission = mission(alloc, judged, bound, stats)?;
+    let store = Store::new(alloc)?;
     let (lock, mut pass) = HangarLock::open(alloc, hangar(alloc, &judged.session)?)?;
     let workplace = Workplace {
         rt,
         mission: &mission,
         lock: &lock,
         gate,
+        store: &store,
+        pieces,
     };
     let clients = judged.session.clients.as_slice();
     let works = split_works(alloc, &lock, &mut pass, clients.len())?;

@@ -14,19 +14,22 @@ use aerie_edge::Gate;
 use client_work::Workplace;
 use hangar_lock::HangarLock;
 use hangar_lock::laws::commands_are_done;
+use history_store::Store;
 use session_judge::JudgedSession;
 use std::alloc::Global;
 use std::sync::Wait;
 use std::sync::ledger::Ledger;
+use std::thread::Threads;
 
 /// Performs a session as `perform_in_turn` does, and answers what is counted of the answers to all commands in place of their
 /// text.
-pub fn summarize_in_turn<R: Wait, G: Gate, L: Ledger, K: Ledger>(
+pub fn summarize_in_turn<R: Threads + Wait + Sync, G: Gate, L: Ledger, K: Ledger>(
     alloc: Global,
     rt: &R,
     gate: &G,
     judged: &JudgedSession,
     bound: u64,
+    pieces: u32,
     steps: &mut Steps<L>,
     looks: &mut Steps<K>,
 ) -> Result<Summary, OutOfMemory>
@@ -37,12 +40,15 @@ pub fn summarize_in_turn<R: Wait, G: Gate, L: Ledger, K: Ledger>(
 {
     commands_are_done();
     let mission = mission(alloc, judged, bound, false)?;
+    let store = Store::new(alloc)?;
     let (lock, mut pass) = HangarLock::open(alloc, hangar(alloc, &judged.session)?)?;
     let workplace = Workplace {
         rt,
         mission: &mission,
         lock: &lock,
         gate,
+        store: &store,
+        pieces,
     };
     let clients = judged.session.clients.as_slice();
     let summary = count_rounds(alloc, &workplace, clients, &mut pass, steps, looks)?;

@@ -9,6 +9,9 @@ pub work_on-requires-clause-workplace : goal.work_on-requires-clause-workplace
 work_on-requires-clause-workplace g c κs within =
     still_at c.args.workplace.now.mission.now c.args.workplace.now.lock.now c.args.worker.now.pass.now c.loop-number.worker.pass.now c.requires.workplace c.loop-number.invariant.done.gains.lock
 
+pub work_on-requires-clause-benches : goal.work_on-requires-clause-benches
+work_on-requires-clause-benches g c κs within = c.loop-number.invariant.later.bound ∙ c.requires.benches
+
 pub loop-number-preserved : goal.loop-number-preserved
 loop-number-preserved g c = record {
   done =

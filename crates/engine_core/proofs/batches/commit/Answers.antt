@@ -20,42 +20,42 @@ same_end frames jobs roots cells before are same =
 
 pub commit_on-requires-clause-made : goal.commit_on-requires-clause-made
 commit_on-requires-clause-made c =
-    let roots : c.as_slice.result.now ≡ map root_of c.args.jobs = c.as_slice.ensures.value ∙ c.into_roots-roots.ensures in
-    rw roots (roots_within step_limit c.args.jobs c.requires.made)
+    let roots : c.as_slice.result.now ≡ map root_of c.args.jobs.now = c.as_slice.ensures.value ∙ c.take_roots-roots.ensures.roots in
+    rw roots (roots_within step_limit c.args.jobs.now c.requires.made)
 
 pub commit_on-requires-clause-fits : goal.commit_on-requires-clause-fits
 commit_on-requires-clause-fits c =
-    let roots : c.as_slice.result.now ≡ map root_of c.args.jobs = c.as_slice.ensures.value ∙ c.into_roots-roots.ensures in
+    let roots : c.as_slice.result.now ≡ map root_of c.args.jobs.now = c.as_slice.ensures.value ∙ c.take_roots-roots.ensures.roots in
     rw (c.in-Some.ensures.value, roots, roots_of_jobs) c.requires.fits
 
 pub commit_on-requires-clause-worth : goal.commit_on-requires-clause-worth
 commit_on-requires-clause-worth c =
-    let roots : c.as_slice.result.now ≡ map root_of c.args.jobs = c.as_slice.ensures.value ∙ c.into_roots-roots.ensures in
+    let roots : c.as_slice.result.now ≡ map root_of c.args.jobs.now = c.as_slice.ensures.value ∙ c.take_roots-roots.ensures.roots in
     rw (roots, roots_of_jobs) c.requires.worth
 
 pub commit_on-requires-2-clause-made : goal.commit_on-requires-2-clause-made
 commit_on-requires-2-clause-made c =
-    let roots : c.as_slice-2.result.now ≡ map root_of c.args.jobs = c.as_slice-2.ensures.value ∙ c.into_roots-roots.ensures in
-    rw roots (roots_within step_limit c.args.jobs c.requires.made)
+    let roots : c.as_slice-2.result.now ≡ map root_of c.args.jobs.now = c.as_slice-2.ensures.value ∙ c.take_roots-roots.ensures.roots in
+    rw roots (roots_within step_limit c.args.jobs.now c.requires.made)
 
 pub commit_on-requires-2-clause-fits : goal.commit_on-requires-2-clause-fits
 commit_on-requires-2-clause-fits c =
-    let roots : c.as_slice-2.result.now ≡ map root_of c.args.jobs = c.as_slice-2.ensures.value ∙ c.into_roots-roots.ensures in
+    let roots : c.as_slice-2.result.now ≡ map root_of c.args.jobs.now = c.as_slice-2.ensures.value ∙ c.take_roots-roots.ensures.roots in
     rw (c.in_ok-own.ensures, c.get.ensures, roots, roots_of_jobs) c.requires.fits
 
 pub commit_on-requires-2-clause-worth : goal.commit_on-requires-2-clause-worth
 commit_on-requires-2-clause-worth c =
-    let roots : c.as_slice-2.result.now ≡ map root_of c.args.jobs = c.as_slice-2.ensures.value ∙ c.into_roots-roots.ensures in
+    let roots : c.as_slice-2.result.now ≡ map root_of c.args.jobs.now = c.as_slice-2.ensures.value ∙ c.take_roots-roots.ensures.roots in
     rw (roots, roots_of_jobs) c.requires.worth
 
 pub returns-in-Some-clause-end : goal.returns-in-Some-clause-end
 returns-in-Some-clause-end c =
-    let roots : c.as_slice.result.now ≡ map root_of c.args.jobs = c.as_slice.ensures.value ∙ c.into_roots-roots.ensures in
-    c.in_ok-end.ensures.end ∙ same_end c.args.frames.items c.args.jobs c.as_slice.result.now c.in-Some.own.now c.args.cells.now roots c.in-Some.ensures.value
+    let roots : c.as_slice.result.now ≡ map root_of c.args.jobs.now = c.as_slice.ensures.value ∙ c.take_roots-roots.ensures.roots in
+    c.in_ok-end.ensures.end ∙ same_end c.args.frames.items c.args.jobs.now c.as_slice.result.now c.in-Some.own.now c.args.cells.now roots c.in-Some.ensures.value
 
 pub returns-clause-end : goal.returns-clause-end
 returns-clause-end c =
-    let roots : c.as_slice-2.result.now ≡ map root_of c.args.jobs = c.as_slice-2.ensures.value ∙ c.into_roots-roots.ensures in
+    let roots : c.as_slice-2.result.now ≡ map root_of c.args.jobs.now = c.as_slice-2.ensures.value ∙ c.take_roots-roots.ensures.roots in
     ap (batch_as c.in_ok-end-2.end) c.in_ok-cells.ensures
     ∙ c.in_ok-end-2.ensures.end
-    ∙ same_end c.args.frames.items c.args.jobs c.as_slice-2.result.now c.in_ok-own.own c.args.cells.now roots (c.in_ok-own.ensures ∙ c.get.ensures)
+    ∙ same_end c.args.frames.items c.args.jobs.now c.as_slice-2.result.now c.in_ok-own.own c.args.cells.now roots (c.in_ok-own.ensures ∙ c.get.ensures)

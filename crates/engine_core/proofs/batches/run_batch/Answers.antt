@@ -5,15 +5,15 @@ use Rattle.engine_core.proofs.BatchJudging.{due_jobs, all_made, no_frames, end_f
 use Rattle.engine_core.proofs.batches.run_batch.Goals as goal
 
 pub all_frames-requires-clause-jobs : goal.all_frames-requires-clause-jobs
-all_frames-requires-clause-jobs g c = due_jobs c.args.model.now c.args.bound c.args.spent c.args.cells.now c.args.ready c.requires.spent c.requires.bound c.requires.ready
+all_frames-requires-clause-jobs g c = due_jobs c.args.model.now c.args.bound c.args.spent c.args.cells.now c.args.ready.now c.requires.spent c.requires.bound c.requires.ready
 
 pub returns-in_default-clause-end : goal.returns-in_default-clause-end
 returns-in_default-clause-end g c =
-    no_frames (λ (all : Vec Frame Global). all.items) c.in_ok-made.made c.args.model.now c.args.bound c.args.spent c.args.ready c.in_default.is c.in_ok-made.ensures.frames c.args.cells.now
+    no_frames (λ (all : Vec Frame Global). all.items) c.in_ok-made.made c.args.model.now c.args.bound c.args.spent c.args.ready.now c.in_default.is c.in_ok-made.ensures.frames c.args.cells.now
 
 pub judge-requires-clause-made : goal.judge-requires-clause-made
 judge-requires-clause-made g c =
-    all_made (λ (all : Vec Frame Global). all.items) c.in_ok-made.made c.same_by_generations.ensures.alike c.args.model.now c.args.bound c.args.spent c.args.ready c.in-Some.frames
+    all_made (λ (all : Vec Frame Global). all.items) c.in_ok-made.made c.same_by_generations.ensures.alike c.args.model.now c.args.bound c.args.spent c.args.ready.now c.in-Some.frames
     c.requires.ready.apart c.in-Some.is c.in_ok-made.ensures.frames
 
 pub returns-clause-frugal : goal.returns-clause-frugal

@@ -1,15 +1,20 @@
-use Rattle.std.proofs.Common.{◌≡◌, ◌∙◌, List, length, sym, ap, subst}
+use Rattle.std.proofs.Common.{◌≡◌, ◌∙◌, List, [], IfSome, length, sym, ap, subst}
 use Rattle.std.proofs.lemmas.Bool.{eqb-false}
 use Rattle.aerie_base.specs.declared.models.model.Parts.{Parts}
+use Rattle.aerie_base.specs.declared.plans.Plan.{Plan}
+use Rattle.aerie_base.specs.plans.OfModel.{IsPlanOf}
 use Rattle.run_data.specs.TaskFrames.{Frame}
 use Rattle.run_data.specs.declared.runs.Instant.{Instant}
 use Rattle.run_data.specs.declared.runs.Run.{Run}
 use Rattle.run_data.specs.Counts.{rose_not}
-use Rattle.engine_core.specs.EngineStates.{jobs_in}
+use Rattle.run_data.specs.Fresh.{IsFresh}
+use Rattle.engine_core.specs.EngineStates.{batches_in, jobs_in}
 use Rattle.fitting.specs.Fitting.{IsOldBatch}
 use Rattle.resimulate.specs.OldBatches.{batch_at}
 use Rattle.engine_core.specs.BatchRuns.{ran_on}
 use Rattle.engine_core.specs.EnginePoints.{some_job, ran_not}
+use Rattle.resimulate.specs.EarlyEnds.{IsRest, MayBeEnded}
+use Rattle.resimulate.proofs.EarlyEnds.{ended_fresh, ended_pays, ended_looks}
 use Rattle.resimulate.proofs.Looping.{beside_first, beside_on, beside_less}
 use Rattle.resimulate.proofs.OldBatches.{old_batches_are, beside_is}
 use Rattle.resimulate.proofs.walk.resimulate.Goals as goal
@@ -17,8 +22,8 @@ use Rattle.resimulate.proofs.walk.resimulate.Goals as goal
 pub returns-in_err-engine-clause-opened : goal.returns-in_err-engine-clause-opened
 returns-in_err-engine-clause-opened g c = rose_not (g.S.Stepper.opened c.args.stepper.now) c.args.steps.now (g.S.Stepper.counted c.args.stepper.now)
 
-pub loop-instants-init : goal.loop-instants-init
-loop-instants-init g c = record {
+pub loop-run-init : goal.loop-run-init
+loop-run-init g c = record {
   beside =
       beside_first c.args.model.now c.args.plan.now c.args.bound c.args.old.now.run (g.S.Stepper.records c.args.stepper.now) c.args.steps.now c.args.looks.now c.in_ok-engine.engine
       c.in_ok-engine.ensures.stands c.in_ok-engine.ensures.model c.in_ok-engine.ensures.plan c.in_ok-engine.ensures.bound c.in_ok-engine.ensures.first;
@@ -30,36 +35,80 @@ loop-instants-init g c = record {
 pub next_batch-requires-clause-old : goal.next_batch-requires-clause-old
 next_batch-requires-clause-old g c =
     let old = c.args.old.now.run in
-    let instants : c.as_slice-instants.result.now ≡ old.instants = c.as_slice-instants.ensures ∙ ap (λ (r : Run). r.instants) c.run.ensures.value in
+    let instants : c.as_slice-instants.result.now ≡ old.instants = c.as_slice-instants.ensures ∙ ap (λ (r : Run). r.instants) c.run-run.ensures.value in
     beside_is (λ frames. frames.now) (IsOldBatch c.args.model.now) c.old_batch-beside.result
     (batch_at c.time.result (length c.batches.result.now) c.as_slice-instants.result.now) c.old_batch-beside.ensures
     (λ frames there.
     subst (λ (m : Parts). IsOldBatch m frames) c.requires.old
-    (old_batches_are c.fresh_runs.ensures.frames c.fresh_runs.ensures.batches c.args.old.now.model old.plan old.bound old c.run.ensures.fresh c.time.result (length c.batches.result.now) frames
+    (old_batches_are c.fresh_runs.ensures.frames c.fresh_runs.ensures.batches c.args.old.now.model old.plan old.bound old c.run-run.ensures.fresh c.time.result (length c.batches.result.now) frames
     (ap (λ (l : List Instant). batch_at c.time.result (length c.batches.result.now) l) (sym instants) ∙ there)))
 
 pub returns-in_err-engine-2-clause-opened : goal.returns-in_err-engine-2-clause-opened
-returns-in_err-engine-2-clause-opened g c = (ran_on c.loop-instants.invariant.ran c.next_batch.ensures.ran).rose
+returns-in_err-engine-2-clause-opened g c = (ran_on c.loop-run.invariant.ran c.next_batch.ensures.ran).rose
 
-pub loop-instants-preserved : goal.loop-instants-preserved
-loop-instants-preserved g c =
+pub loop-run-preserved : goal.loop-run-preserved
+loop-run-preserved g c =
     let old = c.args.old.now.run in
-    let instants : c.as_slice-instants.result.now ≡ old.instants = c.as_slice-instants.ensures ∙ ap (λ (r : Run). r.instants) c.run.ensures.value in
-    let rise = c.instants_rise.ensures.rise c.args.old.now.model old.plan old.bound old c.run.ensures.fresh in
+    let instants : c.as_slice-instants.result.now ≡ old.instants = c.as_slice-instants.ensures ∙ ap (λ (r : Run). r.instants) c.run-run.ensures.value in
+    let rise = c.instants_rise.ensures.rise c.args.old.now.model old.plan old.bound old c.run-run.ensures.fresh in
     let many = ap (λ (l : List (List Frame)). length l) c.batches.ensures in
-    let some = some_job (jobs_in c.loop-instants.engine.point) c.ready.result.now c.ready.ensures.jobs (eqb-false _ 0 (sym c.is_empty.ensures ∙ c.loop-instants-test.true)) in
+    let some = some_job (jobs_in c.loop-run.engine.point) c.ready.result.now c.ready.ensures.jobs (eqb-false _ 0 (sym c.is_empty.ensures ∙ c.loop-run-test.true)) in
     record {
       beside =
-          beside_on c.args.model.now c.args.plan.now c.args.bound old (g.S.Stepper.records c.args.stepper.now) c.args.steps.now c.args.looks.now c.loop-instants.engine c.loop-instants.steps c.loop-instants.looks
-          c.loop-instants.invariant.beside some c.in_ok-engine-2.engine _ (g.S.Stepper.records c.loop-instants.stepper) c.loop-instants.invariant.ran.records c.next_batch.new.steps c.next_batch.new.looks
+          beside_on c.args.model.now c.args.plan.now c.args.bound old (g.S.Stepper.records c.args.stepper.now) c.args.steps.now c.args.looks.now c.loop-run.engine c.loop-run.steps c.loop-run.looks
+          c.loop-run.invariant.beside some c.in_ok-engine-2.engine _ (g.S.Stepper.records c.loop-run.stepper) c.loop-run.invariant.ran.records c.next_batch.new.steps c.next_batch.new.looks
           c.in_ok-engine-2.ensures.goes_on rise (c.old_batch-beside.ensures ∙ (λ i. batch_at (c.time.ensures i) (many i) (instants i)));
-      ran = ran_on c.loop-instants.invariant.ran c.next_batch.ensures.ran;
+      ran = ran_on c.loop-run.invariant.ran c.next_batch.ensures.ran;
     }
 
-pub loop-instants-smaller : goal.loop-instants-smaller
-loop-instants-smaller g c =
-    let some = some_job (jobs_in c.loop-instants.engine.point) c.ready.result.now c.ready.ensures.jobs (eqb-false _ 0 (sym c.is_empty.ensures ∙ c.loop-instants-test.true)) in
-    beside_less c.args.model.now c.args.plan.now c.args.bound c.args.old.now.run (g.S.Stepper.records c.args.stepper.now) c.args.steps.now c.args.looks.now c.loop-instants.engine c.loop-instants.steps
-    c.loop-instants.looks c.loop-instants.invariant.beside some c.in_ok-engine-2.engine _ (g.S.Stepper.records c.loop-instants.stepper) c.loop-instants.invariant.ran.records c.next_batch.new.steps
+pub loop-run-smaller : goal.loop-run-smaller
+loop-run-smaller g c =
+    let some = some_job (jobs_in c.loop-run.engine.point) c.ready.result.now c.ready.ensures.jobs (eqb-false _ 0 (sym c.is_empty.ensures ∙ c.loop-run-test.true)) in
+    beside_less c.args.model.now c.args.plan.now c.args.bound c.args.old.now.run (g.S.Stepper.records c.args.stepper.now) c.args.steps.now c.args.looks.now c.loop-run.engine c.loop-run.steps
+    c.loop-run.looks c.loop-run.invariant.beside some c.in_ok-engine-2.engine _ (g.S.Stepper.records c.loop-run.stepper) c.loop-run.invariant.ran.records c.next_batch.new.steps
     c.next_batch.new.looks c.in_ok-engine-2.ensures.goes_on
     c.what_has_ended_may_be_left_out.ensures.step c.reached_states_are_of_the_model.ensures c.weight_falls.ensures.falls c.cells.ensures.valid
+
+-- ---- the rest of the old run
+
+pub rest_if_due-requires-clause-plan : goal.rest_if_due-requires-clause-plan
+rest_if_due-requires-clause-plan g c = c.loop-run.invariant.beside.same_plan ∙ sym c.get-planned.ensures
+
+pub rest_if_due-requires-clause-fresh : goal.rest_if_due-requires-clause-fresh
+rest_if_due-requires-clause-fresh g c =
+    let old = c.args.old.now.run in
+    subst (λ (r : Run). IsFresh c.args.model.now r.plan r.bound r) (sym c.run-run.ensures.value)
+    (subst (λ (m : Parts). IsFresh m old.plan old.bound old) c.requires.old c.run-run.ensures.fresh)
+
+pub rest_if_due-requires-clause-old_plan : goal.rest_if_due-requires-clause-old_plan
+rest_if_due-requires-clause-old_plan g c =
+    subst (λ (r : Run). IsPlanOf c.args.model.now r.plan) (sym c.run-run.ensures.value)
+    (subst (λ (m : Parts). IsPlanOf m c.args.old.now.run.plan) c.requires.old c.run-run.ensures.plan)
+
+pub rest_if_due-requires-clause-may : goal.rest_if_due-requires-clause-may
+rest_if_due-requires-clause-may g c = λ may.
+    c.may_be_ended-may_end.ensures may
+
+pub returns-in_err-rest-clause-opened : goal.returns-in_err-rest-clause-opened
+returns-in_err-rest-clause-opened g c = c.loop-run.invariant.ran.rose
+
+pub returns-in_err-ended-clause-opened : goal.returns-in_err-ended-clause-opened
+returns-in_err-ended-clause-opened g c = c.loop-run.invariant.ran.rose
+
+pub returns-in-Some-clause-fresh : goal.returns-in-Some-clause-fresh
+returns-in-Some-clause-fresh g c =
+    ended_fresh c.args.model.now c.args.plan.now c.args.bound c.args.old.now.run (g.S.Stepper.records c.args.stepper.now) c.args.steps.now c.args.looks.now c.loop-run.engine c.loop-run.steps
+    c.loop-run.looks c.loop-run.invariant.beside c.in-Some.rest.now c.in_ok-ended.ended c.in_ok-ended.ensures
+    (subst (λ (p : Plan). IsRest c.args.model.now p c.args.bound c.loop-run.engine c.in-Some.rest.now) c.get-planned.ensures (subst (λ found. IfSome found (λ rest. IsRest c.args.model.now c.get-planned.result.now c.args.bound c.loop-run.engine rest.now)) c.in-Some.is c.in_ok-rest.ensures.rest))
+
+pub returns-in-Some-clause-frugal : goal.returns-in-Some-clause-frugal
+returns-in-Some-clause-frugal g c =
+    let some = some_job (jobs_in c.loop-run.engine.point) c.ready.result.now c.ready.ensures.jobs (eqb-false _ 0 (sym c.is_empty.ensures ∙ c.loop-run-test.true)) in
+    ended_pays c.args.model.now c.args.plan.now c.args.bound c.args.old.now.run (g.S.Stepper.records c.args.stepper.now) c.args.steps.now c.args.looks.now c.loop-run.engine c.loop-run.steps
+    c.loop-run.looks c.loop-run.invariant.beside c.in-Some.rest.now c.in_ok-ended.ended c.in_ok-ended.ensures some (subst (λ found. IfSome found (λ rest. batches_in c.loop-run.engine.point ≡ [])) c.in-Some.is c.in_ok-rest.ensures.begins)
+
+pub returns-in-Some-clause-few_looks : goal.returns-in-Some-clause-few_looks
+returns-in-Some-clause-few_looks g c =
+    let some = some_job (jobs_in c.loop-run.engine.point) c.ready.result.now c.ready.ensures.jobs (eqb-false _ 0 (sym c.is_empty.ensures ∙ c.loop-run-test.true)) in
+    ended_looks c.args.model.now c.args.plan.now c.args.bound c.args.old.now.run (g.S.Stepper.records c.args.stepper.now) c.args.steps.now c.args.looks.now c.loop-run.engine c.loop-run.steps
+    c.loop-run.looks c.loop-run.invariant.beside c.in-Some.rest.now c.in_ok-ended.ended c.in_ok-ended.ensures some (subst (λ found. IfSome found (λ rest. batches_in c.loop-run.engine.point ≡ [])) c.in-Some.is c.in_ok-rest.ensures.begins)

@@ -4,13 +4,13 @@ use Rattle.resimulate.proofs.Looping.{IsBeside}
 use Rattle.resimulate.proofs.walk.resimulate.Given as goal
 
 -- the engine is of the plan, and what was run so far is counted
-abbrev pub invariant-loop-instants : goal.invariant-loop-instants
-invariant-loop-instants g l = record {
+abbrev pub invariant-loop-run : goal.invariant-loop-run
+invariant-loop-run g l = record {
   beside : IsBeside l.model l.plan l.bound l.old.run (g.S.Stepper.records l.fn.stepper) l.fn.steps l.fn.looks l.engine l.steps l.looks;
   ran :
       Ran (g.S.Stepper.is_of l.fn.stepper) (g.S.Stepper.is_of l.stepper) (g.S.Stepper.records l.fn.stepper) (g.S.Stepper.records l.stepper)
       (g.S.Stepper.address l.fn.stepper) (g.S.Stepper.address l.stepper) (g.S.Stepper.opened l.fn.stepper) l.fn.steps l.fn.looks (g.S.Stepper.opened l.stepper) l.steps l.looks;
 }
 
-abbrev pub decreases-loop-instants : goal.decreases-loop-instants
-decreases-loop-instants g l = point_weight l.engine.plan l.engine.bound l.engine.point
+abbrev pub decreases-loop-run : goal.decreases-loop-run
+decreases-loop-run g l = point_weight l.engine.plan l.engine.bound l.engine.point

@@ -1,9 +1,10 @@
-use Rattle.std.proofs.Common.{rules, ◌≡◌, sym, subst, ◌∙◌, ◌+◌, ◌<◌, get_or, List, length, arith}
+use Rattle.std.proofs.Common.{rules, ◌≡◌, sym, ap, subst, ◌∙◌, ℕ, ◌+◌, ◌<◌, get_or, List, Vec, Global, length, arith}
 use Rattle.commands.specs.declared.commands.Command.{Command}
 use Rattle.hangar_lock.specs.Passes.{PassView}
 use Rattle.session_reader.specs.declared.session.Client.{Client}
 use Rattle.session_run.specs.declared.summary.Summary.{Summary}
 use Rattle.session_run.proofs.Counted.{count_over, count_passed, command_counted, IsInCount}
+use Rattle.session_run.proofs.ClientBenches.{bench_at, bench_set}
 use Rattle.session_run.proofs.Rounds.{found_at, same_some}
 use Rattle.session_run.proofs.counting.count_round.Goals.{then-number-len+in_ok-count_command, else-number-len}
 use Rattle.session_run.proofs.counting.count_round.Goals as goal
@@ -29,6 +30,11 @@ loop-which-preserved g c = elim c.if-number-len.branch [
             (subst (λ (pass : PassView). IsInCount c.args.workplace.now.mission.now c.args.workplace.now.lock.now c.args.clients.now c.args.number (c.loop-which.which + 1) c.args.pass.now
             pass c.args.summary.now w.count_command.new.summary) (sym w.pass-is) done),
         omega (arith, before, rise, steps),
+        ap (λ (benches : Vec ℕ Global). benches.items) w.benches-is
+            ∙ bench_set c.loop-which.benches.items (length c.args.clients.now) c.args.workplace.now.mission.now.bound c.loop-which.which w.count_command.new.benches c.loop-which.invariant.2
+            (w.count_command.ensures.benches
+            ∙ bench_at c.loop-which.benches.items (length c.args.clients.now) c.args.workplace.now.mission.now.bound c.loop-which.which w.index_mut-benches.result.now c.loop-which.invariant.2 (search rules)
+            w.index_mut-benches.ensures.value),
       )
   | else-number-len w ↦
       let skipped = count_passed c.args.workplace.now.mission.now c.args.workplace.now.lock.now c.args.clients.now c.args.number c.loop-which.which c.args.pass.now c.loop-which.pass
@@ -41,6 +47,7 @@ loop-which-preserved g c = elim c.if-number-len.branch [
             (subst (λ (pass : PassView). IsInCount c.args.workplace.now.mission.now c.args.workplace.now.lock.now c.args.clients.now c.args.number (c.loop-which.which + 1) c.args.pass.now
             pass c.args.summary.now c.loop-which.summary) (sym w.pass-is) skipped),
         omega (arith, before, steps),
+        ap (λ (benches : Vec ℕ Global). benches.items) w.benches-is ∙ c.loop-which.invariant.2,
       )
 ]
 

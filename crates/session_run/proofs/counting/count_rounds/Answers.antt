@@ -7,4 +7,5 @@ loop-number-init g c = (
   nothing_counted c.args.workplace.now.mission.now c.args.clients.now c.args.pass.now c.new-summary.result c.new-summary.ensures,
   c.requires.workplace,
   omega arith,
+  c.in_ok-benches.ensures,
 )

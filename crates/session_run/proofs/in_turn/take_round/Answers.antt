@@ -3,6 +3,7 @@ use Rattle.std.specs.String.{string_bytes}
 use Rattle.commands.specs.declared.commands.Command.{Command}
 use Rattle.hangar_lock.specs.Passes.{PassView}
 use Rattle.session_reader.specs.declared.session.Client.{Client}
+use Rattle.session_run.proofs.ClientBenches.{bench_at, bench_set}
 use Rattle.session_run.proofs.Rounds.{found_at, get_mapped, IsInRound, mapped_length, round_over, round_skipped, round_taken, same_some, text_set, with_text}
 use Rattle.session_run.proofs.in_turn.take_round.Goals.{then-number-len+in_ok-take_command, else-number-len}
 use Rattle.session_run.proofs.in_turn.take_round.Goals as goal
@@ -36,6 +37,11 @@ loop-which-preserved g c = elim c.if-number-len.branch [
             (subst (λ (pass : PassView). IsInRound c.args.workplace.now.mission.now c.args.workplace.now.lock.now c.args.clients.now c.args.number (c.loop-which.which + 1) c.args.pass.now
             pass (map string_bytes c.args.texts.now.items) (with_text c.loop-which.which (string_bytes w.take_command.new.text) (map string_bytes c.loop-which.texts.items))) (sym w.pass-is) done),
         omega (arith, before, rise, steps),
+        ap (λ (benches : Vec ℕ Global). benches.items) w.benches-is
+            ∙ bench_set c.loop-which.benches.items (length c.args.clients.now) c.args.workplace.now.mission.now.bound c.loop-which.which w.take_command.new.benches c.loop-which.invariant.2
+            (w.take_command.ensures.benches
+            ∙ bench_at c.loop-which.benches.items (length c.args.clients.now) c.args.workplace.now.mission.now.bound c.loop-which.which w.index_mut-benches.result.now c.loop-which.invariant.2 (search rules)
+            w.index_mut-benches.ensures.value),
       )
   | else-number-len w ↦
       let skipped = round_skipped c.args.workplace.now.mission.now c.args.workplace.now.lock.now c.args.clients.now c.args.number c.loop-which.which c.args.pass.now c.loop-which.pass
@@ -48,6 +54,7 @@ loop-which-preserved g c = elim c.if-number-len.branch [
             (subst (λ (pass : PassView). IsInRound c.args.workplace.now.mission.now c.args.workplace.now.lock.now c.args.clients.now c.args.number (c.loop-which.which + 1) c.args.pass.now
             pass (map string_bytes c.args.texts.now.items) (map string_bytes c.loop-which.texts.items)) (sym w.pass-is) skipped),
         omega (arith, before, steps),
+        ap (λ (benches : Vec ℕ Global). benches.items) w.benches-is ∙ c.loop-which.invariant.2,
       )
 ]
 

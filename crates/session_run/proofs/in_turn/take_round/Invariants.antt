@@ -1,5 +1,6 @@
 use Rattle.std.proofs.Common.{map, ◌≤◌}
 use Rattle.std.specs.String.{string_bytes}
+use Rattle.session_run.specs.Missions.{AreBenchesOf}
 use Rattle.session_run.proofs.Rounds.{IsInRound}
 use Rattle.session_run.proofs.in_turn.take_round.Given as goal
 
@@ -7,3 +8,4 @@ abbrev pub invariant-loop-which : goal.invariant-loop-which
 invariant-loop-which g l =
     IsInRound l.workplace.mission.now l.workplace.lock.now l.clients l.number l.which l.fn.pass l.pass (map string_bytes l.fn.texts.items) (map string_bytes l.texts.items)
     × (l.fn.steps ≤ l.steps)
+    × AreBenchesOf l.workplace.mission.now l.clients l.benches.items

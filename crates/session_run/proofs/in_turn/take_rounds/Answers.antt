@@ -10,4 +10,5 @@ loop-number-init g c = (
       (sym c.in_ok-texts.ensures) (begun c.args.workplace.now.mission.now c.args.clients.now c.args.pass.now),
   c.requires.workplace,
   omega arith,
+  c.in_ok-benches.ensures,
 )

@@ -15,9 +15,9 @@ to_next_job-requires c =
     on_course c.what_has_ended_may_be_left_out.ensures.step c.args.model.now c.cells.ensures.valid c.args.self.now c.batch_of.new.self c.requires.before.course c.in_ok-batch_of.ensures
 
 pub returns-clause-request : goal.returns-clause-request
-returns-clause-request c = c.in_ok-next.ensures.request ∙ c.in_ok-batch_of.ensures.request
+returns-clause-request c = c.in_ok-to_next_job.ensures.request ∙ c.in_ok-batch_of.ensures.request
 
 pub returns-clause-next : goal.returns-clause-next
 returns-clause-next c =
     leads_next c.args.model.now c.args.self.now c.batch_of.new.self (engine_state_of c.args.model.now c.args.self.now) (point_in c.to_next_job.new.self) refl c.in_ok-batch_of.ensures
-    c.in_ok-next.ensures.leads
+    c.in_ok-to_next_job.ensures.leads

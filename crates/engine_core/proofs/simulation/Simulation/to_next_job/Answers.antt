@@ -29,12 +29,12 @@ ready-requires c = c.loop-self.invariant.course.tasks
 
 pub returns-clause-before : goal.returns-clause-before
 returns-clause-before c =
-    stands_before c.args.model.now c.args.self.now c.loop-self.self c.ready.new.self c.in_ok-jobs.jobs c.loop-self.invariant (sym c.is_idle.ensures ∙ c.loop-self-test.false)
-    c.in_ok-jobs.ensures.stands c.in_ok-jobs.ensures.jobs
+    stands_before c.args.model.now c.args.self.now c.loop-self.self c.ready.new.self c.ready.new.jobs c.loop-self.invariant (sym c.is_idle.ensures ∙ c.loop-self-test.false)
+    c.in_ok-ready.ensures.stands c.in_ok-ready.ensures.jobs
 
 pub returns-clause-request : goal.returns-clause-request
-returns-clause-request c = c.in_ok-jobs.ensures.stands.request ∙ c.loop-self.invariant.request
+returns-clause-request c = c.in_ok-ready.ensures.stands.request ∙ c.loop-self.invariant.request
 
 pub returns-clause-leads : goal.returns-clause-leads
 returns-clause-leads c =
-    led_there c.args.model.now c.args.self.now c.loop-self.self c.ready.new.self c.loop-self.invariant (sym c.is_idle.ensures ∙ c.loop-self-test.false) c.in_ok-jobs.ensures.stands
+    led_there c.args.model.now c.args.self.now c.loop-self.self c.ready.new.self c.loop-self.invariant (sym c.is_idle.ensures ∙ c.loop-self-test.false) c.in_ok-ready.ensures.stands

@@ -7,7 +7,7 @@ use Rattle.live_tasks.proofs.tasks.LiveTasks.plan.Goals as goal
 
 pub returns-clause-planned : goal.returns-clause-planned
 returns-clause-planned c =
-    let after : LiveTasks = record { tables = c.insert.new.self; followers = c.follow.new.followers } in
+    let after : LiveTasks = record c.args.self.now { tables = c.insert.new.self; followers = c.follow.new.followers } in
     subst (λ (s : Slot). Plans s.path s.task c.args.self.now after) c.in_ok-slot.ensures
     (plans_one c.args.self.now after c.in_ok-number.number c.in_ok-slot.slot c.args.anchor
     (subst IsUnbegun (sym c.in_ok-slot.ensures) (record { path = c.requires.path; parent = refl; below = refl; begun = c.requires.begun; phase = (c.args.anchor, c.requires.phase) }))

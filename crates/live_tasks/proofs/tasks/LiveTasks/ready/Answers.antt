@@ -14,7 +14,7 @@ pub returns-clause-jobs : goal.returns-clause-jobs
 returns-clause-jobs c =
     let slots = c.order.new.self.slots.slots in
     let live_ = subst (λ (s : Slots). AreLive (table_of s) s) (ap (λ s. s.slots) (sym c.order.ensures.slots)) c.requires.live_ in
-    c.in_ok-jobs.ensures ∙ ap (λ n. ready_jobs c.args.view.now (entries_at slots n)) c.as_slice-readies.ensures.value
+    c.in_ok-put_jobs.ensures ∙ ap (λ n. ready_jobs c.args.view.now (entries_at slots n)) c.as_slice-readies.ensures.value
     ∙ sym (ready_in_order c.args.view.now (table_of slots) slots c.order.new.self.readies.items live_.are c.in_ok-order.ensures.order)
     ∙ ap (λ (s : Slots). ready_jobs c.args.view.now (table_of s)) (ap (λ s. s.slots) c.order.ensures.slots)
 

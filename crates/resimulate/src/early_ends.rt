@@ -1,0 +1,112 @@
+//! Where a simulation beside an old run may end with the rest of that run.
+
+ghost use Rattle.std.specs.Prelude.{◌≡◌, ◌≤◌, ◌+◌, [], IsTrue, IfOk, IfSome};
+ghost use Rattle.aerie_base.specs.plans.OfModel.{IsPlanOf};
+ghost use Rattle.run_data.specs.declared.runs.Outcome.TheVariants.{Completed};
+ghost use Rattle.run_data.specs.Fresh.{IsFresh};
+ghost use Rattle.run_data.specs.laws.RunCosts.{cost_of_instants};
+ghost use Rattle.engine_core.specs.EngineStates.{batches_in, jobs_in};
+ghost use Rattle.resimulate.specs.EarlyEnds.{EndAtOnce, IsRest, MayBeEnded};
+
+use crate::alike::tell_alike;
+use crate::costs::left_after_instants;
+use crate::laws::{frames_tell_alike, instants_follow_settled_states, last_changes_tell_cells};
+use crate::old_batches::is_earlier;
+use aerie_base::{Model, OutOfMemory, Plan, Shared};
+use engine_core::Engine;
+use run_data::laws::{rest_of_old_run_is_taken_over, tasks_are_traced_by_their_frames};
+use run_data::{Instant, Outcome, Run};
+use std::alloc::Global;
+
+/// Whether a run came to the end of its plan.
+fn is_completed(run: &Run) -> bool
+    ensures { IsTrue result → run.now.outcome ≡ Completed }
+{
+    matches!(run.outcome, Outcome::Completed)
+}
+
+/// Whether two plans last as long.
+fn last_as_long(plan: &Plan, old_plan: &Plan) -> bool
+    ensures { IsTrue result → plan.now.duration ≡ old_plan.now.duration }
+{
+    plan.duration == old_plan.duration
+}
+
+/// Whether an old run is one that may end a simulation of a plan: it was completed, and its plan lasts as long.
+pub(crate) fn may_be_ended(plan: &Plan, old: &Run) -> bool
+    ensures { IsTrue result → MayBeEnded plan.now old.now }
+{
+    is_completed(old) && last_as_long(plan, old.plan.get())
+}
+
+/// Whether some instants end at the time at which others do.
+fn end_at_once(instants: &[Shared<Instant>], others: &[Shared<Instant>]) -> bool
+    ensures { IsTrue result → EndAtOnce instants.now others.now }
+{
+    match instants.last() {
+        Some(last) => match others.last() {
+            Some(other) => last.get().time == other.get().time,
+            None => false,
+        },
+        None => false,
+    }
+}
+
+/// Whether what is left of a bound pays for some instants.
+fn can_pay(spent: u64, rest: &[Shared<Instant>], bound: u64) -> bool
+    ensures { IsTrue result → spent + cost_of_instants rest.now ≤ bound }
+{
+    if spent > bound {
+        return false;
+    }
+    match left_after_instants(bound - spent, rest) {
+        Some(_) => true,
+        None => false,
+    }
+}
+
+/// The rest of the old run, from the time of the next batch on, if it is known to be that of the new one.
+pub(crate) fn rest_if_alike<'a, 'r>(
+    alloc: Global,
+    model: &Model,
+    plan: &Plan,
+    bound: u64,
+    engine: &Engine<'a>,
+    old: &'r Run,
+) -> Result<Option<&'r [Shared<Instant>]>, OutOfMemory>
+    requires model { engine.now.model ≡ model.now }
+    requires plan { engine.now.plan ≡ plan.now }
+    requires bound { engine.now.bound ≡ bound }
+    requires job { jobs_in engine.now.point ≡ [] → ⊥ }
+    requires begins { batches_in engine.now.point ≡ [] }
+    requires fresh { IsFresh model.now old.now.plan old.now.bound old.now }
+    requires old_plan { IsPlanOf model.now old.now.plan }
+    requires may { MayBeEnded plan.now old.now }
+    ensures { IfOk result (λ found. IfSome found (λ rest. IsRest model.now plan.now bound engine.now rest.now)) }
+{
+    instants_follow_settled_states();
+    frames_tell_alike();
+    last_changes_tell_cells();
+    tasks_are_traced_by_their_frames();
+    rest_of_old_run_is_taken_over();
+    let _ = model.cells();
+    let _ = engine.ready();
+    let time = engine.time();
+    let instants = engine.instants();
+    let olds = old.instants.as_slice();
+    let at = olds.partition_point(|instant| is_earlier(instant, time));
+    let parts = olds.split_at(at);
+    let before = parts.0;
+    let rest = parts.1;
+    if !end_at_once(instants, before) {
+        return Ok(None);
+    }
+    if !can_pay(engine.spent(), rest, bound) {
+        return Ok(None);
+    }
+    let alike = tell_alike(alloc, model, plan, old.plan.get(), instants, before)?;
+    if !alike {
+        return Ok(None);
+    }
+    Ok(Some(rest))
+}

@@ -1,0 +1,105 @@
+//! When a simulation beside an old run is compared with it. That goes over all frames so far, so it is done seldom: where it may
+//! succeed, where enough is left of the old run to gain by it, and as long as all comparisons cost a small part of a simulation.
+
+use crate::old_batches::is_earlier;
+use aerie_base::{Shared, Time};
+use run_data::Instant;
+
+/// How many batches in a row have to be taken over behind a difference, before the first comparison.
+const FIRST_CALM: u32 = 8;
+
+/// By how much longer that has to be after each comparison that told no likeness.
+const PATIENCE: u32 = 4;
+
+/// How much all comparisons may cost at first: the part of the old run's instants that they go over.
+const SHARE: usize = 8;
+
+/// How many batches are taken over to pay for going over one instant more.
+const BATCHES_FOR_ONE: u32 = 2;
+
+/// How many directives cost as much as an instant.
+const DIRECTIVES_IN_ONE: usize = 8;
+
+/// What was taken over so far, and when to compare.
+#[derive(Clone, Copy)]
+pub(crate) struct Pace {
+    /// The batches in a row that were taken over.
+    calm: u32,
+    /// How many of them are waited for.
+    wait: u32,
+    /// Whether the runs differed in some batch.
+    is_apart: bool,
+    /// How many instants comparisons may still go over.
+    allowed: usize,
+    /// The batches that were taken over and have not been counted in `allowed`.
+    spare: u32,
+    /// The index of the next instant of the old run.
+    next: usize,
+}
+
+/// How many instants a comparison goes over, behind so many and with so many directives.
+fn price(instants: usize, directives: usize) -> usize {
+    instants.saturating_add(directives / DIRECTIVES_IN_ONE)
+}
+
+impl Pace {
+    /// Before any batch, beside an old run of so many instants.
+    pub(crate) fn new(olds: usize, directives: usize) -> Pace {
+        Pace {
+            calm: 0,
+            wait: 1,
+            is_apart: false,
+            allowed: price(olds / SHARE, directives),
+            spare: 0,
+            next: 0,
+        }
+    }
+
+    /// At the beginning of an instant. An instant of the old run that was passed over is a difference too.
+    pub(crate) fn begin_instant(&mut self, olds: &[Shared<Instant>], time: Time) {
+        let at = olds.partition_point(|instant| is_earlier(instant, time));
+        if at > self.next {
+            self.part();
+        }
+        self.next = match olds.get(at) {
+            Some(old) if old.get().time == time => at.saturating_add(1),
+            _ => at,
+        };
+    }
+
+    /// Whether to compare now, behind so many instants, where so many are left of the old run.
+    pub(crate) fn is_due(&self, instants: usize, left: usize, directives: usize) -> bool {
+        let price = price(instants, directives);
+        self.calm >= self.wait && price <= self.allowed && price <= left
+    }
+
+    /// When a comparison begins. Should it tell no likeness, the next one has to wait longer; where the runs did not differ in any
+    /// batch yet, until they do.
+    pub(crate) fn compare(&mut self, instants: usize, directives: usize) {
+        self.allowed = self.allowed.saturating_sub(price(instants, directives));
+        self.wait = if self.is_apart {
+            self.wait.saturating_mul(PATIENCE)
+        } else {
+            u32::MAX
+        };
+    }
+
+    /// After a batch that was taken over.
+    pub(crate) fn go_on(&mut self) {
+        self.calm = self.calm.saturating_add(1);
+        self.spare = self.spare.saturating_add(1);
+        if self.spare >= BATCHES_FOR_ONE {
+            self.spare = 0;
+            self.allowed = self.allowed.saturating_add(1);
+        }
+    }
+
+    /// After a batch that was looked up, or instants of the old run that were passed over.
+    pub(crate) fn part(&mut self) {
+        self.calm = 0;
+        if !self.is_apart {
+            self.is_apart = true;
+            self.wait = FIRST_CALM;
+        }
+    }
+}
