@@ -65,11 +65,7 @@ fn joined<R: Wait>(
 }
 
 /// The journal of what two passes did, and whether each branch began.
-fn shared<R: Wait>(
-    alloc: Global,
-    rt: &R,
-    hangar: Hangar,
-) -> Option<(Journal, [Option<bool>; 3])>
+fn shared<R: Wait>(alloc: Global, rt: &R, hangar: Hangar) -> Option<(Journal, [Option<bool>; 3])>
     requires { hangar.accepted ≡ 0 }
 {
     let (lock, mut first) = HangarLock::open(alloc, hangar).ok()?;
