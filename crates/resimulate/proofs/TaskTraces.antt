@@ -22,6 +22,7 @@ use Rattle.run_data.specs.TableLaws.{is_same, path_itself}
 use Rattle.std.specs.Ordering.{is_eq}
 use Rattle.run_data.specs.laws.EndedTasks.{open_is, is_open_status}
 use Rattle.run_data.specs.laws.TracedTasks.{timed, timed_batches, timed_instants, traced}
+use Rattle.resimulate.specs.AlikeByFrames.{task_by}
 use Rattle.resimulate.specs.declared.traces.Trace.{Trace}
 use Rattle.resimulate.specs.Traces.{TraceList, trace_of, IsChildCount, IsChildCountOf, TellsTask, TellTasks, TakesIn, TakesInForAny, CountsToo, TellSame, is_delay}
 
@@ -184,6 +185,17 @@ all_taken asked frames_of items k before after most takes = subst (λ l. TakesIn
 -- where nothing was noted yet, what is learnt is what the frames leave
 pub first_learnt : (asked : List ℕ → Bool) (frames : List (ℕ × Frame)) (after : TraceList) (start : List ℕ → Option Task) → TakesIn asked frames [] after → TellTasks asked start after (λ path. traced path frames (start path))
 first_learnt asked frames after start learns = learns start start (λ path wanted. refl)
+
+-- ---- more instants
+
+timed_append : (first rest : List Instant) → timed_instants (first ++ rest) ≡ timed_instants first ++ timed_instants rest
+timed_append [] rest = refl
+timed_append (one ∷ others) rest =
+    ap (λ l. timed_batches one.time one.batches ++ l) (timed_append others rest) ∙ sym (append_assoc (timed_batches one.time one.batches) (timed_instants others) (timed_instants rest))
+
+-- a task behind some instants is as the later ones leave it
+pub task_append : (first later : List Instant) (path : List ℕ) → task_by (first ++ later) path ≡ traced path (timed_instants later) (task_by first path)
+task_append first later path = ap (λ l. traced path l None) (timed_append first later) ∙ traced_append path (timed_instants first) (timed_instants later) None
 
 -- ---- what traces tell
 
