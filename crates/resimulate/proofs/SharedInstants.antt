@@ -1,7 +1,9 @@
 -- Where plans differ in directives none of which is due before a time, their simulations have the instants until then in common.
 use Rattle.std.proofs.Common.{◌≡◌, ◌⊎◌, inl, inr, ℕ, zero, suc, ◌+◌, ◌-◌, ◌<◌, ◌≤◌, nat_lt, Bool, true, false, List, [], ◌∷◌, ◌++◌, length, take, drop, get_or, Option, Some, None, slice_get, refl, sym, ap, ◌∙◌, subst, IsTrue, if◌then◌else◌, append_assoc, add-one, arith}
 use Rattle.std.proofs.Math.Seq.{take-suc}
+use Rattle.std.proofs.lemmas.Bool.{ltb-true, lt-ltb}
 use Rattle.std.proofs.lemmas.List.{append-nil}
+use Rattle.std.specs.List.{AllWithin}
 use Rattle.aerie_base.specs.declared.models.model.Parts.{Parts}
 use Rattle.aerie_base.specs.declared.plans.Anchor.{Anchor}
 use Rattle.aerie_base.specs.declared.plans.Directive.{Directive}
@@ -22,7 +24,7 @@ use Rattle.run_data.specs.laws.LateDifferences.{common_directives, instants_befo
 use Rattle.run_data.specs.laws.Orders.{EachOf}
 use Rattle.resimulate.specs.EarlyEnds.{MayBeEnded}
 use Rattle.resimulate.specs.OldBatches.{is_earlier}
-use Rattle.resimulate.specs.Partings.{is_between, others_of, StartsLater, IsDueLater, DifferLater, SkipsTo, IsNextToo, SharesFirst}
+use Rattle.resimulate.specs.Partings.{AreEarly, is_between, others_of, StartsLater, IsDueLater, DifferLater, SkipsTo, IsNextToo, SharesFirst}
 use Rattle.resimulate.proofs.TaskTraces.{drop_next, drop_past}
 
 -- ---- each of a list
@@ -97,7 +99,7 @@ extends_then one two three first second =
     (first.0 ++ second.0, second.1 ∙ ap (λ l. l ++ second.0) first.1 ∙ append_assoc one first.0 second.0)
 
 module _ (model : Parts) (plan : Plan) (bound : ℕ) where
-  Step : Next SimulationState Run → Next SimulationState Run
+  abbrev Step : Next SimulationState Run → Next SimulationState Run
   Step point = and_on SimulationState Run (next_state model plan bound) point
 
   same_on : (instants : List Instant) → Extends instants instants
@@ -132,7 +134,7 @@ module _ (model : Parts) (plan : Plan) (bound : ℕ) where
   step_on (more at) = by_jobs at (ready_jobs at.cells at.table)
   step_on (finished run) = same_on run.instants
 
-  After : ℕ → Next SimulationState Run → Next SimulationState Run
+  abbrev After : ℕ → Next SimulationState Run → Next SimulationState Run
   After count point = iterate SimulationState Run (next_state model plan bound) count point
 
   goes_on : (count : ℕ) (point : Next SimulationState Run) → Extends (instants_of point) (instants_of (After count point))
@@ -166,10 +168,6 @@ same_first : (number : ℕ) (instants others : List Instant) → number ≤ leng
 same_first number instants others within within_too (inl longer) = sym (ap (take number) longer.1 ∙ take_front number instants longer.0 within)
 same_first number instants others within within_too (inr longer) = ap (take number) longer.1 ∙ take_front number others longer.0 within_too
 
--- the instants before an index are before a time
-abbrev pub AreEarly : ℕ → ℕ → List Instant → Type 0
-AreEarly until at instants = (k : ℕ) (d : Instant) → k < at → is_earlier until (get_or instants k d) ≡ true
-
 module _ (until : ℕ) where
   goes_first : (first : Instant) (rest : List Instant) → is_earlier until first ≡ true → instants_before until (first ∷ rest) ≡ first ∷ instants_before until rest
   goes_first first rest e = ap (λ (b : Bool). if b then first ∷ instants_before until rest else []) e
@@ -179,13 +177,23 @@ module _ (until : ℕ) where
   before_first zero instants most early = (refl, omega arith)
   before_first (suc number) [] most early = absurd (omega (arith, most))
   before_first (suc number) (first ∷ rest) most early =
-      let further = before_first number rest (omega (arith, most)) (λ k d less. early (suc k) d (omega (arith, less))) in
-      let here = goes_first first rest (early 0 first (omega arith)) in
+      let further = before_first number rest (omega (arith, most)) (λ k one there less. early (suc k) one there (omega (arith, less))) in
+      let here = goes_first first rest (lt-ltb first.time until (early 0 first refl (omega arith))) in
       let long = further.1 in
       let is = ap (λ (l : List Instant). length l) here in (
         ap (take (suc number)) here ∙ ap (λ l. first ∷ l) further.0,
         omega (arith, long, is),
       )
+
+-- so they are before an index that is found by halves
+get_of : (instants : List Instant) (k : ℕ) (one : Instant) → slice_get instants k ≡ Some one → get_or instants k one ≡ one
+get_of [] k one e = refl
+get_of (first ∷ rest) zero one e = cc
+get_of (first ∷ rest) (suc k) one e = get_of rest k one e
+
+pub early_by_halves : (until at : ℕ) (instants : List Instant) → at ≤ length instants → AllWithin (λ one. is_earlier until one ≡ true) instants 0 at → AreEarly until at instants
+early_by_halves until at instants most low k one there less =
+    ltb-true one.time until (ap (is_earlier until) (sym (get_of instants k one there)) ∙ low k one (omega arith) less)
 
 pub none_shared : (model : Parts) (plan : Plan) (bound : ℕ) (old : Run) → SharesFirst model plan bound old 0
 none_shared model plan bound old point comes zero less within = refl
@@ -226,4 +234,4 @@ shares same affords model plan bound old valid is old_is may fresh more_bound fi
     place = same (is_between first past) until model plan old.plan bound old.bound old late differ.some_time fresh
 
     both : (take number (instants_before until old.instants) ≡ take number old.instants) × (number ≤ length (instants_before until old.instants))
-    both = before_first until number old.instants (omega (arith, less, within)) (λ k d k_less. early k d (omega (arith, k_less, less)))
+    both = before_first until number old.instants (omega (arith, less, within)) (λ k one there k_less. early k one there (omega (arith, k_less, less)))

@@ -4,6 +4,7 @@ use Rattle.aerie_base.specs.declared.models.model.Parts.{Parts}
 use Rattle.aerie_base.specs.declared.plans.Anchor.{Anchor}
 use Rattle.aerie_base.specs.declared.plans.Directive.{Directive}
 use Rattle.aerie_base.specs.declared.plans.Plan.{Plan}
+use Rattle.run_data.specs.declared.runs.Instant.{Instant}
 use Rattle.run_data.specs.declared.runs.Run.{Run}
 use Rattle.run_data.specs.Fresh.{SimulationState, IsReached}
 use Rattle.run_data.specs.Transitions.{Next}
@@ -49,6 +50,10 @@ IsNextToo first past one others from to =
     (rest : List Directive) → others_of first past rest ≡ others_of first past (drop to others) → others_of first past (one ∷ rest) ≡ others_of first past (drop from others)
 
 -- ---- instants
+
+-- the instants before an index are before a time
+abbrev pub AreEarly : ℕ → ℕ → List Instant → Type 0
+AreEarly until at instants = (k : ℕ) (instant : Instant) → slice_get instants k ≡ Some instant → k < at → instant.time < until
 
 -- so many of the first instants of an old run are those of the new simulation as well, as far as that came
 abbrev pub SharesFirst : Parts → Plan → ℕ → Run → ℕ → Type 0

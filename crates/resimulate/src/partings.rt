@@ -5,17 +5,15 @@ ghost use Rattle.std.specs.Prelude.{◌≡◌, ◌≤◌, ◌<◌, false, IsTrue
 ghost use Rattle.aerie_base.specs.plans.OfModel.{IsPlanOf};
 ghost use Rattle.run_data.specs.Fresh.{IsFresh};
 ghost use Rattle.run_data.specs.laws.Orders.{EachOf};
+ghost use Rattle.run_data.specs.laws.Rising.{RiseFromStart};
 ghost use Rattle.resimulate.specs.EarlyEnds.{MayBeEnded};
-ghost use Rattle.resimulate.specs.Partings.{DifferLater, IsDueLater, IsNextToo, MayEndFrom, SharesFirst, SkipsTo, StartsLater, is_between, others_of};
+ghost use Rattle.resimulate.specs.Partings.{AreEarly, DifferLater, IsDueLater, IsNextToo, MayEndFrom, SharesFirst, SkipsTo, StartsLater, is_between, others_of};
 
 use crate::early_ends::may_be_ended;
 use crate::old_batches::is_earlier;
-use aerie_base::{Anchor, Directive, Model, Plan, Time};
-use run_data::Run;
+use aerie_base::{Anchor, Directive, Model, Plan, Shared, Time};
 use run_data::laws::{instants_rise, plans_that_differ_late_run_side_by_side};
-
-/// A range of ids and a time: that of the directives in which plans may differ, and before which none of them is due.
-type Parting = (u32, u64, Time);
+use run_data::{Instant, Run};
 
 /// Whether an id is in a range.
 fn is_between(first: u32, past: u64, id: u32) -> bool
@@ -112,10 +110,9 @@ fn are_same_otherwise(first: u32, past: u64, directives: &[Directive], others: &
 }
 
 /// Whether two plans differ in directives of a range alone, none of which is due before a time.
-fn differ_later(parting: Parting, plan: &Plan, old_plan: &Plan) -> bool
-    ensures { IsTrue result → DifferLater parting.0 parting.1 parting.2 plan.now old_plan.now }
+fn differ_later(first: u32, past: u64, until: Time, plan: &Plan, old_plan: &Plan) -> bool
+    ensures { IsTrue result → DifferLater first past until plan.now old_plan.now }
 {
-    let (first, past, until) = parting;
     let directives = plan.directives.as_slice();
     let others = old_plan.directives.as_slice();
     Time::zero() < until
@@ -188,8 +185,9 @@ fn first_start(range: (u32, u64), directives: &[Directive], until: Time) -> Time
     least
 }
 
-/// Where two plans may part.
-fn parting_of(plan: &Plan, old_plan: &Plan) -> Parting {
+/// Where two plans may part: a range with the ids of the directives in which they differ, and a time at which one of these may be
+/// due.
+fn parting_of(plan: &Plan, old_plan: &Plan) -> (u32, u64, Time) {
     let directives = plan.directives.as_slice();
     let others = old_plan.directives.as_slice();
     let front = same_in_front(directives, others);
@@ -198,6 +196,15 @@ fn parting_of(plan: &Plan, old_plan: &Plan) -> Parting {
     let range = with_ids(range, others, front, behind);
     let until = first_start(range, directives, plan.duration);
     (range.0, range.1, first_start(range, others, until))
+}
+
+/// How many of these instants are before a time.
+fn earlier_than(instants: &[Shared<Instant>], until: Time) -> usize
+    requires { RiseFromStart instants.now }
+    ensures bound { result ≤ length instants.now }
+    ensures early { AreEarly until result instants.now }
+{
+    instants.partition_point(|instant| is_earlier(instant, until))
 }
 
 /// How many of the first instants of the old run are known to be those of the new one, as far as that comes.
@@ -215,13 +222,11 @@ fn shared_instants(model: &Model, plan: &Plan, bound: u64, old: &Run) -> usize
         return 0;
     }
     let old_plan = old.plan.get();
-    let parting = parting_of(plan, old_plan);
-    if !differ_later(parting, plan, old_plan) {
+    let (first, past, until) = parting_of(plan, old_plan);
+    if !differ_later(first, past, until, plan, old_plan) {
         return 0;
     }
-    let until = parting.2;
-    let instants = old.instants.as_slice();
-    instants.partition_point(|instant| is_earlier(instant, until))
+    earlier_than(old.instants.as_slice(), until)
 }
 
 /// Whether a simulation may end with the rest of an old run, and how many of its first instants are shared then.

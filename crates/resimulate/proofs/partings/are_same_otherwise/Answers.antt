@@ -9,4 +9,4 @@ loop-one-init c = λ rest same. same
 pub loop-one-preserved : goal.loop-one-preserved
 loop-one-preserved c =
     decides_next c.args.first c.args.past c.args.directives.now c.args.others.now c.loop-one.one-index c.loop-one.at c.in-Some.next c.one-item.result c.loop-one-test.true c.one-item.is c.loop-one.invariant
-    (subst (λ found. IfSome found (λ to. IsNextToo c.args.first c.args.past c.one-item.result.now c.args.others.now c.loop-one.at to)) c.in-Some.is c.behind_next.ensures)
+    (subst (λ found. IfSome found (λ to. IsNextToo c.args.first c.args.past c.one-item.result c.args.others.now c.loop-one.at to)) c.in-Some.is c.behind_next.ensures)

@@ -88,17 +88,17 @@ rest_if_due-requires-clause-old_plan g c =
 pub rest_if_due-requires-clause-may : goal.rest_if_due-requires-clause-may
 rest_if_due-requires-clause-may g c = c.may_end_from-may_end.ensures
 
-pub may_end_from-requires-clause-plan : goal.may_end_from-requires-clause-plan
-may_end_from-requires-clause-plan g c = subst (IsPlanOf c.args.model.now) (sym c.get-planned.ensures) c.requires.plan
+pub may_end_from-may_end-requires-clause-plan : goal.may_end_from-may_end-requires-clause-plan
+may_end_from-may_end-requires-clause-plan g c = subst (IsPlanOf c.args.model.now) (sym c.get-planned.ensures) c.requires.plan
 
-pub may_end_from-requires-clause-fresh : goal.may_end_from-requires-clause-fresh
-may_end_from-requires-clause-fresh g c =
+pub may_end_from-may_end-requires-clause-fresh : goal.may_end_from-may_end-requires-clause-fresh
+may_end_from-may_end-requires-clause-fresh g c =
     let old = c.args.old.now.run in
     subst (λ (r : Run). IsFresh c.args.model.now r.plan r.bound r) (sym c.run-run.ensures.value)
     (subst (λ (m : Parts). IsFresh m old.plan old.bound old) c.requires.old c.run-run.ensures.fresh)
 
-pub may_end_from-requires-clause-old_plan : goal.may_end_from-requires-clause-old_plan
-may_end_from-requires-clause-old_plan g c =
+pub may_end_from-may_end-requires-clause-old_plan : goal.may_end_from-may_end-requires-clause-old_plan
+may_end_from-may_end-requires-clause-old_plan g c =
     subst (λ (r : Run). IsPlanOf c.args.model.now r.plan) (sym c.run-run.ensures.value)
     (subst (λ (m : Parts). IsPlanOf m c.args.old.now.run.plan) c.requires.old c.run-run.ensures.plan)
 
