@@ -1,5 +1,5 @@
 -- A simulation ends with the rest of an old run, and what was counted then.
-use Rattle.std.proofs.Common.{◌≡◌, ◌⊎◌, inl, inr, ℕ, zero, suc, ◌+◌, ◌-◌, ◌*◌, ◌≤◌, Bool, true, false, List, [], ◌∷◌, ◌++◌, length, take, Option, Some, None, slice_get, refl, sym, ap, ◌∙◌, subst, IsTrue, if◌then◌else◌, append_assoc, arith}
+use Rattle.std.proofs.Common.{◌≡◌, ◌⊎◌, inl, inr, ℕ, suc, ◌+◌, ◌-◌, ◌*◌, ◌≤◌, Bool, true, false, List, [], ◌∷◌, ◌++◌, length, take, Some, None, slice_get, refl, sym, ap, ◌∙◌, subst, IsTrue, if◌then◌else◌, append_assoc, arith}
 use Rattle.std.proofs.lemmas.List.{append-nil}
 use Rattle.aerie_base.specs.declared.models.model.Parts.{Parts}
 use Rattle.aerie_base.specs.declared.plans.Plan.{Plan}
@@ -15,16 +15,15 @@ use Rattle.run_data.specs.RunFrames.{frames_in_batches}
 use Rattle.run_data.specs.Transitions.{Next, more, finished}
 use Rattle.run_data.specs.laws.AlikeSteps.{BothReach}
 use Rattle.run_data.specs.laws.FreshRuns.{EachAfter}
-use Rattle.run_data.specs.laws.PrunedStates.{pruned}
 use Rattle.run_data.specs.laws.RestOfRuns.{AlikeSettled, completed_run, RestIsTakenOverSettled}
 use Rattle.run_data.specs.laws.RunCosts.{cost_of_instants}
 use Rattle.run_data.specs.laws.SettledInstants.{IsSettledInstant, InstantsAreSettled}
 use Rattle.engine_core.specs.EngineStates.{EngineState, IsReachedPruned, IsEngineState, jobs_in, batches_in, instants_in, spent_in}
-use Rattle.engine_core.specs.PrunedPoints.{HasWhole, has_whole, run_reached}
-use Rattle.resimulate.specs.AlikeByFrames.{instants_with, FramesAgree, FramesTellAlike}
+use Rattle.engine_core.specs.PrunedPoints.{has_whole, run_reached}
+use Rattle.resimulate.specs.AlikeByFrames.{instants_with, FramesTellAlike}
 use Rattle.resimulate.specs.EarlyEnds.{MayBeEnded, EndAtOnce, IsRest}
 use Rattle.resimulate.specs.EvenInstants.{PassesEven, frames_of_others, PaysForUneven, LooksForUneven}
-use Rattle.resimulate.specs.LastChanges.{SameLastChanges, LastChangesTellCells}
+use Rattle.resimulate.specs.LastChanges.{LastChangesTellCells}
 use Rattle.resimulate.specs.Likeness.{TellAlike}
 use Rattle.resimulate.specs.Partings.{SharesFirst}
 use Rattle.resimulate.specs.SettledBefore.{FollowsSettled, InstantsFollowSettled}

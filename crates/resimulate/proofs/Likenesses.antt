@@ -1,15 +1,13 @@
 -- What is noted of traces, index by index, and what that tells.
-use Rattle.std.proofs.Common.{◌≡◌, ◌⊎◌, inl, inr, ℕ, zero, suc, ◌+◌, ◌*◌, ◌<◌, ◌≤◌, nat_eq, Bool, true, false, cond, ◌&&◌, ◌||◌, List, [], ◌∷◌, ◌++◌, length, get_or, Option, Some, None, slice_get, refl, sym, ap, ◌∙◌, subst, if◌then◌else◌, arith}
+use Rattle.std.proofs.Common.{◌≡◌, ◌⊎◌, inl, inr, ℕ, zero, suc, ◌+◌, ◌*◌, ◌<◌, ◌≤◌, nat_eq, Bool, true, false, cond, ◌&&◌, List, [], ◌∷◌, ◌++◌, length, get_or, Option, Some, None, slice_get, refl, sym, ap, ◌∙◌, subst, if◌then◌else◌, arith}
 use Rattle.std.proofs.lemmas.Bool.{false≢true, cases_lt}
 use Rattle.std.specs.Cmp.Lexicographic.{same_text}
-use Rattle.std.specs.List.{list_any}
-use Rattle.std.specs.Map.{lookup}
 use Rattle.aerie_base.specs.declared.plans.Anchor.{Anchor}
 use Rattle.aerie_base.specs.declared.plans.Directive.{Directive}
 use Rattle.aerie_base.specs.declared.plans.Edge.{Edge}
 use Rattle.aerie_base.specs.declared.plans.Edge.TheVariants.{Start, End}
 use Rattle.aerie_base.specs.declared.plans.Plan.{Plan}
-use Rattle.aerie_base.specs.Paths.{root, comes_from_daemon, id_of, is_prefix}
+use Rattle.aerie_base.specs.Paths.{root, is_prefix}
 use Rattle.run_data.specs.declared.runs.Instant.{Instant}
 use Rattle.run_data.specs.Spans.{same_path}
 use Rattle.run_data.specs.Tasks.{Task}
@@ -20,8 +18,7 @@ use Rattle.resimulate.specs.declared.traces.Trace.{Trace}
 use Rattle.resimulate.specs.AlikeByFrames.{task_by, IsOpenInEither, AgreeAboveOpen, HasNotCome, WaitsInBoth, UnbegunIsInBoth, FramesAgree}
 use Rattle.resimulate.specs.Likeness.{HasSame, IsSameOrNoted, NotesDiffering, NotesAt, KeepsRoots, NoneOpenAmong, NotOpenAt, NotComeBy, AnchorNotCome, IsFreeIfParted, IsLikeUnbegun, AllLikeUnbegun, HasTrace, AllGoOn, GoesOnAt, OpenOnesGoOn, AreAlikeAboveOpen, StandsUnnoted, TracesAgree}
 use Rattle.resimulate.specs.Origins.{origin_number, has_root, is_asked}
-use Rattle.resimulate.specs.Traces.{TraceList, trace_of, TellsTask, TellTasks, TakesIn, TellSame}
-use Rattle.resimulate.specs.UnbegunTasks.{IsInPlan}
+use Rattle.resimulate.specs.Traces.{TraceList, trace_of, TellsTask, TellTasks, TakesIn}
 use Rattle.resimulate.proofs.TaskTraces.{first_learnt, open_told, task_append}
 
 -- ---- by index

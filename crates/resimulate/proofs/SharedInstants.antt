@@ -1,5 +1,5 @@
 -- Where plans differ in directives none of which is due before a time, their simulations have the instants until then in common.
-use Rattle.std.proofs.Common.{◌≡◌, ◌⊎◌, inl, inr, ℕ, zero, suc, ◌+◌, ◌-◌, ◌<◌, ◌≤◌, nat_lt, Bool, true, false, List, [], ◌∷◌, ◌++◌, length, take, drop, get_or, Option, Some, None, slice_get, refl, sym, ap, ◌∙◌, subst, IsTrue, if◌then◌else◌, append_assoc, add-one, arith}
+use Rattle.std.proofs.Common.{◌≡◌, ◌⊎◌, inl, inr, ℕ, zero, suc, ◌+◌, ◌-◌, ◌<◌, ◌≤◌, Bool, true, false, List, [], ◌∷◌, ◌++◌, length, take, drop, get_or, Option, Some, None, slice_get, refl, sym, ap, ◌∙◌, subst, IsTrue, if◌then◌else◌, append_assoc, add-one, arith}
 use Rattle.std.proofs.Math.Seq.{take-suc}
 use Rattle.std.proofs.lemmas.Bool.{ltb-true, lt-ltb}
 use Rattle.std.proofs.lemmas.List.{append-nil}
@@ -20,7 +20,7 @@ use Rattle.run_data.specs.Fresh.{SimulationState, start, instant_at, next_state,
 use Rattle.run_data.specs.Tasks.{on_each, woken, ready_jobs}
 use Rattle.run_data.specs.Transitions.{Next, more, finished, and_on, iterate}
 use Rattle.run_data.specs.laws.Iteration.{comes_by_transitions}
-use Rattle.run_data.specs.laws.LateDifferences.{common_directives, instants_before, instants_of, ComesLate, StartsLate, IsLate, DifferLate, SameInstantsBefore, AffordsNoLess}
+use Rattle.run_data.specs.laws.LateDifferences.{instants_before, instants_of, StartsLate, IsLate, DifferLate, SameInstantsBefore, AffordsNoLess}
 use Rattle.run_data.specs.laws.Orders.{EachOf}
 use Rattle.resimulate.specs.EarlyEnds.{MayBeEnded}
 use Rattle.resimulate.specs.OldBatches.{is_earlier}

@@ -17,7 +17,7 @@ use Rattle.run_data.specs.TaskFrames.{Frame}
 use Rattle.run_data.specs.Endings.{is_open}
 use Rattle.run_data.specs.Records.{record_of}
 use Rattle.run_data.specs.Spans.{same_path}
-use Rattle.run_data.specs.Tasks.{Task, TaskPhase, after_delay, phase_after, task_after, children_made, children_in}
+use Rattle.run_data.specs.Tasks.{Task, after_delay, phase_after, task_after, children_made, children_in}
 use Rattle.run_data.specs.TableLaws.{is_same, path_itself}
 use Rattle.std.specs.Ordering.{is_eq}
 use Rattle.run_data.specs.laws.EndedTasks.{open_is, is_open_status}

@@ -1,5 +1,5 @@
 -- Traces: what its frames leave each task doing.
-use Rattle.std.specs.Prelude.{◌≡◌, ℕ, ◌+◌, Bool, true, false, List, [], Option, Some, None}
+use Rattle.std.specs.Prelude.{◌≡◌, ℕ, ◌+◌, Bool, true, false, List, Option, Some, None}
 use Rattle.std.specs.Map.{lookup}
 use Rattle.run_data.specs.TaskFrames.{Frame}
 use Rattle.run_data.specs.Spans.{same_path}

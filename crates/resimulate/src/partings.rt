@@ -162,7 +162,12 @@ fn with_id(range: (u32, u64), directive: Option<&Directive>) -> (u32, u64) {
 }
 
 /// A range with the ids of those between the same directives in front and behind.
-fn with_ids(range: (u32, u64), directives: &[Directive], front: usize, behind: usize) -> (u32, u64) {
+fn with_ids(
+    range: (u32, u64),
+    directives: &[Directive],
+    front: usize,
+    behind: usize,
+) -> (u32, u64) {
     if front.saturating_add(behind) >= directives.len() {
         return range;
     }

@@ -1,4 +1,4 @@
-use Rattle.std.proofs.Common.{◌≡◌, ◌≤◌, ◌∙◌, List, length, Some, slice_get, ap, subst, arith}
+use Rattle.std.proofs.Common.{◌≡◌, ◌∙◌, List, length, Some, slice_get, ap, subst, arith}
 use Rattle.aerie_base.specs.declared.plans.Directive.{Directive}
 use Rattle.resimulate.specs.Likeness.{IsLikeUnbegun}
 use Rattle.resimulate.proofs.Likenesses.{all_unbegun, each_next, same_at}

@@ -1,4 +1,4 @@
-use Rattle.std.proofs.Common.{◌≡◌, ◌∙◌, ℕ, List, ◌++◌, length, sym, ap, subst}
+use Rattle.std.proofs.Common.{◌≡◌, ◌∙◌, List, ◌++◌, length, ap, subst}
 use Rattle.std.proofs.lemmas.List.{take-append-drop}
 use Rattle.run_data.specs.declared.runs.Instant.{Instant}
 use Rattle.resimulate.specs.AlikeByFrames.{FramesAgree}

@@ -2,7 +2,7 @@ use Rattle.std.proofs.Common.{◌≤◌, List, length, subst, arith}
 use Rattle.aerie_base.specs.declared.plans.Plan.{Plan}
 use Rattle.run_data.specs.declared.runs.Instant.{Instant}
 use Rattle.resimulate.specs.Partings.{AreEarly, DifferLater}
-use Rattle.resimulate.proofs.SharedInstants.{none_shared, shares}
+use Rattle.resimulate.proofs.SharedInstants.{shares}
 use Rattle.resimulate.proofs.partings.shared_instants.Goals as goal
 
 pub returns : goal.returns

@@ -1,4 +1,4 @@
-use Rattle.std.proofs.Common.{arith, List, ap, subst, ◌∙◌}
+use Rattle.std.proofs.Common.{arith, List, subst}
 use Rattle.run_data.specs.TaskFrames.{Frame}
 use Rattle.run_data.specs.declared.runs.Instant.{Instant}
 use Rattle.run_data.specs.laws.TracedTasks.{timed_batches}
