@@ -24,7 +24,7 @@ use Rattle.run_data.specs.laws.LateDifferences.{instants_before, instants_of, St
 use Rattle.run_data.specs.laws.Orders.{EachOf}
 use Rattle.resimulate.specs.EarlyEnds.{MayBeEnded}
 use Rattle.resimulate.specs.OldBatches.{is_earlier}
-use Rattle.resimulate.specs.Partings.{AreEarly, is_between, others_of, StartsLater, IsDueLater, DifferLater, SkipsTo, IsNextToo, SharesFirst}
+use Rattle.resimulate.specs.Partings.{AreEarly, is_id_between, others_of, StartsLater, IsDueLater, DifferLater, SkipsTo, IsNextToo, SharesFirst}
 use Rattle.resimulate.proofs.TaskTraces.{drop_next, drop_past}
 
 -- ---- each of a list
@@ -51,13 +51,13 @@ each_whole P at items most each = subst (EachOf P) (take_whole at items most) ea
 -- ---- directives that are not of the range
 
 module _ (first past : ℕ) where
-  skipped : (one : Directive) (rest : List Directive) → is_between first past one.id ≡ true → others_of first past (one ∷ rest) ≡ others_of first past rest
+  skipped : (one : Directive) (rest : List Directive) → is_id_between first past one.id ≡ true → others_of first past (one ∷ rest) ≡ others_of first past rest
   skipped one rest e = ap (λ (b : Bool). if b then others_of first past rest else one ∷ others_of first past rest) e
 
-  kept : (one : Directive) (rest : List Directive) → is_between first past one.id ≡ false → others_of first past (one ∷ rest) ≡ one ∷ others_of first past rest
+  kept : (one : Directive) (rest : List Directive) → is_id_between first past one.id ≡ false → others_of first past (one ∷ rest) ≡ one ∷ others_of first past rest
   kept one rest e = ap (λ (b : Bool). if b then others_of first past rest else one ∷ others_of first past rest) e
 
-  pub skips_next : (others : List Directive) (from at : ℕ) (one : Directive) → at < length others → one ≡ get_or others at one → is_between first past one.id ≡ true →
+  pub skips_next : (others : List Directive) (from at : ℕ) (one : Directive) → at < length others → one ≡ get_or others at one → is_id_between first past one.id ≡ true →
       SkipsTo first past others from at → SkipsTo first past others from (at + 1)
   skips_next others from at one less is e so_far = so_far ∙ ap (others_of first past) (drop_next at others one less is) ∙ skipped one (drop (at + 1) others) e
 
@@ -65,10 +65,10 @@ module _ (first past : ℕ) where
   skips_all others from at most so_far =
       so_far ∙ ap (others_of first past) (drop_past at others most ∙ sym (drop_past (length others) others (let same : length others ≤ length others = omega arith in same)))
 
-  pub next_skipped : (one : Directive) (others : List Directive) (from : ℕ) → is_between first past one.id ≡ true → IsNextToo first past one others from from
+  pub next_skipped : (one : Directive) (others : List Directive) (from : ℕ) → is_id_between first past one.id ≡ true → IsNextToo first past one others from from
   next_skipped one others from e rest same = skipped one rest e ∙ same
 
-  pub next_same : (one other : Directive) (others : List Directive) (from at : ℕ) → is_between first past one.id ≡ false → SkipsTo first past others from at → at < length others → other ≡ get_or others at other →
+  pub next_same : (one other : Directive) (others : List Directive) (from at : ℕ) → is_id_between first past one.id ≡ false → SkipsTo first past others from at → at < length others → other ≡ get_or others at other →
       one ≡ other → IsNextToo first past one others from (at + 1)
   next_same one other others from at e skips less is same rest further =
       kept one rest e ∙ ap (λ l. one ∷ l) further ∙ sym (kept one (drop (at + 1) others) e) ∙ ap (λ d. others_of first past (d ∷ drop (at + 1) others)) same
@@ -202,11 +202,11 @@ none_shared model plan bound old point comes (suc number) less within = absurd (
 -- ---- plans that differ later
 
 module _ (first past until : ℕ) (model : Parts) (old_plan : Plan) (bound : ℕ) where
-  late_start : (anchor : Option Anchor) (from : ℕ) → StartsLater first past until anchor from → StartsLate (is_between first past) until model old_plan bound anchor from
+  late_start : (anchor : Option Anchor) (from : ℕ) → StartsLater first past until anchor from → StartsLate (is_id_between first past) until model old_plan bound anchor from
   late_start None from late = late
   late_start (Some anchor) from late = inl late
 
-  all_late : (directives : List Directive) → EachOf (IsDueLater first past until) directives → EachOf (IsLate (is_between first past) until model old_plan bound) directives
+  all_late : (directives : List Directive) → EachOf (IsDueLater first past until) directives → EachOf (IsLate (is_id_between first past) until model old_plan bound) directives
   all_late [] each = tt
   all_late (one ∷ rest) each = ((λ e. late_start one.anchor one.start (each.0 e)), all_late rest each.1)
 
@@ -218,7 +218,7 @@ shares same affords model plan bound old valid is old_is may fresh more_bound fi
     (subst (λ l. Extends (instants_of point) l ⊎ Extends l (instants_of point)) place.2 (one_extends model plan bound point place.0 comes place.1))
     ∙ both.0
   where
-    late : DifferLate (is_between first past) until model plan old.plan bound old.bound
+    late : DifferLate (is_id_between first past) until model plan old.plan bound old.bound
     late = record {
       valid = valid;
       is = is;
@@ -231,7 +231,7 @@ shares same affords model plan bound old valid is old_is may fresh more_bound fi
     }
 
     place : (place : Next SimulationState Run) × IsReached model plan bound place × (instants_of place ≡ instants_before until old.instants)
-    place = same (is_between first past) until model plan old.plan bound old.bound old late differ.some_time fresh
+    place = same (is_id_between first past) until model plan old.plan bound old.bound old late differ.some_time fresh
 
     both : (take number (instants_before until old.instants) ≡ take number old.instants) × (number ≤ length (instants_before until old.instants))
     both = before_first until number old.instants (omega (arith, less, within)) (λ k one there k_less. early k one there (omega (arith, k_less, less)))

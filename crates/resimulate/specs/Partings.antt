@@ -15,21 +15,21 @@ use Rattle.resimulate.specs.EarlyEnds.{MayBeEnded}
 -- ---- directives by their ids
 
 -- whether an id is in a range: not below its first, and below its end
-abbrev pub is_between : ℕ → ℕ → ℕ → Bool
-is_between first past id = if nat_lt id first then false else nat_lt id past
+abbrev pub is_id_between : ℕ → ℕ → ℕ → Bool
+is_id_between first past id = if nat_lt id first then false else nat_lt id past
 
 -- those whose ids are not in the range
 abbrev pub others_of : ℕ → ℕ → List Directive → List Directive
-others_of first past directives = common_directives (is_between first past) directives
+others_of first past directives = common_directives (is_id_between first past) directives
 
 -- a start is not before a time, or is anchored to a directive of the range
 abbrev pub StartsLater : ℕ → ℕ → ℕ → Option Anchor → ℕ → Type 0
 StartsLater first past until None start = until ≤ start
-StartsLater first past until (Some anchor) start = is_between first past anchor.to ≡ true
+StartsLater first past until (Some anchor) start = is_id_between first past anchor.to ≡ true
 
 -- so a directive starts whose id is in the range
 abbrev pub IsDueLater : ℕ → ℕ → ℕ → Directive → Type 0
-IsDueLater first past until directive = is_between first past directive.id ≡ true → StartsLater first past until directive.anchor directive.start
+IsDueLater first past until directive = is_id_between first past directive.id ≡ true → StartsLater first past until directive.anchor directive.start
 
 -- two plans are the same but for directives whose ids are in the range, and none of these is due before a time
 pub record DifferLater (first past until : ℕ) (plan old_plan : Plan) : Type 0 where

@@ -7,7 +7,7 @@ ghost use Rattle.run_data.specs.Fresh.{IsFresh};
 ghost use Rattle.run_data.specs.laws.Orders.{EachOf};
 ghost use Rattle.run_data.specs.laws.Rising.{RiseFromStart};
 ghost use Rattle.resimulate.specs.EarlyEnds.{MayBeEnded};
-ghost use Rattle.resimulate.specs.Partings.{AreEarly, DifferLater, IsDueLater, IsNextToo, MayEndFrom, SharesFirst, SkipsTo, StartsLater, is_between, others_of};
+ghost use Rattle.resimulate.specs.Partings.{AreEarly, DifferLater, IsDueLater, IsNextToo, MayEndFrom, SharesFirst, SkipsTo, StartsLater, is_id_between, others_of};
 
 use crate::early_ends::may_be_ended;
 use crate::old_batches::is_earlier;
@@ -16,8 +16,8 @@ use run_data::laws::{instants_rise, plans_that_differ_late_run_side_by_side};
 use run_data::{Instant, Run};
 
 /// Whether an id is in a range.
-fn is_between(first: u32, past: u64, id: u32) -> bool
-    ensures { result ≡ is_between first past id }
+fn is_id_between(first: u32, past: u64, id: u32) -> bool
+    ensures { result ≡ is_id_between first past id }
 {
     if id < first {
         return false;
@@ -33,7 +33,7 @@ fn starts_later(first: u32, past: u64, until: Time, anchor: &Option<Anchor>, sta
 {
     match anchor {
         None => until <= start,
-        Some(anchor) => is_between(first, past, anchor.to),
+        Some(anchor) => is_id_between(first, past, anchor.to),
     }
 }
 
@@ -41,7 +41,7 @@ fn starts_later(first: u32, past: u64, until: Time, anchor: &Option<Anchor>, sta
 fn is_due_later(first: u32, past: u64, until: Time, directive: &Directive) -> bool
     ensures { IsTrue result → IsDueLater first past until directive.now }
 {
-    if !is_between(first, past, directive.id) {
+    if !is_id_between(first, past, directive.id) {
         return true;
     }
     starts_later(first, past, until, &directive.anchor, directive.start)
@@ -64,7 +64,7 @@ fn next_other(first: u32, past: u64, directives: &[Directive], from: usize) -> u
     ensures { SkipsTo first past directives.now from result }
 {
     for at in from..directives.len() {
-        if !is_between(first, past, directives[at].id) {
+        if !is_id_between(first, past, directives[at].id) {
             return at;
         }
     }
@@ -82,7 +82,7 @@ fn behind_next(
 ) -> Option<usize>
     ensures { IfSome result (λ to. IsNextToo first past one.now others.now from to) }
 {
-    if is_between(first, past, one.id) {
+    if is_id_between(first, past, one.id) {
         return Some(from);
     }
     let at = next_other(first, past, others, from);
@@ -175,15 +175,15 @@ fn with_ids(
     with_id(range, from_end(directives, behind))
 }
 
-/// The first of a time and of the starts of the directives of a range. Where any directive is anchored it is the start of the plan: whether an anchor
-/// has come is told by all frames alone.
+/// The first of a time and of the starts of the directives of a range. Where any directive is anchored it is the start of the plan:
+/// whether an anchor has come is told by all frames alone.
 fn first_start(range: (u32, u64), directives: &[Directive], until: Time) -> Time {
     let mut least = until;
     for one in directives {
         if one.anchor.is_some() {
             return Time::zero();
         }
-        if is_between(range.0, range.1, one.id) {
+        if is_id_between(range.0, range.1, one.id) {
             least = least.min(one.start);
         }
     }
