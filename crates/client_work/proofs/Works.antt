@@ -58,7 +58,7 @@ module _ (mission : Mission) (client : ClientOf) where
           0,
           rose,
           omega (arith, none),
-          (refl, (refl, refl)),
+          (refl, refl, refl),
         )
     one_more number at (first ∷ commands) entries text total rise count told done paid rose =
         let later = one_more (number + 1) at commands told.1 told.3 told.9 rise (omega (arith, count)) told.12 done paid rose in

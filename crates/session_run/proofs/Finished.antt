@@ -90,29 +90,27 @@ module _ (mission : Mission) (journal : Entries) where
     pub many : length totals ≡ length clients
     pub told : AreTold base clients texts totals
 
+  with_one_more : (base : ℕ) (client : Client) (clients : List Client) (text : List ℕ) (texts : List (List ℕ)) (total : ℕ) →
+      IsWorkTold mission (client_numbered (base + 0) client) 0 client.commands (filter (is_of_client (base + 0)) journal) text total →
+      WithTotals (base + 1) clients texts → WithTotals base (client ∷ clients) (text ∷ texts)
+  with_one_more base client clients text texts total first rest = record { totals = total ∷ rest.totals; many = ap suc rest.many; told = each }
+    where
+      each : AreTold base (client ∷ clients) (text ∷ texts) (total ∷ rest.totals)
+      each zero x t n at there has =
+          subst (λ (k : ℕ). IsWorkTold mission (client_numbered (base + 0) x) 0 x.commands (filter (is_of_client (base + 0)) journal) t k) (same_some total n has)
+          (subst (λ (l : List ℕ). IsWorkTold mission (client_numbered (base + 0) x) 0 x.commands (filter (is_of_client (base + 0)) journal) l total) (same_some text t there)
+          (subst (λ (z : Client). IsWorkTold mission (client_numbered (base + 0) z) 0 z.commands (filter (is_of_client (base + 0)) journal) text total) (same_some client x at) first))
+      each (suc which) x t n at there has =
+          subst (λ (of : ℕ). IsWorkTold mission (client_numbered of x) 0 x.commands (filter (is_of_client of) journal) t n) (omega arith) (rest.told which x t n at there has)
+
   pub with_totals : (base : ℕ) (clients : List Client) (texts : List (List ℕ)) → length texts ≡ length clients → AreToldSomehow base clients texts → WithTotals base clients texts
   with_totals base [] texts count told = record { totals = []; many = refl; told = λ which client text total at there has. absurd (none_some client at) }
   with_totals base (client ∷ clients) [] count told = absurd (omega (arith, count))
-  with_totals base (client ∷ clients) (text ∷ texts) count told = record {
-    totals = first.0 ∷ rest.totals;
-    many = ap suc rest.many;
-    told = each;
-  }
-    where
-      first : (total : ℕ) × IsWorkTold mission (client_numbered (base + 0) client) 0 client.commands (filter (is_of_client (base + 0)) journal) text total
-      first = told 0 client text refl refl
-
-      rest : WithTotals (base + 1) clients texts
-      rest = with_totals (base + 1) clients texts (omega (arith, count)) (λ which x t at there.
-          subst (λ (of : ℕ). (total : ℕ) × IsWorkTold mission (client_numbered of x) 0 x.commands (filter (is_of_client of) journal) t total) (omega arith) (told (suc which) x t at there))
-
-      each : AreTold base (client ∷ clients) (text ∷ texts) (first.0 ∷ rest.totals)
-      each zero x t total at there has =
-          subst (λ (n : ℕ). IsWorkTold mission (client_numbered (base + 0) x) 0 x.commands (filter (is_of_client (base + 0)) journal) t n) (same_some first.0 total has)
-          (subst (λ (l : List ℕ). IsWorkTold mission (client_numbered (base + 0) x) 0 x.commands (filter (is_of_client (base + 0)) journal) l first.0) (same_some text t there)
-          (subst (λ (z : Client). IsWorkTold mission (client_numbered (base + 0) z) 0 z.commands (filter (is_of_client (base + 0)) journal) text first.0) (same_some client x at) first.1))
-      each (suc which) x t total at there has =
-          subst (λ (of : ℕ). IsWorkTold mission (client_numbered of x) 0 x.commands (filter (is_of_client of) journal) t total) (omega arith) (rest.told which x t total at there has)
+  with_totals base (client ∷ clients) (text ∷ texts) count told =
+      let first = told 0 client text refl refl in
+      with_one_more base client clients text texts first.0 first.1
+      (with_totals (base + 1) clients texts (omega (arith, count)) (λ which x t at there.
+      subst (λ (of : ℕ). (total : ℕ) × IsWorkTold mission (client_numbered of x) 0 x.commands (filter (is_of_client of) journal) t total) (omega arith) (told (suc which) x t at there)))
 
 -- ---- together
 

@@ -219,7 +219,7 @@ zeros_many (suc count) = ap suc (zeros_many count)
 
 zeros_together : (count : ℕ) → together (zeros count) ≡ 0
 zeros_together zero = refl
-zeros_together (suc count) = zeros_together count
+zeros_together (suc count) = let rest = zeros_together count in omega (arith, rest)
 
 zero_at : (count at total : ℕ) → slice_get (zeros count) at ≡ Some total → total ≡ 0
 zero_at zero at total e = absurd (none_some total e)
@@ -496,7 +496,7 @@ module _ (mission : Mission) (clients : List Client) where
       many = zeros_many (length clients);
       each = λ which x text total place there has_total.
           subst (λ (n : ℕ). IsWorkTold mission (client_numbered which x) 0 (take n x.commands) [] text total) (sym (done_before 0 0 which (omega arith)))
-          (refl, (no_text (length clients) which text there, zero_at (length clients) which total has_total));
+          (refl, no_text (length clients) which text there, zero_at (length clients) which total has_total);
     };
     risen = λ all. let none = zeros_together (length clients) in omega (arith, none);
   }
