@@ -1,9 +1,6 @@
-use Rattle.std.proofs.Common.{◌≡◌, List, map, sym, ap, subst, ◌∙◌, String, Global, ◌++◌}
+use Rattle.std.proofs.Common.{◌≡◌, List, map, sym, ap, subst, ◌∙◌}
 use Rattle.std.proofs.lemmas.Result.{IfOk-weaker}
 use Rattle.std.specs.String.{string_bytes}
-use Rattle.json_line.specs.Json.{line_of}
-use Rattle.report_text.specs.JournalLines.{journal_data}
-use Rattle.session_run.specs.Joined.{joined_texts}
 use Rattle.hangar_core.specs.declared.workspaces.Workspace.{Workspace}
 use Rattle.hangar_core.specs.Journals.{IsReplay}
 use Rattle.hangar_core.specs.ValidWorkspaces.{CountedWorkspace}
@@ -39,5 +36,5 @@ returns-clause-performed g c =
     (ap (λ (p : PassView). p.mine) c.in_ok-lock.ensures.first) (ap (λ (p : PassView). p.seen) c.in_ok-lock.ensures.first)
     done c.close-journal.ensures.right c.close-journal.ensures.all
     (subst (λ (w : Workspace). IsReplay w c.close-journal.result.1) opened c.close-journal.ensures.past.replayed)
-    (whole ∙ ap (λ (texts : List (String Global)). line_of (journal_data c.close-journal.result.1) ++ joined_texts (map string_bytes texts)) c.as_slice.ensures.value))
+    whole)
     c.last_text.ensures
