@@ -11,7 +11,7 @@ use Rattle.session_judge.specs.declared.judged.JudgedSession.{JudgedSession}
 use Rattle.session_make.specs.Sessions.{session}
 use Rattle.session_reader.specs.declared.session_error.SessionError.TheVariants.{TooLarge}
 use Rattle.aerie.specs.Input.{HasReadAll}
-use Rattle.aerie.specs.Program.{Counted, ProgramAnswer, IsAnswerTo, IsInputIf, IsModeAnswer, IsMadeAnswer, IsProgramAnswer, IsRunAnswer, IsSummarized, answer_with, check_answer, is_answered, mode_reads, named_answer, number_of_status, reads_input, refused_answer, summary_text}
+use Rattle.aerie.specs.Program.{Counted, ProgramAnswer, counted_from, IsAnswerTo, IsInputIf, IsModeAnswer, IsMadeAnswer, IsProgramAnswer, IsRunAnswer, IsSummarized, answer_with, check_answer, is_answered, mode_reads, named_answer, number_of_status, reads_input, refused_answer, summary_text}
 use Rattle.aerie.specs.declared.exit_status.ExitStatus.{ExitStatus}
 use Rattle.aerie.specs.declared.exit_status.ExitStatus.TheVariants as status
 
@@ -133,3 +133,9 @@ reads_in invocation mode is reads not = absurd (clash (sym reads ∙ ap mode_rea
   where
     clash : true ≡ false → ⊥
     clash e = cc
+
+-- a count that begins at 0
+pub from_nothing : (invocation : Option Invocation) (before after : Option (List ℕ)) (steps statements : ℕ) (answer : ProgramAnswer) → steps ≡ 0
+    → IsAnswerTo invocation before after (counted_from steps statements) answer → (count : ℕ) × IsAnswerTo invocation before after (counted_from 0 count) answer
+from_nothing invocation before after steps statements answer none is =
+    (statements, subst (λ (n : ℕ). IsAnswerTo invocation before after (counted_from n statements) answer) none is)
