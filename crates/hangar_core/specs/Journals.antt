@@ -1,5 +1,6 @@
 -- Journals: actions with what they answered, in order.
 use Rattle.std.specs.Prelude.{◌≡◌, ℕ, ◌+◌, List, [], ◌∷◌, Option, Some, None}
+use Rattle.hangar_core.specs.declared.actions.Action.{Action}
 use Rattle.hangar_core.specs.declared.entries.Entry.{Entry}
 use Rattle.hangar_core.specs.declared.replies.Reply.{Reply}
 use Rattle.hangar_core.specs.declared.workspaces.Workspace.{Workspace}
@@ -9,6 +10,10 @@ use Rattle.hangar_core.specs.Steps.{step}
 -- entries with their replies, first to last
 abbrev pub Entries : Type 0
 Entries = List (Entry × Reply)
+
+-- the entry of a client's part of a command, with its reply
+abbrev pub noted_entry : ℕ → ℕ → ℕ → Action → Reply → Entry × Reply
+noted_entry client command part action reply = (record { client = client; command = command; part = part; action = action }, reply)
 
 -- those of a list that may not be begun
 abbrev pub listed : Option Entries → Entries

@@ -7,14 +7,16 @@ ghost use Rattle.hangar_core.specs.ValidWorkspaces.{IsActionOn, IsStepped};
 use crate::entries::Entry;
 use crate::hangar::Hangar;
 use crate::replies::Reply;
+use crate::triples::Triple;
 use aerie_base::{List, OutOfMemory};
 use std::alloc::Global;
+use std::snapshot::Snapshot;
 
 /// What was done to a workspace, and what each action answered, refusals as well. Contracts see the entries with their
-/// replies, first to last.
+/// replies, first to last; when the program runs, only their triples are there.
 #[derive(Drop)]
 pub struct Journal {
-    entries: Option<List<(Entry, Reply)>>,
+    triples: Option<List<Triple>>,
 }
 
 impl std::marker::Model for Journal {
@@ -28,7 +30,7 @@ impl std::marker::Model for Journal {
 
     ghost coded = { Prim.hlevel (codes, expr.the_row.coded, cond.the_row.coded, stmt.the_row.coded) };
 
-    ghost view = { λ journal. listed journal.entries };
+    ghost view = { λ journal. listed journal.triples };
 }
 
 impl Journal {
@@ -36,21 +38,22 @@ impl Journal {
     pub fn new() -> Journal
         ensures { result ≡ [] }
     {
-        Journal { entries: None }
+        Journal { triples: None }
     }
 
-    /// The entries with their replies, first to last. It takes no memory.
-    pub fn entries(&self) -> &[(Entry, Reply)]
+    /// The triples of the entries, first to last: contracts see them as the entries with their replies. It takes no memory.
+    pub fn triples(&self) -> &[Triple]
         ensures { result.now ≡ self.now }
     {
-        match &self.entries {
-            Some(entries) => entries.as_slice(),
+        match &self.triples {
+            Some(triples) => triples.as_slice(),
             None => &[],
         }
     }
 
-    /// Steps the workspace, and adds the entry with its reply, a refusal as well. It makes room and copies first, so that after
-    /// want of memory neither has changed. Each action that the workspace accepted, but a Fetch, has to have its entry here.
+    /// Steps the workspace, and adds the entry with its reply, a refusal as well. It makes room first, so that after want of
+    /// memory neither has changed. Each action that the workspace accepted, but a Fetch, has to have its entry here. Neither the
+    /// action nor the reply is copied or kept.
     pub fn act(
         &mut self,
         alloc: Global,
@@ -65,36 +68,35 @@ impl Journal {
         ensures unmoved { OnErr result (hangar.new ≡ hangar.old) }
         ensures unchanged { OnErr result (self.new ≡ self.old) }
     {
-        if self.entries.is_none() {
-            self.entries = Some(List::new(alloc));
+        if self.triples.is_none() {
+            self.triples = Some(List::new(alloc));
         }
-        match &mut self.entries {
-            Some(entries) => note(&mut entries.items, alloc, hangar, entry),
+        match &mut self.triples {
+            Some(triples) => note(&mut triples.items, alloc, hangar, entry),
             None => Err(OutOfMemory),
         }
     }
 }
 
-/// Makes room and copies first, then steps the workspace and adds the entry with its reply.
+/// Makes room first, then steps the workspace and adds the entry with its reply.
 #[tactic(auto, using(crate::proofs::Noting::kept_after))]
 fn note(
-    entries: &mut Vec<(Entry, Reply)>,
+    triples: &mut Vec<Triple>,
     alloc: Global,
     hangar: &mut Hangar,
     entry: Entry,
 ) -> Result<Reply, OutOfMemory>
-    requires kept { hangar.old.accepted ≤ accepted_in entries.old.items }
+    requires kept { hangar.old.accepted ≤ accepted_in triples.old.items }
     requires action { IsActionOn hangar.old.workspace entry.action }
     ensures stepped { IfOk result (λ reply. IsStepped hangar.old hangar.new entry.action reply) }
-    ensures noted { IfOk result (λ reply. entries.new.items ≡ entries.old.items ++ (entry, reply) ∷ []) }
-    ensures kept { hangar.new.accepted ≤ accepted_in entries.new.items }
+    ensures noted { IfOk result (λ reply. triples.new.items ≡ triples.old.items ++ (entry, reply) ∷ []) }
+    ensures kept { hangar.new.accepted ≤ accepted_in triples.new.items }
     ensures unmoved { OnErr result (hangar.new ≡ hangar.old) }
-    ensures unchanged { OnErr result (entries.new.items ≡ entries.old.items) }
+    ensures unchanged { OnErr result (triples.new.items ≡ triples.old.items) }
 {
-    make_room(entries)?;
-    let copy = entry.copy(alloc)?;
-    let (reply, told) = told_twice(alloc, hangar, entry)?;
-    add(entries, copy, told);
+    make_room(triples)?;
+    let (reply, triple) = told_with_triple(alloc, hangar, entry)?;
+    add(triples, triple);
     Ok(reply)
 }
 
@@ -103,39 +105,47 @@ const MOST_ENTRIES: usize = 9_223_372_036_854_775_807;
 
 /// Makes room for one entry more.
 #[tactic(auto, using(crate::proofs::Noting::few_accepted))]
-fn make_room(entries: &mut Vec<(Entry, Reply)>) -> Result<(), OutOfMemory>
-    ensures room { OnOk result (vec_len entries.new < vec_capacity entries.new) }
-    ensures few { OnOk result (accepted_in entries.new.items < 2 ^ 63) }
-    ensures same { entries.new.items ≡ entries.old.items }
+fn make_room(triples: &mut Vec<Triple>) -> Result<(), OutOfMemory>
+    ensures room { OnOk result (vec_len triples.new < vec_capacity triples.new) }
+    ensures few { OnOk result (accepted_in triples.new.items < 2 ^ 63) }
+    ensures same { triples.new.items ≡ triples.old.items }
 {
-    if entries.len() >= MOST_ENTRIES {
+    if triples.len() >= MOST_ENTRIES {
         return Err(OutOfMemory);
     }
-    entries.reserve(1)?;
+    triples.reserve(1)?;
     Ok(())
 }
 
-/// Steps the workspace, and gives the reply twice.
-fn told_twice(
+/// Steps the workspace, and gives the reply beside the triple of the entry.
+fn told_with_triple(
     alloc: Global,
     hangar: &mut Hangar,
     entry: Entry,
-) -> Result<(Reply, Reply), OutOfMemory>
+) -> Result<(Reply, Triple), OutOfMemory>
     requires few { hangar.old.accepted < 2 ^ 63 }
     requires action { IsActionOn hangar.old.workspace entry.action }
-    ensures stepped { IfOk result (λ replies. IsStepped hangar.old hangar.new entry.action replies.0) }
-    ensures same { IfOk result (λ replies. replies.1 ≡ replies.0) }
+    ensures stepped { IfOk result (λ told. IsStepped hangar.old hangar.new entry.action told.0) }
+    ensures triple { IfOk result (λ told. told.1 ≡ (entry, told.0)) }
     ensures unmoved { OnErr result (hangar.new ≡ hangar.old) }
 {
+    let (client, command, part) = (entry.client, entry.command, entry.part);
+    let action = Snapshot::of(&entry.action);
     let reply = hangar.step(alloc, entry)?;
-    let told = reply.copy(alloc)?;
-    Ok((reply, told))
+    let triple = Triple {
+        client,
+        command,
+        part,
+        action,
+        reply: Snapshot::of(&reply),
+    };
+    Ok((reply, triple))
 }
 
 /// Adds an entry where there is room.
-fn add(entries: &mut Vec<(Entry, Reply)>, entry: Entry, reply: Reply)
-    requires { vec_len entries.old < vec_capacity entries.old }
-    ensures { entries.new.items ≡ entries.old.items ++ (entry, reply) ∷ [] }
+fn add(triples: &mut Vec<Triple>, triple: Triple)
+    requires { vec_len triples.old < vec_capacity triples.old }
+    ensures { triples.new.items ≡ triples.old.items ++ triple ∷ [] }
 {
-    let _added = entries.push((entry, reply));
+    let _added = triples.push(triple);
 }

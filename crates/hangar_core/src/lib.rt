@@ -12,6 +12,7 @@ mod journal;
 mod last_revisions;
 pub mod laws;
 mod replies;
+mod triples;
 mod workspaces;
 
 pub use actions::Action;
@@ -20,3 +21,4 @@ pub use entries::Entry;
 pub use hangar::Hangar;
 pub use journal::Journal;
 pub use replies::Reply;
+pub use triples::Triple;

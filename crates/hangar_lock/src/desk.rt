@@ -18,8 +18,7 @@ pub(crate) struct Desk {
 }
 
 impl Desk {
-    /// Steps the workspace and notes the entry with its reply. Room and copies are made first, so that after want of memory
-    /// nothing has changed.
+    /// Steps the workspace and notes the entry with its reply. Room is made first, so that after want of memory nothing has changed.
     pub fn act(&mut self, alloc: Global, entry: Entry) -> Result<Receipt, OutOfMemory>
         requires kept { self.old.hangar.accepted ≤ accepted_in self.old.journal }
         requires action { IsActionOn self.old.hangar.workspace entry.action }
@@ -29,7 +28,7 @@ impl Desk {
         ensures kept { self.new.hangar.accepted ≤ accepted_in self.new.journal }
         ensures unchanged { OnErr result (self.new ≡ self.old) }
     {
-        let place = self.journal.entries().len() as u64;
+        let place = self.journal.triples().len() as u64;
         let reply = self.journal.act(alloc, &mut self.hangar, entry)?;
         Ok(Receipt { place, reply })
     }

@@ -10,10 +10,12 @@ use std::alloc::Global;
 use std::process::Abort;
 use std::sync::Wait;
 
-/// Whose each of three acts is, in turn, and whether a branch began.
-const TOLD: [(u32, bool); 3] = [(1, true), (0, false), (1, true)];
+/// Whose each of three acts is, in turn.
+const CLIENTS: [u32; 3] = [1, 0, 1];
+/// Whether a branch began with each.
+const BEGAN: [Option<bool>; 3] = [Some(true), Some(false), Some(true)];
 
-/// Begins a branch as a command of a client.
+/// Begins a branch as a command of a client, and answers whether it is told that the branch began.
 fn begin<R: Wait>(
     alloc: Global,
     rt: &R,
@@ -21,7 +23,7 @@ fn begin<R: Wait>(
     pass: &mut Pass,
     client: u32,
     branch: &str,
-) -> Option<u64>
+) -> Option<bool>
     requires own { pass.old.lock ≡ lock.now }
     ensures lock { pass.new.lock ≡ pass.old.lock }
     ensures stands { pass.new.stands ≡ pass.old.stands }
@@ -36,11 +38,16 @@ fn begin<R: Wait>(
         },
     };
     let receipt = lock.act(alloc, rt, pass, entry).ok()?;
-    Some(receipt.place)
+    Some(matches!(receipt.reply, Reply::Opened { .. }))
 }
 
 /// Two passes of one lock act in turn, and are joined.
-fn joined<R: Wait>(alloc: Global, rt: &R, lock: &HangarLock, first: &mut Pass) -> Option<()>
+fn joined<R: Wait>(
+    alloc: Global,
+    rt: &R,
+    lock: &HangarLock,
+    first: &mut Pass,
+) -> Option<[Option<bool>; 3]>
     requires own { first.old.lock ≡ lock.now }
     requires alone { first.old.stands ≡ 0 ∷ [] }
     requires unsplit { first.old.split ≡ 0 }
@@ -48,29 +55,35 @@ fn joined<R: Wait>(alloc: Global, rt: &R, lock: &HangarLock, first: &mut Pass) -
     ensures whole { IsWhole first.new }
 {
     let mut second = lock.split(first).ok()?;
-    begin(alloc, rt, lock, &mut second, 1, "x");
-    begin(alloc, rt, lock, first, 0, "x");
-    begin(alloc, rt, lock, &mut second, 1, "y");
+    let began = [
+        begin(alloc, rt, lock, &mut second, 1, "x"),
+        begin(alloc, rt, lock, first, 0, "x"),
+        begin(alloc, rt, lock, &mut second, 1, "y"),
+    ];
     lock.join(first, second);
-    Some(())
+    Some(began)
 }
 
-/// The journal of what two passes did.
-fn shared<R: Wait>(alloc: Global, rt: &R, hangar: Hangar) -> Option<Journal>
+/// The journal of what two passes did, and whether each branch began.
+fn shared<R: Wait>(
+    alloc: Global,
+    rt: &R,
+    hangar: Hangar,
+) -> Option<(Journal, [Option<bool>; 3])>
     requires { hangar.accepted ≡ 0 }
 {
     let (lock, mut first) = HangarLock::open(alloc, hangar).ok()?;
-    joined(alloc, rt, &lock, &mut first)?;
+    let began = joined(alloc, rt, &lock, &mut first)?;
     let (_hangar, journal) = lock.close(first);
-    Some(journal)
+    Some((journal, began))
 }
 
-/// Compares a journal with what it has to say.
+/// Compares a journal with the clients that it has to name.
 fn compare(rt: &impl Abort, journal: &Journal) {
-    assert_eq!(rt; journal.entries().len(), TOLD.len());
-    for ((entry, reply), (client, began)) in journal.entries().iter().zip(TOLD) {
-        assert_eq!(rt; entry.client, client);
-        assert_eq!(rt; matches!(reply, Reply::Opened { .. }), began);
+    assert_eq!(rt; journal.triples().len(), CLIENTS.len());
+    for (triple, client) in journal.triples().iter().zip(CLIENTS) {
+        assert_eq!(rt; triple.client(), client);
+        assert_eq!(rt; triple.part(), 0);
     }
 }
 
@@ -78,6 +91,7 @@ fn compare(rt: &impl Abort, journal: &Journal) {
 fn passes_share_one_journal(rt: HostRuntime) {
     let alloc = rt.alloc();
     let hangar = hangar(alloc).expect(&rt, "memory");
-    let journal = shared(alloc, &rt, hangar).expect(&rt, "memory");
+    let (journal, began) = shared(alloc, &rt, hangar).expect(&rt, "memory");
     compare(&rt, &journal);
+    assert_eq!(&rt; began, BEGAN);
 }

@@ -6,34 +6,34 @@ ghost use Rattle.report_text.specs.JournalLines.{entry_data, journal_data};
 
 use crate::alone::Alone;
 use aerie_base::OutOfMemory;
-use hangar_core::{Entry, Journal, Reply};
+use hangar_core::{Journal, Triple};
 use json_line::{JsonData, JsonIn, JsonLine, line_of};
 use std::alloc::Global;
 
 /// Whose part of which command it is.
-impl JsonIn<Alone> for (Entry, Reply) {
+impl JsonIn<Alone> for Triple {
     ghost data_in = { λ _ entry. entry_data entry };
 
     fn write_in(&self, _alone: &Alone, line: &mut JsonLine) -> Result<(), OutOfMemory> {
         line.begin_array()?;
-        self.0.client.write(line)?;
-        self.0.command.write(line)?;
-        self.0.part.write(line)?;
+        self.client().write(line)?;
+        self.command().write(line)?;
+        self.part().write(line)?;
         line.end_array()
     }
 }
 
-/// Entries with their replies, in their order.
+/// Triples of entries, in their order.
 #[derive(Drop)]
 struct Noted<'b> {
-    entries: &'b [(Entry, Reply)],
+    triples: &'b [Triple],
 }
 
 impl<'b> JsonData for Noted<'b> {
-    ghost as_data = { λ noted. journal_data noted.entries.now };
+    ghost as_data = { λ noted. journal_data noted.triples.now };
 
     fn write(&self, line: &mut JsonLine) -> Result<(), OutOfMemory> {
-        line.list_in(&Alone, self.entries)
+        line.list_in(&Alone, self.triples)
     }
 }
 
@@ -43,7 +43,7 @@ pub fn journal_line(alloc: Global, journal: &Journal) -> Result<String, OutOfMem
     ensures { IfOk result (λ line. string_bytes line ≡ line_of (journal_data journal.now)) }
 {
     let noted = Noted {
-        entries: journal.entries(),
+        triples: journal.triples(),
     };
     line_of(alloc, &noted)
 }

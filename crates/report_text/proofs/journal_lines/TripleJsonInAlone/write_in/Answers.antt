@@ -1,7 +1,7 @@
 -- The array is written part by part.
 use Rattle.std.proofs.lemmas.Result.{IfOk-equal}
 use Rattle.json_line.proofs.Steps.{part_by_part}
-use Rattle.report_text.proofs.journal_lines.Tuple2EntryReplyJsonInAlone.write_in.Goals as goal
+use Rattle.report_text.proofs.journal_lines.TripleJsonInAlone.write_in.Goals as goal
 
 pub returns : goal.returns
 returns c =
