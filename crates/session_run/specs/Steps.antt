@@ -1,5 +1,5 @@
 -- How far the steps rise in a session whose clients go in rounds.
-use Rattle.std.specs.Prelude.{◌≡◌, ℕ, suc, ◌+◌, true, min, List, [], ◌∷◌}
+use Rattle.std.specs.Prelude.{◌≡◌, ℕ, suc, ◌+◌, true, List, [], ◌∷◌}
 use Rattle.std.specs.List.{AllByRecursion}
 use Rattle.commands.specs.declared.commands.Command.{Command}
 use Rattle.session_reader.specs.declared.session.Client.{Client}
