@@ -42,7 +42,8 @@ pub fn perform_in_turn<R: Threads + Wait + Sync, G: Gate, L: Ledger, K: Ledger>(
 ) -> Result<String, OutOfMemory>
     requires session { CanBePerformed judged.now }
     requires bound { bound ≤ step_limit }
-    ensures performed { IfOk result (λ text. IsPerformedInTurn judged.now bound stats (string_bytes text)) }
+    ensures performed { IfOk result (λ text.
+        IsPerformedInTurn judged.now bound stats (string_bytes text) steps.old steps.new) }
     ensures steps { steps.old ≤ steps.new }
 {
     commands_are_done();
