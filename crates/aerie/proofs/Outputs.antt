@@ -11,7 +11,7 @@ use Rattle.session_judge.specs.declared.judged.JudgedSession.{JudgedSession}
 use Rattle.session_make.specs.Sessions.{session}
 use Rattle.session_reader.specs.declared.session_error.SessionError.TheVariants.{TooLarge}
 use Rattle.aerie.specs.Input.{HasReadAll}
-use Rattle.aerie.specs.Program.{Counted, ProgramAnswer, counted_from, IsAnswerTo, IsInputIf, IsModeAnswer, IsMadeAnswer, IsProgramAnswer, IsRunAnswer, IsSummarized, answer_with, check_answer, is_answered, mode_reads, named_answer, number_of_status, reads_input, refused_answer, summary_text}
+use Rattle.aerie.specs.Program.{StatementCounts, ProgramAnswer, counted_from, IsAnswerTo, IsInputIf, IsModeAnswer, IsMadeAnswer, IsProgramAnswer, IsRunAnswer, IsSummarized, answer_with, check_answer, is_answered, mode_reads, named_answer, number_of_status, reads_input, refused_answer, summary_text}
 use Rattle.aerie.specs.declared.exit_status.ExitStatus.{ExitStatus}
 use Rattle.aerie.specs.declared.exit_status.ExitStatus.TheVariants as status
 
@@ -27,7 +27,7 @@ check_tells : (judgement : Judgement JudgedSession) → Tells (check_answer judg
 check_tells (Ok judged) = refl
 check_tells (Err refusal) = refl
 
-run_tells : (invocation : Invocation) (judgement : Judgement JudgedSession) (count : Counted) (answer : ProgramAnswer) → IsRunAnswer invocation judgement count answer → Tells answer
+run_tells : (invocation : Invocation) (judgement : Judgement JudgedSession) (count : StatementCounts) (answer : ProgramAnswer) → IsRunAnswer invocation judgement count answer → Tells answer
 run_tells invocation (Ok judged) count answer is = subst (λ (ending : ExitStatus). IsTrue (is_answered (number_of_status ending))) (sym is.done) refl
 run_tells invocation (Err refusal) count answer is = as_told answer (refused_answer status.Refused refusal) is refl
 
@@ -39,17 +39,17 @@ made_tells : (number : ℕ) (text : Bool) (limit : ℕ) (answer : ProgramAnswer)
 made_tells number true limit answer is = as_told answer (answer_with status.Done (session number)) is refl
 made_tells number false limit answer is = summarized_tells number limit (judged_session (session number)) answer is
 
-mode_tells : (invocation : Invocation) (input : List ℕ) (mode : Mode) (count : Counted) (answer : ProgramAnswer) → IsModeAnswer invocation input mode count answer → Tells answer
+mode_tells : (invocation : Invocation) (input : List ℕ) (mode : Mode) (count : StatementCounts) (answer : ProgramAnswer) → IsModeAnswer invocation input mode count answer → Tells answer
 mode_tells invocation input Run count answer is = run_tells invocation (judged_session input) count answer is
 mode_tells invocation input Check count answer is = as_told answer (check_answer (judged_session input)) is (check_tells (judged_session input))
 mode_tells invocation input (Make number text) count answer is = made_tells number text invocation.limit answer is
 
-program_tells : (invocation : Option Invocation) (input : List ℕ) (count : Counted) (answer : ProgramAnswer) → IsProgramAnswer invocation input count answer → Tells answer
+program_tells : (invocation : Option Invocation) (input : List ℕ) (count : StatementCounts) (answer : ProgramAnswer) → IsProgramAnswer invocation input count answer → Tells answer
 program_tells None input count answer is = as_told answer (named_answer status.Words (codes "Words")) is refl
 program_tells (Some invocation) input count answer is = mode_tells invocation input invocation.mode count answer is
 
 -- the program's answers have one of the statuses with which all is written
-pub answer_tells : (invocation : Option Invocation) (before after : Option (List ℕ)) (count : Counted) (answer : ProgramAnswer) → IsAnswerTo invocation before after count answer
+pub answer_tells : (invocation : Option Invocation) (before after : Option (List ℕ)) (count : StatementCounts) (answer : ProgramAnswer) → IsAnswerTo invocation before after count answer
     → IsTrue (is_answered (number_of_status answer.status))
 answer_tells invocation before after count answer is = program_tells invocation is.input count answer is.told
 
@@ -79,7 +79,7 @@ refused_is_not_done answer input is done = absurd (clash (subst (λ (one : Progr
     clash : ◌≡◌ {A = ℕ} 3 0 → ⊥
     clash e = omega (arith, e)
 
-not_done : (invocation : Invocation) (input : List ℕ) (mode : Mode) (count : Counted) (answer : ProgramAnswer) → IsModeAnswer invocation input mode count answer
+not_done : (invocation : Invocation) (input : List ℕ) (mode : Mode) (count : StatementCounts) (answer : ProgramAnswer) → IsModeAnswer invocation input mode count answer
     → mode_reads mode ≡ true → length input ≡ 16_777_217 → number_of_status answer.status ≡ 0 → ⊥
 not_done invocation input Run count answer is reads long done =
     refused_is_not_done answer input (subst (λ (j : Judgement JudgedSession). IsRunAnswer invocation j count answer) (too_long input long) is) done
@@ -87,7 +87,7 @@ not_done invocation input Check count answer is reads long done =
     refused_is_not_done answer input (subst (λ (j : Judgement JudgedSession). answer ≡ check_answer j) (too_long input long) is) done
 not_done invocation input (Make number text) count answer is reads long done = absurd cc
 
-ended : (invocation : Option Invocation) (before after : Option (List ℕ)) (input : List ℕ) (count : Counted) (answer : ProgramAnswer) → IsInputIf (reads_input invocation) before after input
+ended : (invocation : Option Invocation) (before after : Option (List ℕ)) (input : List ℕ) (count : StatementCounts) (answer : ProgramAnswer) → IsInputIf (reads_input invocation) before after input
     → IsProgramAnswer invocation input count answer → number_of_status answer.status ≡ 0 → reads_input invocation ≡ true → IsAtEnd after
 ended None before after input count answer is told done reads = absurd cc
 ended (Some invocation) before after input count answer is told done reads =
@@ -95,13 +95,13 @@ ended (Some invocation) before after input count answer is told done reads =
     elim all.ended [ inl end ↦ end | inr long ↦ absurd (not_done invocation input invocation.mode count answer told reads long done) ]
 
 -- where all is done, a source that was read was read to its end
-pub read_to_end : (invocation : Option Invocation) (before after : Option (List ℕ)) (count : Counted) (answer : ProgramAnswer) → IsAnswerTo invocation before after count answer
+pub read_to_end : (invocation : Option Invocation) (before after : Option (List ℕ)) (count : StatementCounts) (answer : ProgramAnswer) → IsAnswerTo invocation before after count answer
     → number_of_status answer.status ≡ 0 → reads_input invocation ≡ true → IsAtEnd after
 read_to_end invocation before after count answer is done reads = ended invocation before after is.input count answer is.read is.told done reads
 
 -- ---- answers by modes
 
-of_mode : (invocation : Invocation) (mode : Mode) (before after : Option (List ℕ)) (input : List ℕ) (count : Counted) (answer : ProgramAnswer) → invocation.mode ≡ mode
+of_mode : (invocation : Invocation) (mode : Mode) (before after : Option (List ℕ)) (input : List ℕ) (count : StatementCounts) (answer : ProgramAnswer) → invocation.mode ≡ mode
     → IsInputIf (mode_reads mode) before after input → IsModeAnswer invocation input mode count answer → IsAnswerTo (Some invocation) before after count answer
 of_mode invocation mode before after input count answer is read told = record {
   input = input;
@@ -109,20 +109,20 @@ of_mode invocation mode before after input count answer is read told = record {
   told = subst (λ (m : Mode). IsModeAnswer invocation input m count answer) (sym is) told;
 }
 
-pub of_check : (invocation : Invocation) (before after : Option (List ℕ)) (input : List ℕ) (count : Counted) (answer : ProgramAnswer) → invocation.mode ≡ Check
+pub of_check : (invocation : Invocation) (before after : Option (List ℕ)) (input : List ℕ) (count : StatementCounts) (answer : ProgramAnswer) → invocation.mode ≡ Check
     → HasReadAll before after input → answer ≡ check_answer (judged_session input) → IsAnswerTo (Some invocation) before after count answer
 of_check invocation before after input count answer is read told = of_mode invocation Check before after input count answer is read told
 
-pub of_run : (invocation : Invocation) (before after : Option (List ℕ)) (input : List ℕ) (count : Counted) (answer : ProgramAnswer) → invocation.mode ≡ Run
+pub of_run : (invocation : Invocation) (before after : Option (List ℕ)) (input : List ℕ) (count : StatementCounts) (answer : ProgramAnswer) → invocation.mode ≡ Run
     → HasReadAll before after input → IsRunAnswer invocation (judged_session input) count answer → IsAnswerTo (Some invocation) before after count answer
 of_run invocation before after input count answer is read told = of_mode invocation Run before after input count answer is read told
 
-pub of_make : (invocation : Invocation) (number : ℕ) (text : Bool) (before after : Option (List ℕ)) (count : Counted) (answer : ProgramAnswer) → invocation.mode ≡ Make number text
+pub of_make : (invocation : Invocation) (number : ℕ) (text : Bool) (before after : Option (List ℕ)) (count : StatementCounts) (answer : ProgramAnswer) → invocation.mode ≡ Make number text
     → IsMadeAnswer number text invocation.limit answer → IsAnswerTo (Some invocation) before after count answer
 of_make invocation number text before after count answer is told = of_mode invocation (Make number text) before after [] count answer is tt told
 
 -- words that are no invocation
-pub of_no_words : (invocation : Option Invocation) (before after : Option (List ℕ)) (count : Counted) (answer : ProgramAnswer) → invocation ≡ None
+pub of_no_words : (invocation : Option Invocation) (before after : Option (List ℕ)) (count : StatementCounts) (answer : ProgramAnswer) → invocation ≡ None
     → answer ≡ named_answer status.Words (codes "Words") → IsAnswerTo invocation before after count answer
 of_no_words invocation before after count answer is told =
     subst (λ (one : Option Invocation). IsAnswerTo one before after count answer) (sym is) (record { input = []; read = tt; told = told })
