@@ -7,4 +7,4 @@ pub returns : goal.returns
 returns c =
     IfOk-equal _ _ _ _ c.end_array.ensures
     (simp part_by_part
-    (rw (c.in_ok-write-3.ensures, c.in_ok-write-2.ensures, c.in_ok-write.ensures, c.in_ok-begin_array.ensures)))
+    (rw (c.in_ok-write-3.ensures, c.in_ok-write-2.ensures, c.in_ok-write.ensures, c.in_ok-begin_array.ensures, c.client.ensures, c.command.ensures, c.part.ensures)))
