@@ -2,8 +2,8 @@
 use Rattle.aerie.proofs.Outputs.{from_nothing}
 use Rattle.aerie.proofs.program.counted.Goals as goal
 
-pub returns-clause-promised : goal.returns-clause-promised
-returns-clause-promised g c = record {
+pub returns : goal.returns
+returns g c = record {
   statuses = c.aerie.ensures.statuses;
   answered = λ is.
       let told = c.aerie.ensures.answered is in
