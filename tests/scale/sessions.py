@@ -240,6 +240,23 @@ def repeats(number):
     return ORBITER + orbit_plan(2000) + client(it for time in times for it in (f"move main 1001 to {time}us", "simulate main"))
 
 
+def apart(number, clients):
+    """Clients that each fork the plan of so many directives of the orbiter, and simulate it behind each of twenty moves of a directive."""
+    moving = [" ".join(f"{move}; simulate main;" for move in moved(number)).replace("main", f"b{client}") for client in range(clients)]
+    texts = (f"client c{client} {{ fork b{client} from main; {moves} }}\n" for client, moves in enumerate(moving))
+    return ORBITER + orbit_plan(number) + "".join(texts)
+
+
+def alone(number):
+    """one client that forks the plan of so many directives of the orbiter, and simulates it behind each of twenty moves"""
+    return apart(number, 1)
+
+
+def together(number):
+    """two clients that do so, each on a fork of its own"""
+    return apart(number, 2)
+
+
 def goals(number):
     """the plan of so many directives of the orbiter, with three goals and two constraints that are kept"""
     rules = f"""constraints {{
@@ -256,7 +273,7 @@ goals {{
 
 
 ALL = [orbit, judged, same, waits, rising, chain, star, children, calls, daemon, wide, edits, turns, load, merge, series, sequence, branches]
-ALL += [moves, moves_quiet, repeats, goals]
+ALL += [moves, moves_quiet, repeats, alone, together, goals]
 KINDS = {it.__name__: it for it in ALL}
 
 

@@ -11,7 +11,7 @@ use Rattle.session_judge.specs.declared.judged.JudgedSession.{JudgedSession}
 use Rattle.session_make.specs.Sessions.{session}
 use Rattle.session_reader.specs.declared.session_error.SessionError.TheVariants.{TooLarge}
 use Rattle.aerie.specs.Input.{HasReadAll}
-use Rattle.aerie.specs.Program.{ProgramAnswer, IsAnswerTo, IsInputIf, IsModeAnswer, IsMadeAnswer, IsProgramAnswer, IsRunAnswer, IsSummarized, answer_with, check_answer, is_answered, mode_reads, named_answer, number_of_status, reads_input, refused_answer, summary_text}
+use Rattle.aerie.specs.Program.{StatementCounts, ProgramAnswer, counted_from, IsAnswerTo, IsInputIf, IsModeAnswer, IsMadeAnswer, IsProgramAnswer, IsRunAnswer, IsSummarized, answer_with, check_answer, is_answered, mode_reads, named_answer, number_of_status, reads_input, refused_answer, summary_text}
 use Rattle.aerie.specs.declared.exit_status.ExitStatus.{ExitStatus}
 use Rattle.aerie.specs.declared.exit_status.ExitStatus.TheVariants as status
 
@@ -27,9 +27,9 @@ check_tells : (judgement : Judgement JudgedSession) → Tells (check_answer judg
 check_tells (Ok judged) = refl
 check_tells (Err refusal) = refl
 
-run_tells : (invocation : Invocation) (judgement : Judgement JudgedSession) (answer : ProgramAnswer) → IsRunAnswer invocation judgement answer → Tells answer
-run_tells invocation (Ok judged) answer is = subst (λ (ending : ExitStatus). IsTrue (is_answered (number_of_status ending))) (sym is.done) refl
-run_tells invocation (Err refusal) answer is = as_told answer (refused_answer status.Refused refusal) is refl
+run_tells : (invocation : Invocation) (judgement : Judgement JudgedSession) (count : StatementCounts) (answer : ProgramAnswer) → IsRunAnswer invocation judgement count answer → Tells answer
+run_tells invocation (Ok judged) count answer is = subst (λ (ending : ExitStatus). IsTrue (is_answered (number_of_status ending))) (sym is.done) refl
+run_tells invocation (Err refusal) count answer is = as_told answer (refused_answer status.Refused refusal) is refl
 
 summarized_tells : (number limit : ℕ) (judgement : Judgement JudgedSession) (answer : ProgramAnswer) → IsSummarized number limit judgement answer → Tells answer
 summarized_tells number limit (Ok judged) answer is = as_told answer (answer_with status.Done (summary_text number limit judged)) is refl
@@ -39,19 +39,19 @@ made_tells : (number : ℕ) (text : Bool) (limit : ℕ) (answer : ProgramAnswer)
 made_tells number true limit answer is = as_told answer (answer_with status.Done (session number)) is refl
 made_tells number false limit answer is = summarized_tells number limit (judged_session (session number)) answer is
 
-mode_tells : (invocation : Invocation) (input : List ℕ) (mode : Mode) (answer : ProgramAnswer) → IsModeAnswer invocation input mode answer → Tells answer
-mode_tells invocation input Run answer is = run_tells invocation (judged_session input) answer is
-mode_tells invocation input Check answer is = as_told answer (check_answer (judged_session input)) is (check_tells (judged_session input))
-mode_tells invocation input (Make number text) answer is = made_tells number text invocation.limit answer is
+mode_tells : (invocation : Invocation) (input : List ℕ) (mode : Mode) (count : StatementCounts) (answer : ProgramAnswer) → IsModeAnswer invocation input mode count answer → Tells answer
+mode_tells invocation input Run count answer is = run_tells invocation (judged_session input) count answer is
+mode_tells invocation input Check count answer is = as_told answer (check_answer (judged_session input)) is (check_tells (judged_session input))
+mode_tells invocation input (Make number text) count answer is = made_tells number text invocation.limit answer is
 
-program_tells : (invocation : Option Invocation) (input : List ℕ) (answer : ProgramAnswer) → IsProgramAnswer invocation input answer → Tells answer
-program_tells None input answer is = as_told answer (named_answer status.Words (codes "Words")) is refl
-program_tells (Some invocation) input answer is = mode_tells invocation input invocation.mode answer is
+program_tells : (invocation : Option Invocation) (input : List ℕ) (count : StatementCounts) (answer : ProgramAnswer) → IsProgramAnswer invocation input count answer → Tells answer
+program_tells None input count answer is = as_told answer (named_answer status.Words (codes "Words")) is refl
+program_tells (Some invocation) input count answer is = mode_tells invocation input invocation.mode count answer is
 
 -- the program's answers have one of the statuses with which all is written
-pub answer_tells : (invocation : Option Invocation) (before after : Option (List ℕ)) (answer : ProgramAnswer) → IsAnswerTo invocation before after answer
+pub answer_tells : (invocation : Option Invocation) (before after : Option (List ℕ)) (count : StatementCounts) (answer : ProgramAnswer) → IsAnswerTo invocation before after count answer
     → IsTrue (is_answered (number_of_status answer.status))
-answer_tells invocation before after answer is = program_tells invocation is.input answer is.told
+answer_tells invocation before after count answer is = program_tells invocation is.input count answer is.told
 
 false_is_true : false ≡ true → ⊥
 false_is_true e = cc
@@ -79,53 +79,53 @@ refused_is_not_done answer input is done = absurd (clash (subst (λ (one : Progr
     clash : ◌≡◌ {A = ℕ} 3 0 → ⊥
     clash e = omega (arith, e)
 
-not_done : (invocation : Invocation) (input : List ℕ) (mode : Mode) (answer : ProgramAnswer) → IsModeAnswer invocation input mode answer
+not_done : (invocation : Invocation) (input : List ℕ) (mode : Mode) (count : StatementCounts) (answer : ProgramAnswer) → IsModeAnswer invocation input mode count answer
     → mode_reads mode ≡ true → length input ≡ 16_777_217 → number_of_status answer.status ≡ 0 → ⊥
-not_done invocation input Run answer is reads long done =
-    refused_is_not_done answer input (subst (λ (j : Judgement JudgedSession). IsRunAnswer invocation j answer) (too_long input long) is) done
-not_done invocation input Check answer is reads long done =
+not_done invocation input Run count answer is reads long done =
+    refused_is_not_done answer input (subst (λ (j : Judgement JudgedSession). IsRunAnswer invocation j count answer) (too_long input long) is) done
+not_done invocation input Check count answer is reads long done =
     refused_is_not_done answer input (subst (λ (j : Judgement JudgedSession). answer ≡ check_answer j) (too_long input long) is) done
-not_done invocation input (Make number text) answer is reads long done = absurd cc
+not_done invocation input (Make number text) count answer is reads long done = absurd cc
 
-ended : (invocation : Option Invocation) (before after : Option (List ℕ)) (input : List ℕ) (answer : ProgramAnswer) → IsInputIf (reads_input invocation) before after input
-    → IsProgramAnswer invocation input answer → number_of_status answer.status ≡ 0 → reads_input invocation ≡ true → IsAtEnd after
-ended None before after input answer is told done reads = absurd cc
-ended (Some invocation) before after input answer is told done reads =
+ended : (invocation : Option Invocation) (before after : Option (List ℕ)) (input : List ℕ) (count : StatementCounts) (answer : ProgramAnswer) → IsInputIf (reads_input invocation) before after input
+    → IsProgramAnswer invocation input count answer → number_of_status answer.status ≡ 0 → reads_input invocation ≡ true → IsAtEnd after
+ended None before after input count answer is told done reads = absurd cc
+ended (Some invocation) before after input count answer is told done reads =
     let all : HasReadAll before after input = subst (λ (t : Bool). IsInputIf t before after input) reads is in
-    elim all.ended [ inl end ↦ end | inr long ↦ absurd (not_done invocation input invocation.mode answer told reads long done) ]
+    elim all.ended [ inl end ↦ end | inr long ↦ absurd (not_done invocation input invocation.mode count answer told reads long done) ]
 
 -- where all is done, a source that was read was read to its end
-pub read_to_end : (invocation : Option Invocation) (before after : Option (List ℕ)) (answer : ProgramAnswer) → IsAnswerTo invocation before after answer
+pub read_to_end : (invocation : Option Invocation) (before after : Option (List ℕ)) (count : StatementCounts) (answer : ProgramAnswer) → IsAnswerTo invocation before after count answer
     → number_of_status answer.status ≡ 0 → reads_input invocation ≡ true → IsAtEnd after
-read_to_end invocation before after answer is done reads = ended invocation before after is.input answer is.read is.told done reads
+read_to_end invocation before after count answer is done reads = ended invocation before after is.input count answer is.read is.told done reads
 
 -- ---- answers by modes
 
-of_mode : (invocation : Invocation) (mode : Mode) (before after : Option (List ℕ)) (input : List ℕ) (answer : ProgramAnswer) → invocation.mode ≡ mode
-    → IsInputIf (mode_reads mode) before after input → IsModeAnswer invocation input mode answer → IsAnswerTo (Some invocation) before after answer
-of_mode invocation mode before after input answer is read told = record {
+of_mode : (invocation : Invocation) (mode : Mode) (before after : Option (List ℕ)) (input : List ℕ) (count : StatementCounts) (answer : ProgramAnswer) → invocation.mode ≡ mode
+    → IsInputIf (mode_reads mode) before after input → IsModeAnswer invocation input mode count answer → IsAnswerTo (Some invocation) before after count answer
+of_mode invocation mode before after input count answer is read told = record {
   input = input;
   read = subst (λ (m : Mode). IsInputIf (mode_reads m) before after input) (sym is) read;
-  told = subst (λ (m : Mode). IsModeAnswer invocation input m answer) (sym is) told;
+  told = subst (λ (m : Mode). IsModeAnswer invocation input m count answer) (sym is) told;
 }
 
-pub of_check : (invocation : Invocation) (before after : Option (List ℕ)) (input : List ℕ) (answer : ProgramAnswer) → invocation.mode ≡ Check
-    → HasReadAll before after input → answer ≡ check_answer (judged_session input) → IsAnswerTo (Some invocation) before after answer
-of_check invocation before after input answer is read told = of_mode invocation Check before after input answer is read told
+pub of_check : (invocation : Invocation) (before after : Option (List ℕ)) (input : List ℕ) (count : StatementCounts) (answer : ProgramAnswer) → invocation.mode ≡ Check
+    → HasReadAll before after input → answer ≡ check_answer (judged_session input) → IsAnswerTo (Some invocation) before after count answer
+of_check invocation before after input count answer is read told = of_mode invocation Check before after input count answer is read told
 
-pub of_run : (invocation : Invocation) (before after : Option (List ℕ)) (input : List ℕ) (answer : ProgramAnswer) → invocation.mode ≡ Run
-    → HasReadAll before after input → IsRunAnswer invocation (judged_session input) answer → IsAnswerTo (Some invocation) before after answer
-of_run invocation before after input answer is read told = of_mode invocation Run before after input answer is read told
+pub of_run : (invocation : Invocation) (before after : Option (List ℕ)) (input : List ℕ) (count : StatementCounts) (answer : ProgramAnswer) → invocation.mode ≡ Run
+    → HasReadAll before after input → IsRunAnswer invocation (judged_session input) count answer → IsAnswerTo (Some invocation) before after count answer
+of_run invocation before after input count answer is read told = of_mode invocation Run before after input count answer is read told
 
-pub of_make : (invocation : Invocation) (number : ℕ) (text : Bool) (before after : Option (List ℕ)) (answer : ProgramAnswer) → invocation.mode ≡ Make number text
-    → IsMadeAnswer number text invocation.limit answer → IsAnswerTo (Some invocation) before after answer
-of_make invocation number text before after answer is told = of_mode invocation (Make number text) before after [] answer is tt told
+pub of_make : (invocation : Invocation) (number : ℕ) (text : Bool) (before after : Option (List ℕ)) (count : StatementCounts) (answer : ProgramAnswer) → invocation.mode ≡ Make number text
+    → IsMadeAnswer number text invocation.limit answer → IsAnswerTo (Some invocation) before after count answer
+of_make invocation number text before after count answer is told = of_mode invocation (Make number text) before after [] count answer is tt told
 
 -- words that are no invocation
-pub of_no_words : (invocation : Option Invocation) (before after : Option (List ℕ)) (answer : ProgramAnswer) → invocation ≡ None
-    → answer ≡ named_answer status.Words (codes "Words") → IsAnswerTo invocation before after answer
-of_no_words invocation before after answer is told =
-    subst (λ (one : Option Invocation). IsAnswerTo one before after answer) (sym is) (record { input = []; read = tt; told = told })
+pub of_no_words : (invocation : Option Invocation) (before after : Option (List ℕ)) (count : StatementCounts) (answer : ProgramAnswer) → invocation ≡ None
+    → answer ≡ named_answer status.Words (codes "Words") → IsAnswerTo invocation before after count answer
+of_no_words invocation before after count answer is told =
+    subst (λ (one : Option Invocation). IsAnswerTo one before after count answer) (sym is) (record { input = []; read = tt; told = told })
 
 -- a mode that reads is none that does not
 pub reads_in : (invocation : Invocation) (mode : Mode) → invocation.mode ≡ mode → mode_reads mode ≡ true → reads_input (Some invocation) ≡ false → ⊥
@@ -133,3 +133,9 @@ reads_in invocation mode is reads not = absurd (clash (sym reads ∙ ap mode_rea
   where
     clash : true ≡ false → ⊥
     clash e = cc
+
+-- a count that begins at 0
+pub from_nothing : (invocation : Option Invocation) (before after : Option (List ℕ)) (steps statements : ℕ) (answer : ProgramAnswer) → steps ≡ 0
+    → IsAnswerTo invocation before after (counted_from steps statements) answer → (count : ℕ) × IsAnswerTo invocation before after (counted_from 0 count) answer
+from_nothing invocation before after steps statements answer none is =
+    (statements, subst (λ (n : ℕ). IsAnswerTo invocation before after (counted_from n statements) answer) none is)

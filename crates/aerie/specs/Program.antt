@@ -65,20 +65,28 @@ check_answer (Err refusal) = refused_answer status.Refused refusal
 
 -- ---- run
 
+-- how the count of statements stood before a call of the program, and after it
+pub record StatementCounts : Type 0 where
+  pub before : ℕ
+  pub after : ℕ
+
+abbrev pub counted_from : ℕ → ℕ → StatementCounts
+counted_from before after = record { before = before; after = after }
+
 -- the text of a session that is performed: along the journal of clients in rounds where that is asked for, or else along a journal that fits
-abbrev pub IsRunText : Bool → JudgedSession → ℕ → Bool → List ℕ → Type 0
-IsRunText true judged limit stats text = IsPerformedInTurn judged limit stats text
-IsRunText false judged limit stats text = IsPerformed judged limit stats text
+abbrev pub IsRunText : Bool → JudgedSession → ℕ → Bool → StatementCounts → List ℕ → Type 0
+IsRunText true judged limit stats count text = IsPerformedInTurn judged limit stats text count.before count.after
+IsRunText false judged limit stats count text = IsPerformed judged limit stats text
 
 -- a good session is performed
-pub record HasRun (invocation : Invocation) (judged : JudgedSession) (answer : ProgramAnswer) : Type 0 where
+pub record HasRun (invocation : Invocation) (judged : JudgedSession) (count : StatementCounts) (answer : ProgramAnswer) : Type 0 where
   pub done : answer.status ≡ status.Done
-  pub text : IsRunText invocation.serial judged invocation.limit invocation.stats answer.text
+  pub text : IsRunText invocation.serial judged invocation.limit invocation.stats count answer.text
 
 -- a session is judged, and performed where it is good
-abbrev pub IsRunAnswer : Invocation → Judgement JudgedSession → ProgramAnswer → Type 0
-IsRunAnswer invocation (Ok judged) answer = HasRun invocation judged answer
-IsRunAnswer invocation (Err refusal) answer = answer ≡ refused_answer status.Refused refusal
+abbrev pub IsRunAnswer : Invocation → Judgement JudgedSession → StatementCounts → ProgramAnswer → Type 0
+IsRunAnswer invocation (Ok judged) count answer = HasRun invocation judged count answer
+IsRunAnswer invocation (Err refusal) count answer = answer ≡ refused_answer status.Refused refusal
 
 -- ---- make
 
@@ -99,15 +107,15 @@ IsMadeAnswer number false limit answer = IsSummarized number limit (judged_sessi
 
 -- ---- the program
 
-abbrev pub IsModeAnswer : Invocation → List ℕ → Mode → ProgramAnswer → Type 0
-IsModeAnswer invocation input Run answer = IsRunAnswer invocation (judged_session input) answer
-IsModeAnswer invocation input Check answer = answer ≡ check_answer (judged_session input)
-IsModeAnswer invocation input (Make number text) answer = IsMadeAnswer number text invocation.limit answer
+abbrev pub IsModeAnswer : Invocation → List ℕ → Mode → StatementCounts → ProgramAnswer → Type 0
+IsModeAnswer invocation input Run count answer = IsRunAnswer invocation (judged_session input) count answer
+IsModeAnswer invocation input Check count answer = answer ≡ check_answer (judged_session input)
+IsModeAnswer invocation input (Make number text) count answer = IsMadeAnswer number text invocation.limit answer
 
 -- what the program may answer to an invocation, if the words are one, and to the bytes of the input
-abbrev pub IsProgramAnswer : Option Invocation → List ℕ → ProgramAnswer → Type 0
-IsProgramAnswer None input answer = answer ≡ named_answer status.Words (codes "Words")
-IsProgramAnswer (Some invocation) input answer = IsModeAnswer invocation input invocation.mode answer
+abbrev pub IsProgramAnswer : Option Invocation → List ℕ → StatementCounts → ProgramAnswer → Type 0
+IsProgramAnswer None input count answer = answer ≡ named_answer status.Words (codes "Words")
+IsProgramAnswer (Some invocation) input count answer = IsModeAnswer invocation input invocation.mode count answer
 
 -- ---- the input
 
@@ -126,8 +134,8 @@ abbrev pub IsInputIf : Bool → Option (List ℕ) → Option (List ℕ) → List
 IsInputIf true before after input = HasReadAll before after input
 IsInputIf false before after input = Unit {0}
 
--- the answer is one to the input that was read
-pub record IsAnswerTo (invocation : Option Invocation) (before after : Option (List ℕ)) (answer : ProgramAnswer) : Type 0 where
+-- the answer is one to the input that was read, given with this count of statements
+pub record IsAnswerTo (invocation : Option Invocation) (before after : Option (List ℕ)) (count : StatementCounts) (answer : ProgramAnswer) : Type 0 where
   pub input : List ℕ
   pub read : IsInputIf (reads_input invocation) before after input
-  pub told : IsProgramAnswer invocation input answer
+  pub told : IsProgramAnswer invocation input count answer

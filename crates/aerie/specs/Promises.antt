@@ -5,7 +5,7 @@ use Rattle.aerie_edge.specs.Faults.{Rose}
 use Rattle.command_line.specs.declared.invocation.Invocation.{Invocation}
 use Rattle.aerie.specs.Input.{HasRead}
 use Rattle.aerie.specs.Output.{WritesAll, WritesFront}
-use Rattle.aerie.specs.Program.{ProgramAnswer, IsAnswerTo, is_answered, is_status, number_of_status, reads_input}
+use Rattle.aerie.specs.Program.{ProgramAnswer, IsAnswerTo, counted_from, is_answered, is_status, number_of_status, reads_input}
 
 -- a source before and after the call, and how it is seen: what is left in it, how often it was read, how many faults it counted
 pub record SourceOf (S : Type 0) : Type 0 where
@@ -35,7 +35,7 @@ pub record DoesAsPromised {S K : Type 0} (source : SourceOf S) (sink : SinkOf K)
   pub statuses : IsTrue (is_status status)
   -- with 0, 2 and 3 the status and all that was written are the answer to the words and to the input
   pub answered : IsTrue (is_answered status) → (answer : ProgramAnswer)
-      × IsAnswerTo invocation (source.left source.before) (source.left source.after) answer
+      × ((statements : ℕ) × IsAnswerTo invocation (source.left source.before) (source.left source.after) (counted_from 0 statements) answer)
       × (status ≡ number_of_status answer.status)
       × WritesAll (sink.written sink.before) (sink.written sink.after) (sink.pieces sink.before) (sink.pieces sink.after) answer.text
   -- where no session is performed or judged, nothing is read
@@ -46,7 +46,7 @@ pub record DoesAsPromised {S K : Type 0} (source : SourceOf S) (sink : SinkOf K)
   pub read_failed : status ≡ 4 → HasFailedReading source × (sink.after ≡ sink.before)
   -- a write failed: the sink counted it, and exactly a front of the answer was written
   pub write_failed : status ≡ 5 → HasFailedWriting sink × ((answer : ProgramAnswer)
-      × IsAnswerTo invocation (source.left source.before) (source.left source.after) answer
+      × ((statements : ℕ) × IsAnswerTo invocation (source.left source.before) (source.left source.after) (counted_from 0 statements) answer)
       × WritesFront (sink.written sink.before) (sink.written sink.after) (sink.pieces sink.before) (sink.pieces sink.after) answer.text)
   -- want of memory: nothing was written
   pub memory : status ≡ 6 → sink.after ≡ sink.before

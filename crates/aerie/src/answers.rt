@@ -5,7 +5,7 @@ ghost use Rattle.aerie_base.specs.Ranges.{step_limit};
 ghost use Rattle.command_line.specs.Invocations.{HasNumbersWithin};
 ghost use Rattle.session_judge.specs.Judging.{judged_session};
 ghost use Rattle.session_run.specs.Ruled.{CanBePerformed};
-ghost use Rattle.aerie.specs.Program.{HasRun, IsMadeAnswer, IsRunAnswer, answer_with, check_answer, named_answer, refused_answer, summary_text};
+ghost use Rattle.aerie.specs.Program.{HasRun, IsMadeAnswer, IsRunAnswer, answer_with, check_answer, counted_from, named_answer, refused_answer, summary_text};
 ghost use Rattle.aerie.specs.declared.exit_status.ExitStatus.TheVariants.{Done};
 
 use crate::exit_status::ExitStatus;
@@ -168,7 +168,7 @@ fn performed_good<R: Threads + Wait + Sync, G: Gate, L: Ledger, K: Ledger>(
     requires name { blank.name ≡ K.name }
     requires parts { blank.parts ≡ K.parts }
     requires some { 0 < K.parts }
-    ensures performed { IfOk result (HasRun invocation.now judged.now) }
+    ensures performed { IfOk result (HasRun invocation.now judged.now (counted_from steps.old steps.new)) }
     ensures steps { steps.old ≤ steps.new }
 {
     let (limit, pieces, stats) = (invocation.limit, invocation.pieces, invocation.stats);
@@ -199,7 +199,8 @@ pub fn performed<R: Threads + Wait + Sync, G: Gate, L: Ledger>(
     steps: &mut Steps<L>,
 ) -> Result<Output, OutOfMemory>
     requires within { HasNumbersWithin invocation.now }
-    ensures performed { IfOk result (IsRunAnswer invocation.now (judged_session input.now)) }
+    ensures performed { IfOk result (
+        IsRunAnswer invocation.now (judged_session input.now) (counted_from steps.old steps.new)) }
     ensures steps { steps.old ≤ steps.new }
 {
     match judge(alloc, input) {

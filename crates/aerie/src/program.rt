@@ -8,7 +8,7 @@ ghost use Rattle.command_line.specs.Invocations.{HasNumbersWithin, invocation_of
 ghost use Rattle.aerie.specs.Input.{HasRead};
 ghost use Rattle.aerie.specs.Output.{WritesAll, WritesFront};
 ghost use Rattle.aerie.specs.Promises.{DoesAsPromised, sink_of, source_of};
-ghost use Rattle.aerie.specs.Program.{ProgramAnswer, IsAnswerTo, is_answered, is_status, number_of_status, reads_input};
+ghost use Rattle.aerie.specs.Program.{ProgramAnswer, IsAnswerTo, counted_from, is_answered, is_status, number_of_status, reads_input};
 
 use crate::answers::{Output, checked, made, named, performed};
 use crate::exit_status::ExitStatus;
@@ -34,7 +34,7 @@ fn output_for<R: Threads + Wait + Sync, S: Source, G: Gate, L: Ledger>(
 ) -> Result<Output, InputError>
     requires within { HasNumbersWithin invocation.now }
     ensures answered { IfOk result (IsAnswerTo (Some invocation.now)
-        (S.left source.old) (S.left source.new)) }
+        (S.left source.old) (S.left source.new) (counted_from steps.old steps.new)) }
     ensures unread { reads_input (Some invocation.now) ≡ false → source.new ≡ source.old }
     ensures read { (input : List ℕ) × HasRead (S.left source.old) (S.left source.new) input }
     ensures reads { S.reads source.new ≤ S.reads source.old + 16_777_217 }
@@ -69,7 +69,7 @@ fn output<R: Threads + Wait + Sync, S: Source, G: Gate, L: Ledger>(
     steps: &mut Steps<L>,
 ) -> Result<Output, InputError>
     ensures answered { IfOk result (IsAnswerTo (invocation_of (texts_of words.now))
-        (S.left source.old) (S.left source.new)) }
+        (S.left source.old) (S.left source.new) (counted_from steps.old steps.new)) }
     ensures unread { reads_input (invocation_of (texts_of words.now)) ≡ false → source.new ≡ source.old }
     ensures read { (input : List ℕ) × HasRead (S.left source.old) (S.left source.new) input }
     ensures reads { S.reads source.new ≤ S.reads source.old + 16_777_217 }
@@ -102,7 +102,8 @@ pub fn aerie<R: Threads + Wait + Sync, S: Source, K: Sink, G: Gate, L: Ledger>(
     // With 0, 2 and 3 the status and all that was written are the answer to the words and to the input, which was read to its
     // end, or as far as is read.
     ensures answered { IsTrue (is_answered result) → (answer : ProgramAnswer)
-        × IsAnswerTo (invocation_of (texts_of words.now)) (S.left source.old) (S.left source.new) answer
+        × IsAnswerTo (invocation_of (texts_of words.now)) (S.left source.old) (S.left source.new)
+        (counted_from steps.old steps.new) answer
         × (result ≡ number_of_status answer.status)
         × WritesAll (K.written sink.old) (K.written sink.new)
         (K.pieces sink.old) (K.pieces sink.new) answer.text }
@@ -121,7 +122,8 @@ pub fn aerie<R: Threads + Wait + Sync, S: Source, K: Sink, G: Gate, L: Ledger>(
     // A write failed: the sink counted it, and exactly a front of the answer was written.
     ensures write_failed { result ≡ 5 → Rose (K.faults sink.old) (K.faults sink.new)
         × ((answer : ProgramAnswer)
-        × IsAnswerTo (invocation_of (texts_of words.now)) (S.left source.old) (S.left source.new) answer
+        × IsAnswerTo (invocation_of (texts_of words.now)) (S.left source.old) (S.left source.new)
+        (counted_from steps.old steps.new) answer
         × WritesFront (K.written sink.old) (K.written sink.new)
         (K.pieces sink.old) (K.pieces sink.new) answer.text) }
 

@@ -36,25 +36,25 @@ pub record IsRefused (said refusal : Reply) : Type 0 where
   pub same : refusal ≡ said
   pub none : (next : ℕ → Plan → Option Action) → on_fetched said next ≡ None
   pub told : (told : ℕ → Plan → Answer) → by_fetched said told ≡ answer.Reply said
-  pub paid : (mission : Mission) (statements : ℕ) → PaysAsFetched mission said statements
+  pub paid : (mission : Mission) → PaysAsFetched mission said 0
 
 pub refused : (said refusal : Reply) → fetched_by said ≡ Err refusal → IsRefused said refusal
 refused (reply.Fetched revision plan kept) refusal e = absurd (no_err (record { revision = revision; plan = plan; kept = kept }) refusal e)
-refused (reply.Opened revision) refusal e = record { same = sym (same_err (reply.Opened revision) refusal e); none = λ next. refl; told = λ told. refl; paid = λ mission statements. tt }
-refused reply.Dropped refusal e = record { same = sym (same_err reply.Dropped refusal e); none = λ next. refl; told = λ told. refl; paid = λ mission statements. tt }
-refused (reply.Added id revision) refusal e = record { same = sym (same_err (reply.Added id revision) refusal e); none = λ next. refl; told = λ told. refl; paid = λ mission statements. tt }
-refused (reply.Edited revision) refusal e = record { same = sym (same_err (reply.Edited revision) refusal e); none = λ next. refl; told = λ told. refl; paid = λ mission statements. tt }
-refused (reply.Loaded first count revision) refusal e = record { same = sym (same_err (reply.Loaded first count revision) refusal e); none = λ next. refl; told = λ told. refl; paid = λ mission statements. tt }
-refused reply.Attached refusal e = record { same = sym (same_err reply.Attached refusal e); none = λ next. refl; told = λ told. refl; paid = λ mission statements. tt }
-refused (reply.Placed revision) refusal e = record { same = sym (same_err (reply.Placed revision) refusal e); none = λ next. refl; told = λ told. refl; paid = λ mission statements. tt }
-refused reply.NoBranch refusal e = record { same = sym (same_err reply.NoBranch refusal e); none = λ next. refl; told = λ told. refl; paid = λ mission statements. tt }
-refused reply.BranchExists refusal e = record { same = sym (same_err reply.BranchExists refusal e); none = λ next. refl; told = λ told. refl; paid = λ mission statements. tt }
-refused reply.TooManyBranches refusal e = record { same = sym (same_err reply.TooManyBranches refusal e); none = λ next. refl; told = λ told. refl; paid = λ mission statements. tt }
-refused reply.NoMapping refusal e = record { same = sym (same_err reply.NoMapping refusal e); none = λ next. refl; told = λ told. refl; paid = λ mission statements. tt }
-refused (reply.Unmapped id) refusal e = record { same = sym (same_err (reply.Unmapped id) refusal e); none = λ next. refl; told = λ told. refl; paid = λ mission statements. tt }
-refused (reply.Misfit id number) refusal e = record { same = sym (same_err (reply.Misfit id number) refusal e); none = λ next. refl; told = λ told. refl; paid = λ mission statements. tt }
-refused (reply.Edit error) refusal e = record { same = sym (same_err (reply.Edit error) refusal e); none = λ next. refl; told = λ told. refl; paid = λ mission statements. tt }
-refused (reply.Stale seen now) refusal e = record { same = sym (same_err (reply.Stale seen now) refusal e); none = λ next. refl; told = λ told. refl; paid = λ mission statements. tt }
+refused (reply.Opened revision) refusal e = record { same = sym (same_err (reply.Opened revision) refusal e); none = λ next. refl; told = λ told. refl; paid = λ mission. refl }
+refused reply.Dropped refusal e = record { same = sym (same_err reply.Dropped refusal e); none = λ next. refl; told = λ told. refl; paid = λ mission. refl }
+refused (reply.Added id revision) refusal e = record { same = sym (same_err (reply.Added id revision) refusal e); none = λ next. refl; told = λ told. refl; paid = λ mission. refl }
+refused (reply.Edited revision) refusal e = record { same = sym (same_err (reply.Edited revision) refusal e); none = λ next. refl; told = λ told. refl; paid = λ mission. refl }
+refused (reply.Loaded first count revision) refusal e = record { same = sym (same_err (reply.Loaded first count revision) refusal e); none = λ next. refl; told = λ told. refl; paid = λ mission. refl }
+refused reply.Attached refusal e = record { same = sym (same_err reply.Attached refusal e); none = λ next. refl; told = λ told. refl; paid = λ mission. refl }
+refused (reply.Placed revision) refusal e = record { same = sym (same_err (reply.Placed revision) refusal e); none = λ next. refl; told = λ told. refl; paid = λ mission. refl }
+refused reply.NoBranch refusal e = record { same = sym (same_err reply.NoBranch refusal e); none = λ next. refl; told = λ told. refl; paid = λ mission. refl }
+refused reply.BranchExists refusal e = record { same = sym (same_err reply.BranchExists refusal e); none = λ next. refl; told = λ told. refl; paid = λ mission. refl }
+refused reply.TooManyBranches refusal e = record { same = sym (same_err reply.TooManyBranches refusal e); none = λ next. refl; told = λ told. refl; paid = λ mission. refl }
+refused reply.NoMapping refusal e = record { same = sym (same_err reply.NoMapping refusal e); none = λ next. refl; told = λ told. refl; paid = λ mission. refl }
+refused (reply.Unmapped id) refusal e = record { same = sym (same_err (reply.Unmapped id) refusal e); none = λ next. refl; told = λ told. refl; paid = λ mission. refl }
+refused (reply.Misfit id number) refusal e = record { same = sym (same_err (reply.Misfit id number) refusal e); none = λ next. refl; told = λ told. refl; paid = λ mission. refl }
+refused (reply.Edit error) refusal e = record { same = sym (same_err (reply.Edit error) refusal e); none = λ next. refl; told = λ told. refl; paid = λ mission. refl }
+refused (reply.Stale seen now) refusal e = record { same = sym (same_err (reply.Stale seen now) refusal e); none = λ next. refl; told = λ told. refl; paid = λ mission. refl }
 
 -- the reply to a Fetch that gave a branch
 pub was_fetched : (said : Reply) (branch : FetchedBranch) → fetched_by said ≡ Ok branch → said ≡ reply_with branch

@@ -45,7 +45,7 @@ module _ (mission : Mission) (whose : ClientCommand) where
       IsCarriedOn (begun_with mission whose (Simulate branch) (first ∷ [])) (work_state_at pass steps) (work_state_at pass steps) (answer.Reply refusal)
   no_report branch first refusal pass steps e =
       let is = refused first refusal e in
-      over mission whose (Simulate branch) steps steps (answer.Reply refusal) (first ∷ []) pass 0 (is.none _) (omega arith, λ rise by. omega (arith, by)) (is.paid mission 0)
+      over mission whose (Simulate branch) steps steps (answer.Reply refusal) (first ∷ []) pass 0 (is.none _) (omega arith, λ rise by. omega (arith, by)) (is.paid mission)
       (ap answer.Reply is.same ∙ sym (is.told _))
 
   -- commands for the spans of no branch

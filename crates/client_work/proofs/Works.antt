@@ -10,7 +10,8 @@ use Rattle.hangar_lock.specs.Places.{Places}
 use Rattle.hangar_lock.specs.ClientEntries.{HasWorked, own_entry, reply_of}
 use Rattle.client_work.specs.declared.missions.Mission.{Mission}
 use Rattle.client_work.specs.declared.workplace.Worker.{Worker}
-use Rattle.client_work.specs.Counts.{PaysAsReplied}
+use Rattle.client_work.specs.Counts.{IsRise, PaysAsReplied}
+use Rattle.client_work.specs.Rises.{rise_of}
 use Rattle.client_work.specs.Lines.{ClientOf, told_line}
 use Rattle.client_work.specs.Meanings.{meanings_of}
 use Rattle.client_work.specs.Told.{command_told, count_told}
@@ -35,13 +36,14 @@ line_told mission client number command statements own =
 module _ (mission : Mission) (client : ClientOf) where
   -- one command more is told
   module _ (command : Command) (own : Entries) (statements : ℕ) where
-    pub one_more : (number at : ℕ) (commands : List Command) (entries : Entries) (text : List ℕ) → at ≡ number + length commands →
-        IsWorkTold mission client number commands entries text →
+    pub one_more : (number at : ℕ) (commands : List Command) (entries : Entries) (text : List ℕ) (total rise : ℕ) → at ≡ number + length commands →
+        IsWorkTold mission client number commands entries text total →
         IsCommand (meanings_of mission.models mission.bound) client.number at command [] own →
-        PaysAsReplied mission command (map reply_of own) statements →
-        IsWorkTold mission client number (commands ++ (command ∷ [])) (entries ++ own) (text ++ line_told mission client at command statements own)
-    one_more number at [] entries text count told done paid =
-        let same : at ≡ number = omega (arith, count) in (
+        PaysAsReplied mission command (map reply_of own) statements → IsRise command statements rise →
+        IsWorkTold mission client number (commands ++ (command ∷ [])) (entries ++ own) (text ++ line_told mission client at command statements own) (total + rise)
+    one_more number at [] entries text total rise count told done paid rose =
+        let same : at ≡ number = omega (arith, count) in
+        let none = told.2 in (
           own,
           [],
           statements,
@@ -52,10 +54,15 @@ module _ (mission : Mission) (client : ClientOf) where
           ap (λ (l : List ℕ). l ++ line_told mission client at command statements own) told.1
               ∙ ap (λ (n : ℕ). line_told mission client n command statements own) same
               ∙ sym (append-nil (line_told mission client number command statements own)),
-          (refl, refl),
+          rise,
+          0,
+          rose,
+          omega (arith, none),
+          (refl, refl, refl),
         )
-    one_more number at (first ∷ commands) entries text count told done paid =
-        let later = one_more (number + 1) at commands told.1 told.3 (omega (arith, count)) told.8 done paid in (
+    one_more number at (first ∷ commands) entries text total rise count told done paid rose =
+        let later = one_more (number + 1) at commands told.1 told.3 told.9 rise (omega (arith, count)) told.12 done paid rose in
+        let sum = told.11 in (
           told.0,
           told.1 ++ own,
           told.2,
@@ -65,21 +72,25 @@ module _ (mission : Mission) (client : ClientOf) where
           told.6,
           ap (λ (l : List ℕ). l ++ line_told mission client at command statements own) told.7
               ∙ append_assoc (line_told mission client number first told.2 told.0) told.3 (line_told mission client at command statements own),
+          told.8,
+          told.9 + rise,
+          told.10,
+          omega (arith, sum),
           later,
         )
 
   -- the entries that are told of are the work of the client
-  is_work : (number : ℕ) (commands : List Command) (entries : Entries) (text : List ℕ) → IsWorkTold mission client number commands entries text →
+  is_work : (number : ℕ) (commands : List Command) (entries : Entries) (text : List ℕ) (total : ℕ) → IsWorkTold mission client number commands entries text total →
       IsWorkOf (meanings_of mission.models mission.bound) client.number number commands entries
-  is_work number [] entries text told = told.0
-  is_work number (command ∷ commands) entries text told = (told.0, told.1, told.4, told.5, is_work (number + 1) commands told.1 told.3 told.8)
+  is_work number [] entries text total told = told.0
+  is_work number (command ∷ commands) entries text total told = (told.0, told.1, told.4, told.5, is_work (number + 1) commands told.1 told.3 told.9 told.12)
 
   pub has_worked : (commands : List Command) (before after : PassView) (text : List ℕ) → IsWorkDone (work_of mission client commands) before after text →
       HasWorked (meanings_of mission.models mission.bound) client.number commands before after
   has_worked commands before after text done = record {
     gained = done.gained;
     mine = done.gains.mine;
-    work = is_work 0 commands (own_entries done.gained) text done.told;
+    work = is_work 0 commands (own_entries done.gained) text done.total done.told;
     rises = done.gains.rises;
   }
 
@@ -94,12 +105,15 @@ module _ (mission : Mission) (client : ClientOf) where
       IsCommandDone (told_command_by mission client (length commands) command) (work_state_at middle steps_before) (work_state_at after steps_after) line →
       IsWorkDone (work_of mission client (commands ++ (command ∷ []))) before after (text ++ line)
   one_done command commands before middle after steps_before steps_after text line work whose =
-      let told = one_more command (own_entries whose.gained) whose.statements 0 (length commands) commands (own_entries work.gained) text (omega arith) work.told whose.parts whose.paid in
+      let rose = rise_of command whose.statements steps_before steps_after whose.counted in
+      let told = one_more command (own_entries whose.gained) whose.statements 0 (length commands) commands (own_entries work.gained) text work.total rose.rise (omega arith) work.told
+      whose.parts whose.paid rose.counted in
       record {
         gained = work.gained ++ whose.gained;
         gains = gained_both before middle after work.gained whose.gained work.gains whose.gains;
-        told = subst (λ (l : Entries). IsWorkTold mission client 0 (commands ++ (command ∷ [])) l (text ++ line)) (sym (entries_both work.gained whose.gained))
-            (subst (λ (l : List ℕ). IsWorkTold mission client 0 (commands ++ (command ∷ [])) (own_entries work.gained ++ own_entries whose.gained) (text ++ l)) (sym whose.told) told);
+        total = work.total + rose.rise;
+        told = subst (λ (l : Entries). IsWorkTold mission client 0 (commands ++ (command ∷ [])) l (text ++ line) (work.total + rose.rise)) (sym (entries_both work.gained whose.gained))
+            (subst (λ (l : List ℕ). IsWorkTold mission client 0 (commands ++ (command ∷ [])) (own_entries work.gained ++ own_entries whose.gained) (text ++ l) (work.total + rose.rise)) (sym whose.told) told);
       }
 
   -- behind the commands below a number, the next one

@@ -3,6 +3,7 @@ pub mod Told
 pub mod Lines
 pub mod Counts
 pub mod Working
+pub mod Rises
 pub mod Benches
 pub mod Fetching
 pub mod MergesCarriedOn

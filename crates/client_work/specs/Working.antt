@@ -32,7 +32,7 @@ use Rattle.client_work.specs.declared.workplace.Worker.{Worker}
 use Rattle.client_work.specs.Lines.{ClientOf, model_told, told_line}
 use Rattle.client_work.specs.Meanings.{meanings_of}
 use Rattle.client_work.specs.Told.{count_told, command_told}
-use Rattle.client_work.specs.Counts.{PaysAsReplied}
+use Rattle.client_work.specs.Counts.{IsRise, PaysAsReplied}
 
 -- ---- what clients are given
 
@@ -163,16 +163,18 @@ pub record IsCarriedOn (of : Begun) (before after : WorkState) (telling : Answer
 
 -- ---- clients
 
--- a client's commands, counted from a number, were done one after another with these entries, and this text is told of them
+-- a client's commands, counted from a number, were done one after another with these entries, this text is told of them, and the
+-- simulations that are told took so many steps together
 module _ (mission : Mission) (client : ClientOf) where
-  abbrev pub IsWorkTold : ℕ → List Command → Entries → List ℕ → Type 0
-  IsWorkTold number [] entries text = (entries ≡ []) × (text ≡ [])
-  IsWorkTold number (command ∷ commands) entries text =
+  abbrev pub IsWorkTold : ℕ → List Command → Entries → List ℕ → ℕ → Type 0
+  IsWorkTold number [] entries text total = (entries ≡ []) × (text ≡ []) × (total ≡ 0)
+  IsWorkTold number (command ∷ commands) entries text total =
       (own later : Entries) × (statements : ℕ) × (rest : List ℕ) × (entries ≡ own ++ later)
       × IsCommand (meanings_of mission.models mission.bound) client.number number command [] own
       × PaysAsReplied mission command (map reply_of own) statements
       × (text ≡ told_line mission client.name number command (command_told mission (count_told mission statements) command (map reply_of own)) ++ rest)
-      × IsWorkTold (number + 1) commands later rest
+      × (rise others : ℕ) × IsRise command statements rise × (total ≡ rise + others)
+      × IsWorkTold (number + 1) commands later rest others
 
 -- a command of a client with its number, of which a line is told
 pub record ToldCommand : Type 0 where
@@ -214,4 +216,5 @@ client_of client = record { name = client.name.now; number = client.number }
 pub record IsWorkDone (work : ClientWork) (before after : PassView) (text : List ℕ) : Type 0 where
   pub gained : Places
   pub gains : HasGained before after gained
-  pub told : IsWorkTold work.mission work.client 0 work.commands (own_entries gained) text
+  pub total : ℕ
+  pub told : IsWorkTold work.mission work.client 0 work.commands (own_entries gained) text total

@@ -1,6 +1,7 @@
 //! A command, with all its parts.
 
-ghost use Rattle.std.specs.Prelude.{[], ◌∷◌, IfOk};
+ghost use Rattle.std.specs.Prelude.{◌≡◌, [], ◌∷◌, IfOk, false};
+ghost use Rattle.client_work.specs.Counts.{simulates};
 ghost use Rattle.client_work.specs.Working.{AreBenchesAt, begun, IsAssignedTo, IsCarriedOn, IsLater, IsReplyAt, work_state};
 
 use crate::acting::act;
@@ -31,6 +32,7 @@ fn carry_on<R: Threads + Wait + Sync, G: Gate, L: Ledger, K: Ledger>(
     requires first { IsReplyAt assignment.now.workplace.now.lock.now first }
     ensures done { IfOk result (IsCarriedOn (begun assignment.now command.now (first ∷ []))
         (work_state worker.old) (work_state worker.new)) }
+    ensures still { simulates command.now ≡ false → worker.new.steps.now ≡ worker.old.steps.now }
     ensures later { IsLater worker.old worker.new }
 {
     match command {
@@ -66,6 +68,7 @@ pub fn carry_out<R: Threads + Wait + Sync, G: Gate, L: Ledger, K: Ledger>(
     requires benches { AreBenchesAt assignment.now worker.old.benches.now }
     ensures done { IfOk result (IsCarriedOn (begun assignment.now command.now [])
         (work_state worker.old) (work_state worker.new)) }
+    ensures still { simulates command.now ≡ false → worker.new.steps.now ≡ worker.old.steps.now }
     ensures later { IsLater worker.old worker.new }
 {
     let action = Action::first(alloc, command)?;

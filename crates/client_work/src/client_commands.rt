@@ -1,7 +1,8 @@
 //! All commands of a client.
 
-ghost use Rattle.std.specs.Prelude.{◌≡◌, ◌<◌, ◌^◌, IfOk, length};
+ghost use Rattle.std.specs.Prelude.{◌≡◌, ◌<◌, ◌^◌, IfOk, false, length};
 ghost use Rattle.std.specs.String.{string_bytes};
+ghost use Rattle.client_work.specs.Counts.{simulates};
 ghost use Rattle.client_work.specs.Working.{AreBenchesAt, client_of, IsAssignedTo, IsAtWork, IsCommandDone, IsLater, IsWorkDone, work_state, told_command, work_of};
 
 use crate::carrying_out::carry_out;
@@ -27,6 +28,7 @@ pub fn work_on<R: Threads + Wait + Sync, G: Gate, L: Ledger, K: Ledger>(
     requires benches { AreBenchesAt assignment.now worker.old.benches.now }
     ensures done { IfOk result (λ line. IsCommandDone (told_command assignment.now name.now command.now)
         (work_state worker.old) (work_state worker.new) (string_bytes line)) }
+    ensures still { simulates command.now ≡ false → worker.new.steps.now ≡ worker.old.steps.now }
     ensures later { IsLater worker.old worker.new }
 {
     let mission = assignment.workplace.mission;

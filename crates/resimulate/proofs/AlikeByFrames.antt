@@ -1,5 +1,5 @@
 -- Where the frames of two runs agree the same tasks are live in both.
-use Rattle.std.proofs.Common.{◌≡◌, ◌⊎◌, inl, inr, ℕ, zero, suc, ◌+◌, ◌<◌, ◌≤◌, nat_eq, nat_lt, Bool, true, false, ◌&&◌, ◌||◌, List, [], ◌∷◌, ◌++◌, length, Option, Some, None, option_map, slice_get, refl, sym, ap, ◌∙◌, subst, IsTrue, append_assoc, arith}
+use Rattle.std.proofs.Common.{◌≡◌, ◌⊎◌, inl, inr, ℕ, zero, suc, ◌<◌, ◌≤◌, nat_eq, nat_lt, Bool, true, false, ◌&&◌, ◌||◌, List, [], ◌∷◌, ◌++◌, length, Option, Some, None, option_map, slice_get, refl, sym, ap, ◌∙◌, subst, IsTrue, append_assoc, arith}
 use Rattle.std.proofs.lemmas.Bool.{ltb-true}
 use Rattle.std.proofs.lemmas.List.{append-nil}
 use Rattle.std.specs.Prelude.{◌↔◌}
@@ -11,19 +11,17 @@ use Rattle.aerie_base.specs.declared.plans.Edge.{Edge}
 use Rattle.aerie_base.specs.declared.plans.Edge.TheVariants.{Start, End}
 use Rattle.aerie_base.specs.declared.plans.Plan.{Plan}
 use Rattle.aerie_base.specs.models.ValidModel.{valid_model}
-use Rattle.aerie_base.specs.Paths.{root, daemon_root, child_path, is_prefix, AnyUnder}
-use Rattle.aerie_base.specs.plans.OfModel.{IsPlanOf, rise_to, ids_of, is_directive_of, is_there, is_id_of, anchored_to, takes}
+use Rattle.aerie_base.specs.Paths.{root, is_prefix, AnyUnder}
+use Rattle.aerie_base.specs.plans.OfModel.{IsPlanOf, rise_to, ids_of, is_directive_of, is_there, anchored_to, takes}
 use Rattle.run_data.specs.declared.runs.Instant.{Instant}
 use Rattle.run_data.specs.declared.tasks.TaskState.{TaskState}
 use Rattle.run_data.specs.Endings.{is_open, has_ended, has_begun, has_come}
 use Rattle.run_data.specs.Fresh.{SimulationState, instant_at, IsReached}
 use Rattle.run_data.specs.TaskStates.{activity_begun}
-use Rattle.run_data.specs.Tasks.{TaskPhase, anchored, delayed, planned, Task, Table, task_at}
+use Rattle.run_data.specs.Tasks.{TaskPhase, anchored, planned, Task, task_at}
 use Rattle.run_data.specs.Transitions.{more}
-use Rattle.run_data.specs.laws.AlikeSteps.{BothReach}
 use Rattle.run_data.specs.laws.EndedTasks.{open_is, EndedByOpenBodies}
-use Rattle.run_data.specs.laws.LiveParts.{live, LiveByPaths}
-use Rattle.run_data.specs.laws.OrderedTables.{IsOrderedTable}
+use Rattle.run_data.specs.laws.LiveParts.{LiveByPaths}
 use Rattle.run_data.specs.laws.PathsUnder.{both_true, same_number, under_itself}
 use Rattle.run_data.specs.laws.ReachedStates.{ReachedIsOfModel, ComesFrom, directive, daemon, maker}
 use Rattle.run_data.specs.laws.SettledInstants.{IsSettled}

@@ -1,5 +1,5 @@
 -- The last changes of all cells at once.
-use Rattle.std.proofs.Common.{◌≡◌, ℕ, zero, suc, ◌+◌, ◌<◌, ◌≤◌, nat_eq, Bool, true, false, List, [], ◌∷◌, ◌++◌, length, take, get_or, Option, Some, None, option_map, slice_get, slice_set, replicate, refl, sym, ap, ◌∙◌, subst, if◌then◌else◌, add-one, arith}
+use Rattle.std.proofs.Common.{◌≡◌, ℕ, zero, suc, ◌+◌, ◌<◌, nat_eq, Bool, true, false, List, [], ◌∷◌, ◌++◌, length, take, get_or, Option, Some, None, option_map, slice_get, slice_set, replicate, refl, sym, ap, ◌∙◌, subst, if◌then◌else◌, add-one, arith}
 use Rattle.std.proofs.Math.Seq.{take-suc}
 use Rattle.effect_cells.specs.declared.effects.CellState.{CellState}
 use Rattle.run_data.specs.declared.runs.Instant.{Instant}
@@ -103,6 +103,40 @@ same_changes cells instants others last other one two same cell less = value (he
 
     value : Some (last_change cell instants no_change) ≡ Some (last_change cell others no_change) → last_change cell instants no_change ≡ last_change cell others no_change
     value e = cc
+
+-- ---- behind instants that are the same
+
+-- the last change, or what was the last one before
+abbrev or_last : Option CellChange → Option CellChange → Option CellChange
+or_last before None = before
+or_last before (Some change) = Some change
+
+changed_from : (cell time : ℕ) (changed : List (ℕ × CellState)) (before last : Option CellChange) →
+    changed_at_time cell time changed (or_last before last) ≡ or_last before (changed_at_time cell time changed last)
+changed_from cell time [] before last = refl
+changed_from cell time (one ∷ rest) before last = by (nat_eq one.0 cell) (changed_from cell time rest before (Some (time, one.1))) (changed_from cell time rest before last)
+  where
+    by : (b : Bool) → changed_at_time cell time rest (Some (time, one.1)) ≡ or_last before (changed_at_time cell time rest (Some (time, one.1))) →
+        changed_at_time cell time rest (or_last before last) ≡ or_last before (changed_at_time cell time rest last) →
+        changed_at_time cell time rest (if b then Some (time, one.1) else or_last before last) ≡ or_last before (changed_at_time cell time rest (if b then Some (time, one.1) else last))
+    by true here_ further = here_
+    by false here_ further = further
+
+change_from : (cell : ℕ) (instants : List Instant) (before last : Option CellChange) → last_change cell instants (or_last before last) ≡ or_last before (last_change cell instants last)
+change_from cell [] before last = refl
+change_from cell (one ∷ rest) before last =
+    ap (last_change cell rest) (changed_from cell one.time one.changed before last) ∙ change_from cell rest before (changed_at_time cell one.time one.changed last)
+
+change_append : (cell : ℕ) (first rest : List Instant) (last : Option CellChange) → last_change cell (first ++ rest) last ≡ last_change cell rest (last_change cell first last)
+change_append cell [] rest last = refl
+change_append cell (one ∷ first) rest last = change_append cell first rest (changed_at_time cell one.time one.changed last)
+
+pub same_behind_first : (cells : ℕ) (first instants others : List Instant) → SameLastChanges cells instants others → SameLastChanges cells (first ++ instants) (first ++ others)
+same_behind_first cells first instants others same cell less =
+    whole instants ∙ ap (or_last (last_change cell first no_change)) (same cell less) ∙ sym (whole others)
+  where
+    whole : (rest : List Instant) → last_change cell (first ++ rest) no_change ≡ or_last (last_change cell first no_change) (last_change cell rest no_change)
+    whole rest = change_append cell first rest no_change ∙ change_from cell rest (last_change cell first no_change) no_change
 
 -- in a loop: the changes before it are the same
 abbrev pub SameTo : ℕ → List (Option CellChange) → List (Option CellChange) → Type 0

@@ -1,5 +1,5 @@
 -- A simulation ends with the rest of an old run, and what was counted then.
-use Rattle.std.proofs.Common.{◌≡◌, ◌⊎◌, inl, inr, ℕ, zero, suc, ◌+◌, ◌-◌, ◌*◌, ◌≤◌, Bool, true, false, List, [], ◌∷◌, ◌++◌, length, Option, Some, None, slice_get, refl, sym, ap, ◌∙◌, subst, IsTrue, if◌then◌else◌, append_assoc, arith}
+use Rattle.std.proofs.Common.{◌≡◌, ◌⊎◌, inl, inr, ℕ, suc, ◌+◌, ◌-◌, ◌*◌, ◌≤◌, Bool, true, false, List, [], ◌∷◌, ◌++◌, length, take, Some, None, slice_get, refl, sym, ap, ◌∙◌, subst, IsTrue, if◌then◌else◌, append_assoc, arith}
 use Rattle.std.proofs.lemmas.List.{append-nil}
 use Rattle.aerie_base.specs.declared.models.model.Parts.{Parts}
 use Rattle.aerie_base.specs.declared.plans.Plan.{Plan}
@@ -15,19 +15,20 @@ use Rattle.run_data.specs.RunFrames.{frames_in_batches}
 use Rattle.run_data.specs.Transitions.{Next, more, finished}
 use Rattle.run_data.specs.laws.AlikeSteps.{BothReach}
 use Rattle.run_data.specs.laws.FreshRuns.{EachAfter}
-use Rattle.run_data.specs.laws.PrunedStates.{pruned}
 use Rattle.run_data.specs.laws.RestOfRuns.{AlikeSettled, completed_run, RestIsTakenOverSettled}
 use Rattle.run_data.specs.laws.RunCosts.{cost_of_instants}
 use Rattle.run_data.specs.laws.SettledInstants.{IsSettledInstant, InstantsAreSettled}
 use Rattle.engine_core.specs.EngineStates.{EngineState, IsReachedPruned, IsEngineState, jobs_in, batches_in, instants_in, spent_in}
-use Rattle.engine_core.specs.PrunedPoints.{HasWhole, has_whole}
-use Rattle.resimulate.specs.AlikeByFrames.{instants_with, FramesAgree, FramesTellAlike}
+use Rattle.engine_core.specs.PrunedPoints.{has_whole, run_reached}
+use Rattle.resimulate.specs.AlikeByFrames.{instants_with, FramesTellAlike}
 use Rattle.resimulate.specs.EarlyEnds.{MayBeEnded, EndAtOnce, IsRest}
 use Rattle.resimulate.specs.EvenInstants.{PassesEven, frames_of_others, PaysForUneven, LooksForUneven}
-use Rattle.resimulate.specs.LastChanges.{SameLastChanges, LastChangesTellCells}
+use Rattle.resimulate.specs.LastChanges.{LastChangesTellCells}
 use Rattle.resimulate.specs.Likeness.{TellAlike}
+use Rattle.resimulate.specs.Partings.{SharesFirst}
 use Rattle.resimulate.specs.SettledBefore.{FollowsSettled, InstantsFollowSettled}
 use Rattle.resimulate.proofs.BesideCounts.{IsWithin, CountsAt}
+use Rattle.resimulate.proofs.SharedInstants.{take_front}
 use Rattle.resimulate.proofs.Looping.{IsBeside, cost_by, cost_adds, looks_by, looks_adds}
 
 -- ---- the last of a list
@@ -149,6 +150,25 @@ rest_is follow settled taken frames_tell cells_tell model plan bound valid old i
     (subst (λ (m : Parts). IsReachedPruned m plan bound engine.point) same_model
     (subst (λ (p : Plan). IsReachedPruned engine.model p bound engine.point) same_plan
     (subst (λ n. IsReachedPruned engine.model engine.plan n engine.point) same_bound stands.reached)))
+
+-- the first instants are those of the old run, where they are shared
+first_at : (model : Parts) (plan : Plan) (bound : ℕ) (old : Run) (count : ℕ) → SharesFirst model plan bound old count → (point : Next SimulationState Run) → IsReachedPruned model plan bound point → (number : ℕ) →
+    number ≤ count → number ≤ length (instants_in point) → take number (instants_in point) ≡ take number old.instants
+first_at model plan bound old count shares (finished run) comes number less within = shares (finished run) (run_reached model plan bound run comes) number less within
+first_at model plan bound old count shares (more at) comes number less within =
+    let from = has_whole model plan bound at comes in
+    subst (λ (s : SimulationState). take number s.instants ≡ take number old.instants) from.is
+    (shares (more from.whole) from.reached number less (subst (λ (s : SimulationState). number ≤ length s.instants) (sym from.is) within))
+
+pub first_same : (model : Parts) (plan : Plan) (bound : ℕ) (old : Run) (count : ℕ) → SharesFirst model plan bound old count → (engine : EngineState) → IsEngineState engine →
+    engine.model ≡ model → engine.plan ≡ plan → engine.bound ≡ bound → (number : ℕ) → number ≤ count → number ≤ length (instants_in engine.point) → (before rest : List Instant) →
+    old.instants ≡ before ++ rest → number ≤ length before → take number (instants_in engine.point) ≡ take number before
+first_same model plan bound old count shares engine stands same_model same_plan same_bound number less within before rest parts within_before =
+    first_at model plan bound old count shares engine.point
+    (subst (λ (m : Parts). IsReachedPruned m plan bound engine.point) same_model
+    (subst (λ (p : Plan). IsReachedPruned engine.model p bound engine.point) same_plan
+    (subst (λ n. IsReachedPruned engine.model engine.plan n engine.point) same_bound stands.reached))) number less within
+    ∙ ap (take number) parts ∙ take_front number before rest within_before
 
 -- ---- the counts
 

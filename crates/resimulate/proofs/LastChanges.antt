@@ -1,5 +1,5 @@
 -- The cells by their last changes.
-use Rattle.std.proofs.Common.{◌≡◌, ◌⊎◌, inl, inr, ℕ, zero, suc, ◌+◌, ◌-◌, ◌<◌, ◌≤◌, nat_eq, nat_le, Bool, true, false, List, [], ◌∷◌, ◌++◌, length, map, Option, Some, None, option_map, slice_get, slice_set, refl, sym, ap, ◌∙◌, subst, if◌then◌else◌, arith}
+use Rattle.std.proofs.Common.{◌≡◌, ◌⊎◌, inl, inr, ℕ, zero, suc, ◌+◌, ◌-◌, ◌<◌, ◌≤◌, nat_eq, nat_le, Bool, true, false, List, [], ◌∷◌, ◌++◌, length, map, Option, Some, None, option_map, slice_get, slice_set, refl, sym, ap, ◌∙◌, if◌then◌else◌, arith}
 use Rattle.std.proofs.lemmas.Bool.{cases_lt}
 use Rattle.std.proofs.lemmas.List.{length-map}
 use Rattle.aerie_base.specs.declared.models.model.Parts.{Parts}
@@ -11,13 +11,12 @@ use Rattle.effect_cells.specs.States.{state_after, volume_of}
 use Rattle.effect_cells.specs.SumLaws.{flowed_zero}
 use Rattle.effect_cells.specs.declared.effects.CellState.TheVariants.{Counter, Register, Volume}
 use Rattle.run_data.specs.declared.runs.Instant.{Instant}
-use Rattle.run_data.specs.Fresh.{SimulationState, instant_at, settled, IsReached}
+use Rattle.run_data.specs.Fresh.{SimulationState, instant_at, IsReached}
 use Rattle.run_data.specs.Transitions.{more}
 use Rattle.run_data.specs.Values.{with_states, cells_from}
 use Rattle.run_data.specs.laws.PathsUnder.{same_number}
 use Rattle.run_data.specs.laws.Replay.{CellsAreReplayed}
 use Rattle.run_data.specs.laws.Rising.{RiseAbove, RiseFromStart}
-use Rattle.run_data.specs.laws.SettledInstants.{IsSettled}
 use Rattle.resimulate.specs.AlikeByFrames.{instants_with}
 use Rattle.resimulate.proofs.RisingStates.{SettledInstantsRise}
 use Rattle.resimulate.specs.LastChanges.{CellChange, changed_at_time, last_change, LastChangesTellCells}

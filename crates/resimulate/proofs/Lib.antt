@@ -13,4 +13,5 @@ mod LastChanges
 mod TaskTraces
 mod CellChanges
 mod Likenesses
+mod SharedInstants
 mod EarlyEnds

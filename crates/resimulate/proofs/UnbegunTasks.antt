@@ -1,24 +1,22 @@
 -- Tasks that have not begun are those of directives, or they are ready.
-use Rattle.std.proofs.Common.{◌≡◌, ◌⊎◌, inl, inr, ℕ, zero, suc, ◌+◌, ◌-◌, nat_eq, Bool, true, false, cond, List, [], ◌∷◌, Option, Some, None, slice_get, refl, sym, ap, ◌∙◌, subst, IsTrue, if◌then◌else◌}
+use Rattle.std.proofs.Common.{◌≡◌, ◌⊎◌, inl, inr, ℕ, suc, ◌+◌, ◌-◌, Bool, true, false, cond, List, [], ◌∷◌, Option, Some, None, slice_get, refl, sym, ap, ◌∙◌, subst, IsTrue, if◌then◌else◌}
 use Rattle.std.specs.BTreeMap.{is_at}
 use Rattle.aerie_base.specs.declared.models.Daemon.{Daemon}
 use Rattle.aerie_base.specs.declared.models.model.Parts.{Parts}
-use Rattle.aerie_base.specs.declared.plans.Anchor.{Anchor}
 use Rattle.aerie_base.specs.declared.plans.Directive.{Directive}
 use Rattle.aerie_base.specs.declared.plans.Edge.{Edge}
 use Rattle.aerie_base.specs.declared.plans.Plan.{Plan}
 use Rattle.aerie_base.specs.models.ValidModel.{valid_model}
-use Rattle.aerie_base.specs.Paths.{path_cmp, root, daemon_root, child_path}
+use Rattle.aerie_base.specs.Paths.{path_cmp, root, daemon_root}
 use Rattle.aerie_base.specs.plans.OfModel.{IsPlanOf}
 use Rattle.effect_cells.specs.declared.effects.CellState.{CellState}
 use Rattle.effect_cells.specs.Cells.{passed, first_out}
-use Rattle.effect_cells.specs.WakeTimes.{holds_on}
 use Rattle.run_data.specs.declared.tasks.TaskState.{TaskState}
 use Rattle.run_data.specs.declared.jobs.Job.{Job}
 use Rattle.run_data.specs.declared.runs.Run.{Run}
 use Rattle.run_data.specs.TaskFrames.{Frame}
 use Rattle.run_data.specs.Batches.{Batch, limit, failed, committed, batch}
-use Rattle.run_data.specs.Endings.{has_come, has_ended, back, due_phase, gone_on, after_batch}
+use Rattle.run_data.specs.Endings.{has_come, back, due_phase, gone_on, after_batch}
 use Rattle.run_data.specs.Fresh.{SimulationState, start, next_state, next_by, woken_or_moved, moved, to_time, to_end, after_outcome, least_due, below, IsReached}
 use Rattle.run_data.specs.TaskStates.{activity_begun, daemon_begun}
 use Rattle.run_data.specs.Tasks.{TaskPhase, anchored, ready, delayed, waiting, calling, over, Task, Table, task_at, with_task, on_each, planned, with_directives, with_daemons, after_delay, after_frame, after_frames, ready_jobs, job_if_ready, woken, woken_phase, rested, rested_phase}
@@ -29,7 +27,6 @@ use Rattle.run_data.specs.laws.LateEdges.{EdgesStay}
 use Rattle.run_data.specs.laws.OpenTasks.{back_open, due_open, woken_open, rested_open}
 use Rattle.run_data.specs.laws.QuietTasks.{come_each}
 use Rattle.run_data.specs.laws.ReadyTasks.{is_ready_phase}
-use Rattle.run_data.specs.laws.SettledInstants.{IsSettled}
 use Rattle.run_data.specs.laws.TableParts.{each_at, changed_at}
 use Rattle.resimulate.specs.UnbegunTasks.{IsInPlan, WaitsForAnchor, IsUnbegunDirective, UnbegunAreDirectives}
 

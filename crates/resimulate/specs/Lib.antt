@@ -7,6 +7,8 @@ pub mod UnbegunTasks
 pub mod AlikeByFrames
 pub mod Cases
 pub mod LastChanges
+pub mod Origins
 pub mod Traces
 pub mod Likeness
 pub mod EarlyEnds
+pub mod Partings

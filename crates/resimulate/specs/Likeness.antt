@@ -1,29 +1,23 @@
 -- What the traces of two runs tell of their likeness.
-use Rattle.std.specs.Prelude.{◌≡◌, ◌⊎◌, ℕ, ◌+◌, ◌*◌, Bool, true, false, nat_eq, List, length, Option, Some, None, slice_get, if◌then◌else◌}
-use Rattle.std.specs.List.{list_any}
+use Rattle.std.specs.Prelude.{◌≡◌, ◌⊎◌, ℕ, Bool, true, false, List, [], length, Option, Some, None, slice_get}
 use Rattle.aerie_base.specs.declared.models.model.Parts.{Parts}
 use Rattle.aerie_base.specs.declared.plans.Anchor.{Anchor}
 use Rattle.aerie_base.specs.declared.plans.Directive.{Directive}
 use Rattle.aerie_base.specs.declared.plans.Edge.{Edge}
 use Rattle.aerie_base.specs.declared.plans.Edge.TheVariants.{Start, End}
 use Rattle.aerie_base.specs.declared.plans.Plan.{Plan}
-use Rattle.aerie_base.specs.Paths.{root, comes_from_daemon, id_of}
+use Rattle.aerie_base.specs.Paths.{root}
 use Rattle.run_data.specs.declared.runs.Instant.{Instant}
 use Rattle.run_data.specs.laws.EndedTasks.{is_open_status}
 use Rattle.resimulate.specs.AlikeByFrames.{FramesAgree}
 use Rattle.resimulate.specs.LastChanges.{SameLastChanges}
 use Rattle.resimulate.specs.declared.traces.Trace.{Trace}
-use Rattle.resimulate.specs.Traces.{TraceList, trace_of, TellSame}
+use Rattle.run_data.specs.laws.TracedTasks.{timed_instants}
+use Rattle.resimulate.specs.Origins.{origin_number, has_root, is_asked}
+use Rattle.resimulate.specs.Traces.{TraceList, trace_of, TellSame, TakesIn}
 use Rattle.resimulate.specs.UnbegunTasks.{IsInPlan}
 
 -- ---- tasks that differ, by the directive or daemon that they come from
-
--- a number for each directive and each daemon
-abbrev pub origin_number : List ℕ → ℕ
-origin_number path = id_of path * 2 + (if comes_from_daemon path then 1 else 0)
-
-abbrev pub has_root : List ℕ → ℕ → Bool
-has_root roots number = list_any (nat_eq number) roots
 
 abbrev pub HasSame : Trace → Option Trace → Type 0
 HasSame trace None = ⊥
@@ -64,14 +58,20 @@ abbrev pub AnchorNotCome : TraceList → Option Anchor → Type 0
 AnchorNotCome traces None = Unit {0}
 AnchorNotCome traces (Some anchor) = NotComeBy (trace_of traces (root anchor.to)) anchor.edge
 
--- a directive that has no trace has none in the other run either, stands the same in the other plan, and waits
-abbrev pub IsLikeUnbegun : Plan → TraceList → TraceList → Directive → Type 0
-IsLikeUnbegun old_plan traces others directive =
-    trace_of traces (root directive.id) ≡ None →
-    (trace_of others (root directive.id) ≡ None) × IsInPlan old_plan directive × AnchorNotCome traces directive.anchor × AnchorNotCome others directive.anchor
+-- where the beginning is left out of traces, a directive is not anchored
+abbrev pub IsFreeIfParted : Bool → Option Anchor → Type 0
+IsFreeIfParted parted anchor = parted ≡ true → anchor ≡ None
 
-abbrev pub AllLikeUnbegun : Plan → Plan → TraceList → TraceList → Type 0
-AllLikeUnbegun plan old_plan traces others = (directive : Directive) → IsInPlan plan directive → IsLikeUnbegun old_plan traces others directive
+-- a directive that has no trace has none in the other run either, stands the same in the other plan, and waits
+abbrev pub IsLikeUnbegun : Plan → Bool → TraceList → TraceList → Directive → Type 0
+IsLikeUnbegun old_plan parted traces others directive =
+    trace_of traces (root directive.id) ≡ None →
+    (trace_of others (root directive.id) ≡ None) × IsInPlan old_plan directive × IsFreeIfParted parted directive.anchor
+    × AnchorNotCome traces directive.anchor × AnchorNotCome others directive.anchor
+
+abbrev pub AllLikeUnbegun : Plan → Plan → Bool → TraceList → TraceList → Type 0
+AllLikeUnbegun plan old_plan parted traces others =
+    (directive : Directive) → IsInPlan plan directive → IsLikeUnbegun old_plan parted traces others directive
 
 -- a directive that stands in the other plan too, has no anchor, and is not noted
 pub record StandsUnnoted (old_plan : Plan) (roots : List ℕ) (directive : Directive) : Type 0 where
@@ -79,18 +79,47 @@ pub record StandsUnnoted (old_plan : Plan) (roots : List ℕ) (directive : Direc
   pub free : directive.anchor ≡ None
   pub unnoted : has_root roots (origin_number (root directive.id)) ≡ false
 
+-- ---- what the first instants leave open
+
+abbrev pub HasTrace : TraceList → List ℕ → Type 0
+HasTrace traces path = trace_of traces path ≡ None → ⊥
+
+-- each body that the first instants leave open has a trace of later frames in both runs
+abbrev pub AllGoOn : TraceList → TraceList → TraceList → Type 0
+AllGoOn before traces others =
+    (path : List ℕ) (trace : Trace) → trace_of before path ≡ Some trace → is_open_status trace.step.status ≡ true → HasTrace traces path × HasTrace others path
+
+abbrev pub GoesOnAt : TraceList → TraceList → TraceList → ℕ → Type 0
+GoesOnAt before traces others at =
+    (path : List ℕ) (trace : Trace) → slice_get before at ≡ Some (path, trace) → is_open_status trace.step.status ≡ true → HasTrace traces path × HasTrace others path
+
+-- so it is with those whose root is noted
+pub record OpenOnesGoOn (first : List Instant) (traces others : TraceList) (roots : List ℕ) : Type 0 where
+  pub before : TraceList
+  pub takes_in : TakesIn (is_asked false roots) (timed_instants first) [] before
+  pub go_on : AllGoOn before traces others
+
 -- ---- all of it
 
 -- no body is open whose directive or daemon has a task that differs
-abbrev pub AreAlikeAboveOpen : TraceList → TraceList → Type 0
-AreAlikeAboveOpen traces others =
-    (roots : List ℕ) × NotesDiffering traces others roots × NotesDiffering others traces roots × NoneOpenAmong traces roots × NoneOpenAmong others roots
+pub record NoneOpenNoted (first : List Instant) (traces others : TraceList) (roots : List ℕ) : Type 0 where
+  pub here : NoneOpenAmong traces roots
+  pub there : NoneOpenAmong others roots
+  pub before : OpenOnesGoOn first traces others roots
 
--- what is compared of two plans and the traces of their runs
-pub record TracesAgree (plan old_plan : Plan) (traces others : TraceList) : Type 0 where
-  pub unbegun : AllLikeUnbegun plan old_plan traces others
-  pub old_unbegun : AllLikeUnbegun old_plan plan others traces
-  pub above_open : AreAlikeAboveOpen traces others
+pub record AreAlikeAboveOpen (first : List Instant) (traces others : TraceList) : Type 0 where
+  pub roots : List ℕ
+  pub noted : NotesDiffering traces others roots
+  pub old_noted : NotesDiffering others traces roots
+  pub none_open : NoneOpenNoted first traces others roots
+
+-- what is compared of two plans and of the traces of their runs behind the first instants, which are the same
+pub record TracesAgree (plan old_plan : Plan) (first : List Instant) (traces others : TraceList) : Type 0 where
+  pub parted : Bool
+  pub whole : parted ≡ false → first ≡ []
+  pub unbegun : AllLikeUnbegun plan old_plan parted traces others
+  pub old_unbegun : AllLikeUnbegun old_plan plan parted others traces
+  pub above_open : AreAlikeAboveOpen first traces others
 
 -- what is compared of two runs: their frames, and the last changes of their cells
 abbrev pub TellAlike : Parts → Plan → Plan → List Instant → List Instant → Type 0

@@ -1,30 +1,22 @@
 //! Whether the instants of two runs tell that their simulations are alike behind them.
 
-ghost use Rattle.std.specs.Prelude.{◌≡◌, false, IsTrue, IfOk, OnOk};
+ghost use Rattle.std.specs.Prelude.{◌≡◌, ◌≤◌, ◌++◌, false, IsTrue, IfOk, OnOk, [], length, take};
 ghost use Rattle.aerie_base.specs.plans.OfModel.{Rise};
 ghost use Rattle.aerie_base.specs.Paths.{root};
-ghost use Rattle.resimulate.specs.Likeness.{origin_number, AllLikeUnbegun, AnchorNotCome, HasSame, IsLikeUnbegun, KeepsRoots, NoneOpenAmong};
-ghost use Rattle.resimulate.specs.Likeness.{NotComeBy, NotesAt, NotesDiffering, NotOpenAt, StandsUnnoted, TellAlike, TracesAgree};
+ghost use Rattle.resimulate.specs.AlikeByFrames.{FramesAgree};
+ghost use Rattle.resimulate.specs.Likeness.{AllGoOn, AllLikeUnbegun, AnchorNotCome, AreAlikeAboveOpen, GoesOnAt, HasSame, HasTrace, IsFreeIfParted};
+ghost use Rattle.resimulate.specs.Likeness.{IsLikeUnbegun, KeepsRoots, NoneOpenAmong, NoneOpenNoted, NotComeBy, NotesAt, NotesDiffering, NotOpenAt};
+ghost use Rattle.resimulate.specs.Likeness.{StandsUnnoted, TellAlike, TracesAgree};
+ghost use Rattle.resimulate.specs.Origins.{origin_number};
 ghost use Rattle.resimulate.specs.Traces.{trace_of};
 ghost use Rattle.resimulate.specs.UnbegunTasks.{IsInPlan};
 
 use crate::cells::have_same_changes;
-use crate::traces::{Trace, Traces, traces_of};
+use crate::traces::{Roots, Trace, Traces, has_root, origin_number, traces_of};
 use aerie_base::{Anchor, Directive, Edge, Model, OutOfMemory, Path, Plan, Shared, position_of_id};
 use indexmap::IndexSet;
 use run_data::Instant;
 use std::alloc::Global;
-
-/// Directives and daemons of which some task differs, by number.
-type Roots = IndexSet<u64>;
-
-/// The number of the directive or daemon that a task comes from.
-fn origin_number(path: &Path) -> u64
-    ensures { result ≡ origin_number path.now }
-{
-    let daemon = if path.daemon() { 1 } else { 0 };
-    u64::from(path.id()) * 2 + daemon
-}
 
 /// Whether it is known that the task of a path is the same in the other run.
 fn has_same(trace: &Trace, others: &Traces, path: &Shared<Path>) -> bool
@@ -70,7 +62,7 @@ fn is_open_at(traces: &Traces, at: usize, roots: &Roots) -> bool
     ensures { result ≡ false → NotOpenAt traces.now.entries at roots.now.keys }
 {
     match traces.get_index(at) {
-        Some((path, trace)) => trace.is_open() && roots.contains(&origin_number(path.get())),
+        Some((path, trace)) => trace.is_open() && has_root(roots, origin_number(path.get())),
         None => false,
     }
 }
@@ -85,6 +77,58 @@ fn is_open_among(traces: &Traces, roots: &Roots) -> bool
         }
     }
     false
+}
+
+/// Whether there is a trace of a path.
+fn has_trace(traces: &Traces, path: &Shared<Path>) -> bool
+    ensures { IsTrue result → HasTrace traces.now.entries path.now }
+{
+    traces.contains_key(path)
+}
+
+/// Whether the task at an index has ended its body, or goes on in both runs.
+fn goes_on_at(before: &Traces, traces: &Traces, others: &Traces, at: usize) -> bool
+    ensures { IsTrue result → GoesOnAt before.now.entries traces.now.entries others.now.entries at }
+{
+    match before.get_index(at) {
+        Some((path, trace)) => {
+            !trace.is_open() || (has_trace(traces, path) && has_trace(others, path))
+        }
+        None => true,
+    }
+}
+
+/// Whether that holds for all of them.
+fn all_go_on(before: &Traces, traces: &Traces, others: &Traces) -> bool
+    ensures { IsTrue result → AllGoOn before.now.entries traces.now.entries others.now.entries }
+{
+    for at in 0..before.len() {
+        if !goes_on_at(before, traces, others, at) {
+            return false;
+        }
+    }
+    true
+}
+
+/// Whether no body is open whose root is noted, neither by later frames nor by those of the first instants.
+fn none_open_noted(
+    alloc: Global,
+    first: &[Shared<Instant>],
+    traces: &Traces,
+    others: &Traces,
+    roots: &Roots,
+) -> Result<bool, OutOfMemory>
+    ensures { IfOk result (λ yes.
+        IsTrue yes → NoneOpenNoted first.now traces.now.entries others.now.entries roots.now.keys) }
+{
+    if is_open_among(traces, roots) {
+        return Ok(false);
+    }
+    if is_open_among(others, roots) {
+        return Ok(false);
+    }
+    let before = traces_of(alloc, false, roots, first)?;
+    Ok(all_go_on(&before, traces, others))
 }
 
 /// The path of a directive's own task.
@@ -162,13 +206,25 @@ fn stands_unnoted(old_plan: &Plan, at: usize, roots: &Roots, directive: &Directi
     ensures { IsTrue result → StandsUnnoted old_plan.now roots.now.keys directive.now }
 {
     directive.anchor.is_none()
-        && !roots.contains(&number_of(directive.id))
+        && !has_root(roots, number_of(directive.id))
         && stands_in(old_plan, at, directive)
 }
 
+/// Whether a directive is not anchored, or the beginning of the runs was not left out.
+fn is_free_if_parted(parted: bool, anchor: &Option<Anchor>) -> bool
+    ensures { IsTrue result → IsFreeIfParted parted anchor.now }
+{
+    match anchor {
+        None => true,
+        Some(_) => !parted,
+    }
+}
+
 /// Whether a directive that has not begun is known to wait alike in both runs. Mostly that needs no trace of it.
+#[allow(clippy::too_many_arguments)]
 fn is_like_unbegun(
     alloc: Global,
+    parted: bool,
     old_plan: &Plan,
     at: usize,
     traces: &Traces,
@@ -179,18 +235,19 @@ fn is_like_unbegun(
     requires old_plan { Rise old_plan.now.directives }
     requires noted { NotesDiffering others.now.entries traces.now.entries roots.now.keys }
     ensures { IfOk result (λ yes.
-        IsTrue yes → IsLikeUnbegun old_plan.now traces.now.entries others.now.entries directive.now) }
+        IsTrue yes → IsLikeUnbegun old_plan.now parted traces.now.entries others.now.entries directive.now) }
 {
     if stands_unnoted(old_plan, at, roots, directive) {
         return Ok(true);
     }
-    let yes = is_like_by_traces(alloc, old_plan, at, traces, others, directive)?;
+    let yes = is_like_by_traces(alloc, parted, old_plan, at, traces, others, directive)?;
     Ok(yes)
 }
 
 /// The same, by the traces of the directive and of its anchor.
 fn is_like_by_traces(
     alloc: Global,
+    parted: bool,
     old_plan: &Plan,
     at: usize,
     traces: &Traces,
@@ -199,13 +256,16 @@ fn is_like_by_traces(
 ) -> Result<bool, OutOfMemory>
     requires { Rise old_plan.now.directives }
     ensures { IfOk result (λ yes.
-        IsTrue yes → IsLikeUnbegun old_plan.now traces.now.entries others.now.entries directive.now) }
+        IsTrue yes → IsLikeUnbegun old_plan.now parted traces.now.entries others.now.entries directive.now) }
 {
     let path = path_of(alloc, directive.id)?;
     if traces.contains_key(&path) {
         return Ok(true);
     }
     if others.contains_key(&path) || !stands_in(old_plan, at, directive) {
+        return Ok(false);
+    }
+    if !is_free_if_parted(parted, &directive.anchor) {
         return Ok(false);
     }
     let here = has_not_come(alloc, traces, &directive.anchor)?;
@@ -216,6 +276,7 @@ fn is_like_by_traces(
 /// The same of all directives of a plan.
 fn are_like_unbegun(
     alloc: Global,
+    parted: bool,
     plan: &Plan,
     old_plan: &Plan,
     traces: &Traces,
@@ -225,12 +286,14 @@ fn are_like_unbegun(
     requires old_plan { Rise old_plan.now.directives }
     requires noted { NotesDiffering others.now.entries traces.now.entries roots.now.keys }
     ensures { IfOk result (λ yes.
-        IsTrue yes → AllLikeUnbegun plan.now old_plan.now traces.now.entries others.now.entries) }
+        IsTrue yes → AllLikeUnbegun plan.now old_plan.now parted traces.now.entries others.now.entries) }
 {
     let directives = plan.directives.as_slice();
     for at in 0..directives.len() {
         let directive = &directives[at];
-        let yes = is_like_unbegun(alloc, old_plan, at, traces, others, roots, directive)?;
+        let yes = is_like_unbegun(
+            alloc, parted, old_plan, at, traces, others, roots, directive,
+        )?;
         if !yes {
             return Ok(false);
         }
@@ -249,36 +312,66 @@ fn differing_roots(alloc: Global, traces: &Traces, others: &Traces) -> Result<Ro
     Ok(roots)
 }
 
-/// Whether the traces of two runs, and what their plans say of what has not begun, are known to tell the same.
+/// Whether some instants are left out.
+fn is_parted(first: &[Shared<Instant>]) -> bool
+    ensures { result ≡ false → first.now ≡ [] }
+{
+    !first.is_empty()
+}
+
+/// Whether the traces of two runs behind the first instants, and what their plans say of what has not begun, are known to tell the
+/// same.
 fn traces_agree(
     alloc: Global,
     plan: &Plan,
     old_plan: &Plan,
+    first: &[Shared<Instant>],
     traces: &Traces,
     others: &Traces,
 ) -> Result<bool, OutOfMemory>
     requires plan { Rise plan.now.directives }
     requires old_plan { Rise old_plan.now.directives }
     ensures { IfOk result (λ yes.
-        IsTrue yes → TracesAgree plan.now old_plan.now traces.now.entries others.now.entries) }
+        IsTrue yes → TracesAgree plan.now old_plan.now first.now traces.now.entries others.now.entries) }
 {
     let roots = differing_roots(alloc, traces, others)?;
-    if is_open_among(traces, &roots) {
+    let none = none_open_noted(alloc, first, traces, others, &roots)?;
+    if !none {
         return Ok(false);
     }
-    if is_open_among(others, &roots) {
-        return Ok(false);
-    }
-    let begun = are_like_unbegun(alloc, plan, old_plan, traces, others, &roots)?;
+    let parted = is_parted(first);
+    let begun = are_like_unbegun(alloc, parted, plan, old_plan, traces, others, &roots)?;
     if !begun {
         return Ok(false);
     }
-    let old_begun = are_like_unbegun(alloc, old_plan, plan, others, traces, &roots)?;
+    let old_begun = are_like_unbegun(alloc, parted, old_plan, plan, others, traces, &roots)?;
     Ok(old_begun)
 }
 
-/// Whether the instants of two runs, which end at one time, are known to tell that the cells and the tasks behind them are the
-/// same, but for what has ended. It goes over the frames of both.
+/// Whether the frames of two runs are known to agree whose first instants are the same, by those of their later ones.
+fn frames_agree(
+    alloc: Global,
+    plan: &Plan,
+    old_plan: &Plan,
+    first: &[Shared<Instant>],
+    later: &[Shared<Instant>],
+    old_later: &[Shared<Instant>],
+) -> Result<bool, OutOfMemory>
+    requires plan { Rise plan.now.directives }
+    requires old_plan { Rise old_plan.now.directives }
+    ensures { IfOk result (λ yes.
+        IsTrue yes → FramesAgree plan.now old_plan.now (first.now ++ later.now) (first.now ++ old_later.now)) }
+{
+    let none = IndexSet::new(alloc);
+    let traces = traces_of(alloc, true, &none, later)?;
+    let old_traces = traces_of(alloc, true, &none, old_later)?;
+    let agree = traces_agree(alloc, plan, old_plan, first, &traces, &old_traces)?;
+    Ok(agree)
+}
+
+/// Whether the instants of two runs, which end at one time and of which so many of the first are the same, are known to tell that
+/// the cells and the tasks behind them are the same, but for what has ended. It goes over the frames of the others, and looks
+/// among those of the first ones for the tasks of what differs.
 pub(crate) fn tell_alike(
     alloc: Global,
     model: &Model,
@@ -286,17 +379,24 @@ pub(crate) fn tell_alike(
     old_plan: &Plan,
     instants: &[Shared<Instant>],
     others: &[Shared<Instant>],
+    shared: usize,
 ) -> Result<bool, OutOfMemory>
     requires plan { Rise plan.now.directives }
     requires old_plan { Rise old_plan.now.directives }
+    requires within { shared ≤ length instants.now }
+    requires old_within { shared ≤ length others.now }
+    requires shared { take shared instants.now ≡ take shared others.now }
     ensures { IfOk result (λ yes. IsTrue yes → TellAlike model.now plan.now old_plan.now instants.now others.now) }
 {
-    let same = have_same_changes(alloc, model.cells().len(), instants, others)?;
+    let parts = instants.split_at(shared);
+    let first = parts.0;
+    let later = parts.1;
+    let old_parts = others.split_at(shared);
+    let old_later = old_parts.1;
+    let same = have_same_changes(alloc, model.cells().len(), later, old_later)?;
     if !same {
         return Ok(false);
     }
-    let traces = traces_of(alloc, instants)?;
-    let old_traces = traces_of(alloc, others)?;
-    let agree = traces_agree(alloc, plan, old_plan, &traces, &old_traces)?;
+    let agree = frames_agree(alloc, plan, old_plan, first, later, old_later)?;
     Ok(agree)
 }

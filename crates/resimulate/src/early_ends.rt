@@ -7,6 +7,7 @@ ghost use Rattle.run_data.specs.Fresh.{IsFresh};
 ghost use Rattle.run_data.specs.laws.RunCosts.{cost_of_instants};
 ghost use Rattle.engine_core.specs.EngineStates.{batches_in, jobs_in};
 ghost use Rattle.resimulate.specs.EarlyEnds.{EndAtOnce, IsRest, MayBeEnded};
+ghost use Rattle.resimulate.specs.Partings.{MayEndFrom};
 
 use crate::alike::tell_alike;
 use crate::costs::left_after_instants;
@@ -65,7 +66,19 @@ fn can_pay(spent: u64, rest: &[Shared<Instant>], bound: u64) -> bool
     }
 }
 
-/// The rest of the old run, from the time of the next batch on, if it is known to be that of the new one.
+/// The least of three.
+fn least(one: usize, other: usize, third: usize) -> usize
+    ensures one { result ≤ one }
+    ensures other { result ≤ other }
+    ensures third { result ≤ third }
+{
+    let both = if one <= other { one } else { other };
+    if both <= third { both } else { third }
+}
+
+/// The rest of the old run, from the time of the next batch on, if it is known to be that of the new one. So many of the first
+/// instants of both are the same.
+#[allow(clippy::too_many_arguments)]
 pub(crate) fn rest_if_alike<'a, 'r>(
     alloc: Global,
     model: &Model,
@@ -73,6 +86,7 @@ pub(crate) fn rest_if_alike<'a, 'r>(
     bound: u64,
     engine: &Engine<'a>,
     old: &'r Run,
+    shared: usize,
 ) -> Result<Option<&'r [Shared<Instant>]>, OutOfMemory>
     requires model { engine.now.model ≡ model.now }
     requires plan { engine.now.plan ≡ plan.now }
@@ -81,7 +95,7 @@ pub(crate) fn rest_if_alike<'a, 'r>(
     requires begins { batches_in engine.now.point ≡ [] }
     requires fresh { IsFresh model.now old.now.plan old.now.bound old.now }
     requires old_plan { IsPlanOf model.now old.now.plan }
-    requires may { MayBeEnded plan.now old.now }
+    requires may { MayEndFrom model.now plan.now bound old.now shared }
     ensures { IfOk result (λ found. IfSome found (λ rest. IsRest model.now plan.now bound engine.now rest.now)) }
 {
     instants_follow_settled_states();
@@ -104,7 +118,8 @@ pub(crate) fn rest_if_alike<'a, 'r>(
     if !can_pay(engine.spent(), rest, bound) {
         return Ok(None);
     }
-    let alike = tell_alike(alloc, model, plan, old.plan.get(), instants, before)?;
+    let first = least(shared, instants.len(), before.len());
+    let alike = tell_alike(alloc, model, plan, old.plan.get(), instants, before, first)?;
     if !alike {
         return Ok(None);
     }

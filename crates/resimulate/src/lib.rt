@@ -8,6 +8,7 @@ mod early_ends;
 pub mod laws;
 mod old_batches;
 mod pace;
+mod partings;
 mod traces;
 mod walk;
 

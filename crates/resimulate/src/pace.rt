@@ -1,5 +1,6 @@
-//! When a simulation beside an old run is compared with it. That goes over all frames so far, so it is done seldom: where it may
-//! succeed, where enough is left of the old run to gain by it, and as long as all comparisons cost a small part of a simulation.
+//! When a simulation beside an old run is compared with it. That goes over all frames since the two may differ, so it is done seldom:
+//! where it may succeed, where enough is left of the old run to gain by it, and as long as all comparisons cost a small part of a
+//! simulation.
 
 use crate::old_batches::is_earlier;
 use aerie_base::{Shared, Time};
@@ -17,8 +18,8 @@ const SHARE: usize = 8;
 /// How many batches are taken over to pay for going over one instant more.
 const BATCHES_FOR_ONE: u32 = 2;
 
-/// How many directives cost as much as an instant.
-const DIRECTIVES_IN_ONE: usize = 8;
+/// How many directives, or instants in which both runs are the same, cost as much as an instant that is compared.
+const LIGHT_IN_ONE: usize = 16;
 
 /// What was taken over so far, and when to compare.
 #[derive(Clone, Copy)]
@@ -35,11 +36,8 @@ pub(crate) struct Pace {
     spare: u32,
     /// The index of the next instant of the old run.
     next: usize,
-}
-
-/// How many instants a comparison goes over, behind so many and with so many directives.
-fn price(instants: usize, directives: usize) -> usize {
-    instants.saturating_add(directives / DIRECTIVES_IN_ONE)
+    /// How many directives there are.
+    directives: usize,
 }
 
 impl Pace {
@@ -49,10 +47,16 @@ impl Pace {
             calm: 0,
             wait: 1,
             is_apart: false,
-            allowed: price(olds / SHARE, directives),
+            allowed: olds.saturating_add(directives) / SHARE,
             spare: 0,
             next: 0,
+            directives,
         }
+    }
+
+    /// How many instants a comparison goes over, behind so many, the later of which may differ.
+    fn price(&self, instants: usize, later: usize) -> usize {
+        later.saturating_add(instants.saturating_add(self.directives) / LIGHT_IN_ONE)
     }
 
     /// At the beginning of an instant. An instant of the old run that was passed over is a difference too.
@@ -67,16 +71,16 @@ impl Pace {
         };
     }
 
-    /// Whether to compare now, behind so many instants, where so many are left of the old run.
-    pub(crate) fn is_due(&self, instants: usize, left: usize, directives: usize) -> bool {
-        let price = price(instants, directives);
+    /// Whether to compare now, behind so many instants, the later of which may differ, where so many are left of the old run.
+    pub(crate) fn is_due(&self, instants: usize, later: usize, left: usize) -> bool {
+        let price = self.price(instants, later);
         self.calm >= self.wait && price <= self.allowed && price <= left
     }
 
     /// When a comparison begins. Should it tell no likeness, the next one has to wait longer; where the runs did not differ in any
     /// batch yet, until they do.
-    pub(crate) fn compare(&mut self, instants: usize, directives: usize) {
-        self.allowed = self.allowed.saturating_sub(price(instants, directives));
+    pub(crate) fn compare(&mut self, instants: usize, later: usize) {
+        self.allowed = self.allowed.saturating_sub(self.price(instants, later));
         self.wait = if self.is_apart {
             self.wait.saturating_mul(PATIENCE)
         } else {

@@ -1,14 +1,14 @@
 //! What the frames of some instants leave each task doing.
 
-ghost use Rattle.std.specs.Prelude.{◌≡◌, Some, [], ◌∷◌, ℕ, IsTrue, IfOk, OnOk};
+ghost use Rattle.std.specs.Prelude.{◌≡◌, ◌||◌, Some, [], ◌∷◌, ℕ, IsTrue, IfOk, OnOk};
 ghost use Rattle.run_data.specs.Tasks.{children_in};
 ghost use Rattle.run_data.specs.laws.EndedTasks.{is_open_status};
 ghost use Rattle.run_data.specs.laws.TracedTasks.{timed, timed_batches, timed_instants};
-ghost use Rattle.resimulate.specs.AlikeByFrames.{task_by};
-ghost use Rattle.resimulate.specs.Traces.{CountsToo, IsChildCountAt, TakesIn, TellSame, TellTasks, is_delay};
+ghost use Rattle.resimulate.specs.Origins.{has_root, is_asked, origin_number};
+ghost use Rattle.resimulate.specs.Traces.{CountsToo, IsChildCountAt, TakesIn, TakesInForAny, TellSame, is_delay};
 
 use aerie_base::{List, OutOfMemory, Path, Shared, Time};
-use indexmap::IndexMap;
+use indexmap::{IndexMap, IndexSet};
 use run_data::{Frame, Instant, Item, Record, Status};
 use std::alloc::Global;
 
@@ -25,6 +25,31 @@ pub(crate) struct Trace {
 
 /// The traces by path.
 pub(crate) type Traces = IndexMap<Shared<Path>, Trace>;
+
+/// Directives and daemons, by number.
+pub(crate) type Roots = IndexSet<u64>;
+
+/// The number of the directive or daemon that a task comes from.
+pub(crate) fn origin_number(path: &Path) -> u64
+    ensures { result ≡ origin_number path.now }
+{
+    let daemon = if path.daemon() { 1 } else { 0 };
+    u64::from(path.id()) * 2 + daemon
+}
+
+/// Whether these are among them.
+pub(crate) fn has_root(roots: &Roots, number: u64) -> bool
+    ensures { result ≡ has_root roots.now.keys number }
+{
+    roots.contains(&number)
+}
+
+/// Whether a task is asked for: all are, or those of these directives and daemons.
+fn is_asked(all: bool, roots: &Roots, path: &Path) -> bool
+    ensures { result ≡ is_asked all roots.now.keys path.now }
+{
+    all || has_root(roots, origin_number(path))
+}
 
 /// One more, where that can be counted.
 fn counted(made: Option<u64>) -> Option<u64>
@@ -57,7 +82,7 @@ fn with_children(before: Option<u64>, items: &List<Item>) -> Option<u64>
     made
 }
 
-/// How many children a task made so far.
+/// How many children a task made since the first frame that was taken in.
 fn made_by(traces: &Traces, path: &Shared<Path>) -> Option<u64>
     ensures { IsChildCountAt traces.now.entries path.now result }
 {
@@ -67,9 +92,9 @@ fn made_by(traces: &Traces, path: &Shared<Path>) -> Option<u64>
     }
 }
 
-/// Takes in the next frame.
-fn note(traces: &mut Traces, time: Time, frame: &Frame) -> Result<(), OutOfMemory>
-    ensures { OnOk result (TakesIn ((time, frame.now) ∷ []) traces.old.entries traces.new.entries) }
+/// Notes a frame, whoever is asked for.
+fn put(traces: &mut Traces, time: Time, frame: &Frame) -> Result<(), OutOfMemory>
+    ensures { OnOk result (TakesInForAny ((time, frame.now) ∷ []) traces.old.entries traces.new.entries) }
 {
     let path = frame.shared_path().share()?;
     let made = with_children(made_by(traces, &path), frame.items());
@@ -78,43 +103,86 @@ fn note(traces: &mut Traces, time: Time, frame: &Frame) -> Result<(), OutOfMemor
     Ok(())
 }
 
+/// Takes in a frame, if its task is asked for.
+fn note(
+    traces: &mut Traces,
+    all: bool,
+    roots: &Roots,
+    time: Time,
+    frame: &Frame,
+) -> Result<(), OutOfMemory>
+    ensures { OnOk result (
+        TakesIn (is_asked all roots.now.keys) ((time, frame.now) ∷ []) traces.old.entries traces.new.entries) }
+{
+    if is_asked(all, roots, frame.path()) {
+        put(traces, time, frame)?;
+    }
+    Ok(())
+}
+
 /// Takes in the frames of a batch.
-fn note_batch(traces: &mut Traces, time: Time, batch: &[Frame]) -> Result<(), OutOfMemory>
-    ensures { OnOk result (TakesIn (timed time batch.now) traces.old.entries traces.new.entries) }
+fn note_batch(
+    traces: &mut Traces,
+    all: bool,
+    roots: &Roots,
+    time: Time,
+    batch: &[Frame],
+) -> Result<(), OutOfMemory>
+    ensures { OnOk result (
+        TakesIn (is_asked all roots.now.keys) (timed time batch.now) traces.old.entries traces.new.entries) }
 {
     for frame in batch {
-        note(traces, time, frame)?;
+        note(traces, all, roots, time, frame)?;
     }
     Ok(())
 }
 
 /// Takes in the batches of an instant.
-fn note_batches(traces: &mut Traces, time: Time, batches: &[List<Frame>]) -> Result<(), OutOfMemory>
-    ensures { OnOk result (TakesIn (timed_batches time batches.now) traces.old.entries traces.new.entries) }
+fn note_batches(
+    traces: &mut Traces,
+    all: bool,
+    roots: &Roots,
+    time: Time,
+    batches: &[List<Frame>],
+) -> Result<(), OutOfMemory>
+    ensures { OnOk result (
+        TakesIn (is_asked all roots.now.keys) (timed_batches time batches.now) traces.old.entries traces.new.entries) }
 {
     for batch in batches {
-        note_batch(traces, time, batch.as_slice())?;
+        note_batch(traces, all, roots, time, batch.as_slice())?;
     }
     Ok(())
 }
 
 /// Takes in some instants.
-fn note_instants(traces: &mut Traces, instants: &[Shared<Instant>]) -> Result<(), OutOfMemory>
-    ensures { OnOk result (TakesIn (timed_instants instants.now) traces.old.entries traces.new.entries) }
+fn note_instants(
+    traces: &mut Traces,
+    all: bool,
+    roots: &Roots,
+    instants: &[Shared<Instant>],
+) -> Result<(), OutOfMemory>
+    ensures { OnOk result (
+        TakesIn (is_asked all roots.now.keys) (timed_instants instants.now) traces.old.entries traces.new.entries) }
 {
     for instant in instants {
         let instant = instant.get();
-        note_batches(traces, instant.time, instant.batches.as_slice())?;
+        note_batches(traces, all, roots, instant.time, instant.batches.as_slice())?;
     }
     Ok(())
 }
 
-/// The traces of the tasks of some instants. There is room for one task in two instants at once.
-pub(crate) fn traces_of(alloc: Global, instants: &[Shared<Instant>]) -> Result<Traces, OutOfMemory>
-    ensures { IfOk result (λ traces. TellTasks traces.entries (task_by instants.now)) }
+/// The traces of the tasks of some instants: of all, or of those that come from these directives and daemons.
+pub(crate) fn traces_of(
+    alloc: Global,
+    all: bool,
+    roots: &Roots,
+    instants: &[Shared<Instant>],
+) -> Result<Traces, OutOfMemory>
+    ensures { IfOk result (λ traces.
+        TakesIn (is_asked all roots.now.keys) (timed_instants instants.now) [] traces.entries) }
 {
-    let mut traces = IndexMap::with_capacity(alloc, instants.len() / 2)?;
-    note_instants(&mut traces, instants)?;
+    let mut traces = IndexMap::new(alloc);
+    note_instants(&mut traces, all, roots, instants)?;
     Ok(traces)
 }
 

@@ -1,6 +1,6 @@
 //! The simulation of a plan beside an old run.
 
-ghost use Rattle.std.specs.Prelude.{◌≡◌, ◌≤◌, [], None, IsTrue, IfOk, IfSome, option_map};
+ghost use Rattle.std.specs.Prelude.{◌≡◌, ◌≤◌, [], None, IfOk, IfSome, option_map};
 ghost use Rattle.aerie_base.specs.Ranges.{step_limit};
 ghost use Rattle.aerie_base.specs.plans.OfModel.{IsPlanOf};
 ghost use Rattle.run_data.specs.Fresh.{IsFresh};
@@ -8,13 +8,15 @@ ghost use Rattle.run_data.specs.Waves.{RoseAlike};
 ghost use Rattle.engine_core.specs.BatchGenerations.{Ran};
 ghost use Rattle.engine_core.specs.EngineStates.{batches_in, jobs_in, OfSameModels};
 ghost use Rattle.fitting.specs.Fitting.{IsOldBatch};
-ghost use Rattle.resimulate.specs.EarlyEnds.{IsRest, MayBeEnded};
+ghost use Rattle.resimulate.specs.EarlyEnds.{IsRest};
 ghost use Rattle.resimulate.specs.EvenInstants.{PaysForUneven, LooksForUneven};
+ghost use Rattle.resimulate.specs.Partings.{MayEndFrom};
 ghost use Rattle.resimulate.specs.Walks.{FindsReady, AreOfNextBatch, BatchDiffers, GoesOn, counts_by};
 
-use crate::early_ends::{may_be_ended, rest_if_alike};
+use crate::early_ends::rest_if_alike;
 use crate::old_batches::old_batch;
 use crate::pace::Pace;
+use crate::partings::may_end_from;
 use aerie_base::{Model, OutOfMemory, Plan, Shared, Steps};
 use engine_core::Engine;
 use fitting::fit_job;
@@ -126,21 +128,23 @@ fn next_batch<'a, S: Stepper, L: Ledger, K: Ledger>(
 }
 
 /// Whether it is time to compare, at the beginning of an instant.
-fn is_due<'a>(engine: &Engine<'a>, old: &Run, directives: usize, pace: &mut Pace) -> bool
+fn is_due<'a>(engine: &Engine<'a>, old: &Run, shared: usize, pace: &mut Pace) -> bool
     requires { jobs_in engine.now.point ≡ [] → ⊥ }
 {
     let olds = old.instants.as_slice();
     pace.begin_instant(olds, engine.time());
     let instants = engine.instants().len();
     let left = olds.len().saturating_sub(instants);
-    let yes = pace.is_due(instants, left, directives);
+    let later = instants.saturating_sub(shared);
+    let yes = pace.is_due(instants, later, left);
     if yes {
-        pace.compare(instants, directives);
+        pace.compare(instants, later);
     }
     yes
 }
 
-/// The rest of the old run, where it is time to compare and it is known to be the rest of the new run.
+/// The rest of the old run, where it is time to compare and it is known to be the rest of the new run. `may_end` is the number of
+/// first instants that both share, where the new run may end so.
 #[allow(clippy::too_many_arguments)]
 fn rest_if_due<'a, 'r>(
     alloc: Global,
@@ -149,7 +153,7 @@ fn rest_if_due<'a, 'r>(
     bound: u64,
     engine: &Engine<'a>,
     old: &'r Run,
-    may_end: bool,
+    may_end: Option<usize>,
     pace: &mut Pace,
 ) -> Result<Option<&'r [Shared<Instant>]>, OutOfMemory>
     requires model { engine.now.model ≡ model.now }
@@ -158,20 +162,20 @@ fn rest_if_due<'a, 'r>(
     requires job { jobs_in engine.now.point ≡ [] → ⊥ }
     requires fresh { IsFresh model.now old.now.plan old.now.bound old.now }
     requires old_plan { IsPlanOf model.now old.now.plan }
-    requires may { IsTrue may_end → MayBeEnded plan.now old.now }
+    requires may { IfSome may_end (λ count. MayEndFrom model.now plan.now bound old.now count) }
     ensures begins { IfOk result (λ found. IfSome found (λ rest. batches_in engine.now.point ≡ [])) }
     ensures rest { IfOk result (λ found. IfSome found (λ rest. IsRest model.now plan.now bound engine.now rest.now)) }
 {
-    if !may_end {
+    let Some(shared) = may_end else {
         return Ok(None);
-    }
+    };
     if !engine.batches().is_empty() {
         return Ok(None);
     }
-    if !is_due(engine, old, plan.directives.as_slice().len(), pace) {
+    if !is_due(engine, old, shared, pace) {
         return Ok(None);
     }
-    let found = rest_if_alike(alloc, model, plan, bound, engine, old)?;
+    let found = rest_if_alike(alloc, model, plan, bound, engine, old, shared)?;
     Ok(found)
 }
 
@@ -215,7 +219,7 @@ pub fn resimulate<S: Stepper, L: Ledger, K: Ledger>(
     let run = old.run();
     let instants = run.instants.as_slice();
     let planned = plan.get();
-    let may_end = may_be_ended(planned, run);
+    let may_end = may_end_from(model, planned, bound, run);
     let mut pace = Pace::new(instants.len(), planned.directives.as_slice().len());
     let mut engine = Engine::begin(alloc, model, plan, bound)?;
     while !engine.ready().is_empty() {

@@ -1,5 +1,5 @@
 -- The benches of clients: as many as clients, each under the same bound.
-use Rattle.std.proofs.Common.{◌≡◌, ℕ, zero, suc, ◌+◌, ◌<◌, List, [], ◌∷◌, ◌++◌, length, get_or, replicate, slice_set, refl, sym, ap, ◌∙◌, arith}
+use Rattle.std.proofs.Common.{◌≡◌, ℕ, zero, suc, ◌+◌, ◌<◌, List, [], ◌∷◌, ◌++◌, length, get_or, replicate, slice_set, refl, ap, ◌∙◌, arith}
 
 again : (count bound : ℕ) → replicate count bound ++ (bound ∷ []) ≡ replicate (suc count) bound
 again zero bound = refl

@@ -5,7 +5,6 @@ pub mod Telling
 pub mod Rounds
 pub mod Finished
 pub mod Rules
-pub mod Joining
 pub mod Threaded
 mod sharing
 pub mod Reports

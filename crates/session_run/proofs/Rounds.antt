@@ -1,6 +1,6 @@
 -- Command by command, and round by round.
 use Rattle.std.proofs.Common.{String, Global, ◌≡◌, ℕ, zero, suc, ◌+◌, ◌<◌, ◌≤◌, ◌⊎◌, inl, inr, ◌≢◌, true, false, List, [], ◌∷◌, ◌++◌, length, map, max, take, drop, Some, None, refl, sym, ap, ◌∙◌, subst, nat_eq, nat_le, arith, append_assoc, get_or, slice_get, slice_set}
-use Rattle.std.specs.List.{filter}
+use Rattle.std.specs.List.{AllByRecursion, filter}
 use Rattle.std.specs.String.{string_bytes}
 use Rattle.std.proofs.lemmas.List.{append-nil}
 use Rattle.std.proofs.lemmas.List.Elements.{filter-append}
@@ -19,10 +19,13 @@ use Rattle.hangar_lock.specs.ClientEntries.{own_entry, RisesTo}
 use Rattle.session_reader.specs.declared.session.Client.{Client}
 use Rattle.client_work.specs.declared.missions.Mission.{Mission}
 use Rattle.client_work.specs.Meanings.{meanings_of}
+use Rattle.client_work.specs.Counts.{IsRise, tells_its_steps}
+use Rattle.client_work.specs.Rises.{rise_of}
 use Rattle.client_work.specs.Working.{own_entries, HasGained, IsAtWork, IsWorkTold}
 use Rattle.session_run.specs.Missions.{all_commands}
 use Rattle.session_run.specs.Texts.{client_numbered}
-use Rattle.session_run.specs.Rounds.{AreToldUntil, AreEntriesOf, commands_behind, done_until, HasDoneUntil, TakesRound, TakesCommand, texts_without, in_rounds_until}
+use Rattle.session_run.specs.Rounds.{AreToldUntil, AreEntriesOf, commands_behind, done_until, HasDoneUntil, Stand, TakesRound, TakesCommand, texts_without, in_rounds_until}
+use Rattle.session_run.specs.Steps.{TellTheirSteps, together}
 use Rattle.session_run.proofs.Telling.{line_told, one_more}
 
 -- ---- lists
@@ -174,28 +177,65 @@ gained_both before middle after gained later one two = record {
 abbrev pub HasText : List (List ℕ) → ℕ → List ℕ → Type 0
 HasText texts at text = slice_get texts at ≡ Some text
 
--- one of the texts is another one
-abbrev pub with_text : ℕ → List ℕ → List (List ℕ) → List (List ℕ)
-with_text which text [] = []
-with_text zero text (first ∷ texts) = text ∷ texts
-with_text (suc which) text (first ∷ texts) = first ∷ with_text which text texts
+-- one of the items is another one
+abbrev pub with_item : {A : Type 0} → ℕ → A → List A → List A
+with_item which item [] = []
+with_item zero item (first ∷ items) = item ∷ items
+with_item (suc which) item (first ∷ items) = first ∷ with_item which item items
 
-pub with_length : (which : ℕ) (text : List ℕ) (texts : List (List ℕ)) → length (with_text which text texts) ≡ length texts
-with_length which text [] = refl
-with_length zero text (first ∷ texts) = refl
-with_length (suc which) text (first ∷ texts) = ap suc (with_length which text texts)
+pub with_length : {A : Type 0} (which : ℕ) (item : A) (items : List A) → length (with_item which item items) ≡ length items
+with_length which item [] = refl
+with_length zero item (first ∷ items) = refl
+with_length (suc which) item (first ∷ items) = ap suc (with_length which item items)
 
-with_here : (which : ℕ) (new : List ℕ) (texts : List (List ℕ)) (text : List ℕ) → HasText (with_text which new texts) which text → text ≡ new
-with_here which new [] text e = absurd (none_some text e)
-with_here zero new (first ∷ texts) text e = sym (same_some new text e)
-with_here (suc which) new (first ∷ texts) text e = with_here which new texts text e
+with_here : {A : Type 0} (which : ℕ) (new : A) (items : List A) (item : A) → slice_get (with_item which new items) which ≡ Some item → item ≡ new
+with_here which new [] item e = absurd (none_some item e)
+with_here zero new (first ∷ items) item e = sym (same_some new item e)
+with_here (suc which) new (first ∷ items) item e = with_here which new items item e
 
-with_there : (which other : ℕ) (new : List ℕ) (texts : List (List ℕ)) (text : List ℕ) → other ≢ which → HasText (with_text which new texts) other text → HasText texts other text
-with_there which other new [] text differ e = e
-with_there zero zero new (first ∷ texts) text differ e = absurd (differ refl)
-with_there zero (suc other) new (first ∷ texts) text differ e = e
-with_there (suc which) zero new (first ∷ texts) text differ e = e
-with_there (suc which) (suc other) new (first ∷ texts) text differ e = with_there which other new texts text (λ same. differ (ap suc same)) e
+with_there : {A : Type 0} (which other : ℕ) (new : A) (items : List A) (item : A) → other ≢ which → slice_get (with_item which new items) other ≡ Some item →
+    slice_get items other ≡ Some item
+with_there which other new [] item differ e = e
+with_there zero zero new (first ∷ items) item differ e = absurd (differ refl)
+with_there zero (suc other) new (first ∷ items) item differ e = e
+with_there (suc which) zero new (first ∷ items) item differ e = e
+with_there (suc which) (suc other) new (first ∷ items) item differ e = with_there which other new items item (λ same. differ (ap suc same)) e
+
+-- ---- totals
+
+-- one of them rises
+together_with : (which total rise : ℕ) (totals : List ℕ) → slice_get totals which ≡ Some total → together (with_item which (total + rise) totals) ≡ together totals + rise
+together_with which total rise [] e = absurd (none_some total e)
+together_with zero total rise (first ∷ totals) e = let same = same_some first total e in omega (arith, same)
+together_with (suc which) total rise (first ∷ totals) e = let rest = together_with which total rise totals e in omega (arith, rest)
+
+abbrev zeros : ℕ → List ℕ
+zeros zero = []
+zeros (suc count) = 0 ∷ zeros count
+
+zeros_many : (count : ℕ) → length (zeros count) ≡ count
+zeros_many zero = refl
+zeros_many (suc count) = ap suc (zeros_many count)
+
+zeros_together : (count : ℕ) → together (zeros count) ≡ 0
+zeros_together zero = refl
+zeros_together (suc count) = let rest = zeros_together count in omega (arith, rest)
+
+zero_at : (count at total : ℕ) → slice_get (zeros count) at ≡ Some total → total ≡ 0
+zero_at zero at total e = absurd (none_some total e)
+zero_at (suc count) zero total e = sym (same_some 0 total e)
+zero_at (suc count) (suc at) total e = zero_at count at total e
+
+-- what is at a place within
+item_at : {A : Type 0} (items : List A) (at : ℕ) → at < length items → (item : A) × (slice_get items at ≡ Some item)
+item_at [] at within = absurd (omega (arith, within))
+item_at (first ∷ items) zero within = (first, refl)
+item_at (first ∷ items) (suc at) within = item_at items at (omega (arith, within))
+
+all_at : {A : Type 0} (P : A → Type 0) (items : List A) (at : ℕ) (item : A) → AllByRecursion P items → slice_get items at ≡ Some item → P item
+all_at P [] at item all e = absurd (none_some item e)
+all_at P (first ∷ items) zero item all e = subst P (same_some first item e) all.0
+all_at P (first ∷ items) (suc at) item all e = all_at P items at item all.1 e
 
 -- ---- the entries of a client
 
@@ -238,8 +278,8 @@ done_alike number client which differ = decide (leb_tells client which)
 
 -- ---- a command
 
-abbrev Told : Mission → Places → ℕ → Client → ℕ → List ℕ → Type 0
-Told mission gained which client done text = IsWorkTold mission (client_numbered which client) 0 (take done client.commands) (filter (is_of_client which) (own_entries gained)) text
+abbrev Told : Mission → Places → ℕ → Client → ℕ → List ℕ → ℕ → Type 0
+Told mission gained which client done text total = IsWorkTold mission (client_numbered which client) 0 (take done client.commands) (filter (is_of_client which) (own_entries gained)) text total
 
 module _ (mission : Mission) (clients : List Client) (number which : ℕ) (client : Client) (at : slice_get clients which ≡ Some client) where
   abbrev meanings : Meanings
@@ -263,111 +303,142 @@ module _ (mission : Mission) (clients : List Client) (number which : ℕ) (clien
         ∙ ap (λ (n : ℕ). heads number 0 (take which behind) ++ (record { client = n; number = number; command = command } ∷ [])) (omega arith))
         ∙ sym (append_assoc (in_rounds number 0 (all_commands clients)) (heads number 0 (take which behind)) (record { client = which; number = number; command = command } ∷ []))
 
-    module _ (before after : PassView) (texts : List (List ℕ)) (text_before text_after : List ℕ) (there : HasText texts which text_before)
-        (numbered : TakesCommand mission which client number command before after text_before text_after) (earlier : Places) where
+    module _ (before after : Stand) (texts : List (List ℕ)) (text_before text_after : List ℕ) (there : HasText texts which text_before)
+        (numbered : TakesCommand mission which client number command before after text_before text_after) (earlier : Places)
+        (totals : List ℕ) (total_before rise : ℕ) (had : slice_get totals which ≡ Some total_before) (rose : IsRise command numbered.statements rise) where
       abbrev later_texts : List (List ℕ)
-      later_texts = with_text which text_after texts
+      later_texts = with_item which text_after texts
+
+      abbrev later_totals : List ℕ
+      later_totals = with_item which (total_before + rise) totals
 
       abbrev line : List ℕ
       line = line_told mission (client_numbered which client) number command numbered.statements (own_entries numbered.gained)
 
-      told_here : (told : AreToldUntil mission clients number which (own_entries earlier) texts) (text : List ℕ) → HasText later_texts which text →
-          IsWorkTold mission (client_numbered which client) 0 (take (done_until number (suc which) which) client.commands) (filter (is_of_client which) (own_entries earlier ++ own_entries numbered.gained)) text
-      told_here told text now =
+      told_here : (told : AreToldUntil mission clients number which (own_entries earlier) texts totals) (text : List ℕ) (total : ℕ) → HasText later_texts which text →
+          slice_get later_totals which ≡ Some total →
+          IsWorkTold mission (client_numbered which client) 0 (take (done_until number (suc which) which) client.commands) (filter (is_of_client which) (own_entries earlier ++ own_entries numbered.gained)) text total
+      told_here told text total now has_total =
           let is : text ≡ text_before ++ line = with_here which text_after texts text now ∙ numbered.told in
-          let was = told.each which client text_before at there in
+          let is_total : total ≡ total_before + rise = with_here which (total_before + rise) totals total has_total in
+          let was = told.each which client text_before total_before at there had in
           let was_taken : take (done_until number which which) client.commands ≡ take number client.commands =
           ap (λ (n : ℕ). take n client.commands) (done_before number which which (omega arith)) in
           let next : suc number ≡ number + 1 = omega arith in
           let is_taken : take number client.commands ++ (command ∷ []) ≡ take (done_until number (suc which) which) client.commands =
           sym (take_at client.commands number command has) ∙ ap (λ (n : ℕ). take n client.commands) (next ∙ sym (done_after number (suc which) which (omega arith))) in
           let more = one_more mission (client_numbered which client) command (own_entries numbered.gained) numbered.statements 0 number (take number client.commands)
-          (filter (is_of_client which) (own_entries earlier)) text_before (let k = take_length client.commands number command has in omega (arith, k))
-          (subst (λ (l : List Command). IsWorkTold mission (client_numbered which client) 0 l (filter (is_of_client which) (own_entries earlier)) text_before) was_taken was) numbered.parts numbered.paid in
+          (filter (is_of_client which) (own_entries earlier)) text_before total_before rise (let k = take_length client.commands number command has in omega (arith, k))
+          (subst (λ (l : List Command). IsWorkTold mission (client_numbered which client) 0 l (filter (is_of_client which) (own_entries earlier)) text_before total_before) was_taken was)
+          numbered.parts numbered.paid rose in
           let own : filter (is_of_client which) (own_entries earlier) ++ own_entries numbered.gained ≡ filter (is_of_client which) (own_entries earlier ++ own_entries numbered.gained) =
           ap (λ (l : Entries). filter (is_of_client which) (own_entries earlier) ++ l) (sym (all_by meanings which number command [] (own_entries numbered.gained) numbered.parts))
           ∙ sym (filter-append (is_of_client which) (own_entries earlier) (own_entries numbered.gained)) in
-          subst (λ (l : List Command). IsWorkTold mission (client_numbered which client) 0 l (filter (is_of_client which) (own_entries earlier ++ own_entries numbered.gained)) text) is_taken
-          (subst (λ (l : Entries). IsWorkTold mission (client_numbered which client) 0 (take number client.commands ++ (command ∷ [])) l text) own
+          subst (λ (n : ℕ). IsWorkTold mission (client_numbered which client) 0 (take (done_until number (suc which) which) client.commands)
+          (filter (is_of_client which) (own_entries earlier ++ own_entries numbered.gained)) text n) (sym is_total)
+          (subst (λ (l : List Command). IsWorkTold mission (client_numbered which client) 0 l (filter (is_of_client which) (own_entries earlier ++ own_entries numbered.gained)) text (total_before + rise)) is_taken
+          (subst (λ (l : Entries). IsWorkTold mission (client_numbered which client) 0 (take number client.commands ++ (command ∷ [])) l text (total_before + rise)) own
           (subst (λ (l : List ℕ). IsWorkTold mission (client_numbered which client) 0 (take number client.commands ++ (command ∷ []))
-          (filter (is_of_client which) (own_entries earlier) ++ own_entries numbered.gained) l) (sym is) more))
+          (filter (is_of_client which) (own_entries earlier) ++ own_entries numbered.gained) l (total_before + rise)) (sym is) more)))
 
-      told_there : (told : AreToldUntil mission clients number which (own_entries earlier) texts) (other : ℕ) (x : Client) (text : List ℕ) → other ≢ which → slice_get clients other ≡ Some x →
-          HasText later_texts other text →
-          IsWorkTold mission (client_numbered other x) 0 (take (done_until number (suc which) other) x.commands) (filter (is_of_client other) (own_entries earlier ++ own_entries numbered.gained)) text
-      told_there told other x text differ place now =
-          let was = told.each other x text place (with_there which other text_after texts text differ now) in
+      told_there : (told : AreToldUntil mission clients number which (own_entries earlier) texts totals) (other : ℕ) (x : Client) (text : List ℕ) (total : ℕ) → other ≢ which →
+          slice_get clients other ≡ Some x → HasText later_texts other text → slice_get later_totals other ≡ Some total →
+          IsWorkTold mission (client_numbered other x) 0 (take (done_until number (suc which) other) x.commands) (filter (is_of_client other) (own_entries earlier ++ own_entries numbered.gained)) text total
+      told_there told other x text total differ place now has_total =
+          let was = told.each other x text total place (with_there which other text_after texts text differ now) (with_there which other (total_before + rise) totals total differ has_total) in
           let same : filter (is_of_client other) (own_entries earlier) ≡ filter (is_of_client other) (own_entries earlier ++ own_entries numbered.gained) =
           sym (filter-append (is_of_client other) (own_entries earlier) (own_entries numbered.gained)
           ∙ ap (λ (l : Entries). filter (is_of_client other) (own_entries earlier) ++ l) (none_by meanings which other number command [] (own_entries numbered.gained) differ numbered.parts)
           ∙ append-nil (filter (is_of_client other) (own_entries earlier))) in
-          subst (λ (l : Entries). IsWorkTold mission (client_numbered other x) 0 (take (done_until number (suc which) other) x.commands) l text) same
-          (subst (λ (n : ℕ). IsWorkTold mission (client_numbered other x) 0 (take n x.commands) (filter (is_of_client other) (own_entries earlier)) text) (sym (done_alike number which other differ)) was)
+          subst (λ (l : Entries). IsWorkTold mission (client_numbered other x) 0 (take (done_until number (suc which) other) x.commands) l text total) same
+          (subst (λ (n : ℕ). IsWorkTold mission (client_numbered other x) 0 (take n x.commands) (filter (is_of_client other) (own_entries earlier)) text total) (sym (done_alike number which other differ)) was)
 
-      told_after : AreToldUntil mission clients number which (own_entries earlier) texts → AreToldUntil mission clients number (suc which) (own_entries earlier ++ own_entries numbered.gained) later_texts
+      told_after : AreToldUntil mission clients number which (own_entries earlier) texts totals →
+          AreToldUntil mission clients number (suc which) (own_entries earlier ++ own_entries numbered.gained) later_texts later_totals
       told_after told = record {
         count = with_length which text_after texts ∙ told.count;
-        each = λ other x text place there. decide (eqb_tells other which) x text place there;
+        many = with_length which (total_before + rise) totals ∙ told.many;
+        each = λ other x text total place there has_total. decide (eqb_tells other which) x text total place there has_total;
       }
         where
-          decide : {other : ℕ} → ((nat_eq other which ≡ true) × (other ≡ which)) ⊎ ((nat_eq other which ≡ false) × (other ≢ which)) → (x : Client) (text : List ℕ) →
-              slice_get clients other ≡ Some x → HasText later_texts other text →
-              IsWorkTold mission (client_numbered other x) 0 (take (done_until number (suc which) other) x.commands) (filter (is_of_client other) (own_entries earlier ++ own_entries numbered.gained)) text
-          decide {other} (inl k) x text place there =
-              subst (λ (n : ℕ). IsWorkTold mission (client_numbered n x) 0 (take (done_until number (suc which) n) x.commands) (filter (is_of_client n) (own_entries earlier ++ own_entries numbered.gained)) text) (sym k.1)
-              (subst (λ (z : Client). IsWorkTold mission (client_numbered which z) 0 (take (done_until number (suc which) which) z.commands) (filter (is_of_client which) (own_entries earlier ++ own_entries numbered.gained)) text)
+          decide : {other : ℕ} → ((nat_eq other which ≡ true) × (other ≡ which)) ⊎ ((nat_eq other which ≡ false) × (other ≢ which)) → (x : Client) (text : List ℕ) (total : ℕ) →
+              slice_get clients other ≡ Some x → HasText later_texts other text → slice_get later_totals other ≡ Some total →
+              IsWorkTold mission (client_numbered other x) 0 (take (done_until number (suc which) other) x.commands) (filter (is_of_client other) (own_entries earlier ++ own_entries numbered.gained)) text total
+          decide {other} (inl k) x text total place there has_total =
+              subst (λ (n : ℕ). IsWorkTold mission (client_numbered n x) 0 (take (done_until number (suc which) n) x.commands) (filter (is_of_client n) (own_entries earlier ++ own_entries numbered.gained)) text total) (sym k.1)
+              (subst (λ (z : Client). IsWorkTold mission (client_numbered which z) 0 (take (done_until number (suc which) which) z.commands) (filter (is_of_client which) (own_entries earlier ++ own_entries numbered.gained)) text total)
               (same_client x (ap (slice_get clients) (sym k.1) ∙ place))
-              (told_here told text (ap (slice_get later_texts) (sym k.1) ∙ there)))
-          decide {other} (inr k) x text place there = told_there told other x text k.1 place there
+              (told_here told text total (ap (slice_get later_texts) (sym k.1) ∙ there) (ap (slice_get later_totals) (sym k.1) ∙ has_total)))
+          decide {other} (inr k) x text total place there has_total = told_there told other x text total k.1 place there has_total
 
-    pub command_taken : (first before after : PassView) (texts : List (List ℕ)) (text_before text_after : List ℕ) → HasText texts which text_before →
+    tells : TellTheirSteps (all_commands clients) → tells_its_steps command ≡ true
+    tells all =
+        all_at (λ (command : Command). tells_its_steps command ≡ true) client.commands number command
+        (all_at (AllByRecursion (λ (command : Command). tells_its_steps command ≡ true)) (all_commands clients) which client.commands all
+        (get_mapped (λ (x : Client). x.commands) clients which client at)) has
+
+    pub command_taken : (first before after : Stand) (texts : List (List ℕ)) (text_before text_after : List ℕ) → HasText texts which text_before →
         HasDoneUntil mission clients number which first before texts → TakesCommand mission which client number command before after text_before text_after →
-        HasDoneUntil mission clients number (suc which) first after (with_text which text_after texts)
+        HasDoneUntil mission clients number (suc which) first after (with_item which text_after texts)
     command_taken first before after texts text_before text_after there until numbered =
         let entries : own_entries (until.gained ++ numbered.gained) ≡ own_entries until.gained ++ own_entries numbered.gained = mapped_append own_entry until.gained numbered.gained in
+        let rose = rise_of command numbered.statements before.steps after.steps numbered.counted in
+        let many = until.told.many in
+        let within = slice_get_within clients which client at in
+        let had = item_at until.totals which (omega (arith, many, within)) in
         record {
           gained = until.gained ++ numbered.gained;
-          gains = gained_both first before after until.gained numbered.gained until.gains numbered.gains;
+          gains = gained_both first.pass before.pass after.pass until.gained numbered.gained until.gains numbered.gains;
           done =
               subst (AreEntriesOf meanings (in_rounds_until number (suc which) (all_commands clients))) (sym entries)
               (subst (λ (l : List NumberedCommand). AreEntriesOf meanings l (own_entries until.gained ++ own_entries numbered.gained)) (sym in_rounds_taken)
               (command_more meanings (record { client = which; number = number; command = command }) (own_entries numbered.gained) numbered.parts
               (in_rounds_until number which (all_commands clients)) (own_entries until.gained) until.done));
-          told = subst (λ (l : Entries). AreToldUntil mission clients number (suc which) l (with_text which text_after texts)) (sym entries)
-              (told_after before after texts text_before text_after there numbered until.gained until.told);
+          totals = with_item which (had.0 + rose.rise) until.totals;
+          told = subst (λ (l : Entries). AreToldUntil mission clients number (suc which) l (with_item which text_after texts) (with_item which (had.0 + rose.rise) until.totals)) (sym entries)
+              (told_after before after texts text_before text_after there numbered until.gained until.totals had.0 rose.rise had.1 rose.counted until.told);
+          risen = λ all.
+              let own = rose.risen (tells all) numbered.still in
+              let earlier = until.risen all in
+              let more = together_with which had.0 rose.rise until.totals had.1 in
+              omega (arith, own, earlier, more);
         }
 
   -- a client without such a command
   pub in_rounds_skipped : length client.commands ≤ number → in_rounds_until number (suc which) (all_commands clients) ≡ in_rounds_until number which (all_commands clients)
   in_rounds_skipped less = ap (λ (l : List NumberedCommand). in_rounds number 0 (all_commands clients) ++ l) (heads_skipped number 0 which behind (behind_at ∙ ap Some (drop_all client.commands number less)))
 
-  pub command_skipped : length client.commands ≤ number → (first after : PassView) (texts : List (List ℕ)) → HasDoneUntil mission clients number which first after texts →
+  pub command_skipped : length client.commands ≤ number → (first after : Stand) (texts : List (List ℕ)) → HasDoneUntil mission clients number which first after texts →
       HasDoneUntil mission clients number (suc which) first after texts
   command_skipped less first after texts until = record {
     gained = until.gained;
     gains = until.gains;
     done = subst (λ (l : List NumberedCommand). AreEntriesOf meanings l (own_entries until.gained)) (sym (in_rounds_skipped less)) until.done;
-    told = record { count = until.told.count; each = each };
+    totals = until.totals;
+    told = record { count = until.told.count; many = until.told.many; each = each };
+    risen = until.risen;
   }
     where
-      here : (text : List ℕ) → Told mission until.gained which client (done_until number which which) text → Told mission until.gained which client (done_until number (suc which) which) text
-      here text was =
+      here : (text : List ℕ) (total : ℕ) → Told mission until.gained which client (done_until number which which) text total →
+          Told mission until.gained which client (done_until number (suc which) which) text total
+      here text total was =
           let a : take (done_until number which which) client.commands ≡ take (done_until number (suc which) which) client.commands =
           ap (λ (n : ℕ). take n client.commands) (done_before number which which (omega arith))
           ∙ take_all client.commands number less
           ∙ sym (take_all client.commands (number + 1) (omega (arith, less)))
           ∙ ap (λ (n : ℕ). take n client.commands) (sym (done_after number (suc which) which (omega arith))) in
-          subst (λ (l : List Command). IsWorkTold mission (client_numbered which client) 0 l (filter (is_of_client which) (own_entries until.gained)) text) a was
+          subst (λ (l : List Command). IsWorkTold mission (client_numbered which client) 0 l (filter (is_of_client which) (own_entries until.gained)) text total) a was
 
-      each : (other : ℕ) (x : Client) (text : List ℕ) → slice_get clients other ≡ Some x → HasText texts other text → Told mission until.gained other x (done_until number (suc which) other) text
-      each other x text place there = decide (eqb_tells other which)
+      each : (other : ℕ) (x : Client) (text : List ℕ) (total : ℕ) → slice_get clients other ≡ Some x → HasText texts other text → slice_get until.totals other ≡ Some total →
+          Told mission until.gained other x (done_until number (suc which) other) text total
+      each other x text total place there has_total = decide (eqb_tells other which)
         where
-          decide : ((nat_eq other which ≡ true) × (other ≡ which)) ⊎ ((nat_eq other which ≡ false) × (other ≢ which)) → Told mission until.gained other x (done_until number (suc which) other) text
+          decide : ((nat_eq other which ≡ true) × (other ≡ which)) ⊎ ((nat_eq other which ≡ false) × (other ≢ which)) → Told mission until.gained other x (done_until number (suc which) other) text total
           decide (inl k) =
-              subst (λ (n : ℕ). Told mission until.gained n x (done_until number (suc which) n) text) (sym k.1)
-              (subst (λ (z : Client). Told mission until.gained which z (done_until number (suc which) which) text) (same_client x (ap (slice_get clients) (sym k.1) ∙ place))
-              (here text (until.told.each which client text at (ap (slice_get texts) (sym k.1) ∙ there))))
-          decide (inr k) = subst (λ (n : ℕ). Told mission until.gained other x n text) (sym (done_alike number which other k.1)) (until.told.each other x text place there)
+              subst (λ (n : ℕ). Told mission until.gained n x (done_until number (suc which) n) text total) (sym k.1)
+              (subst (λ (z : Client). Told mission until.gained which z (done_until number (suc which) which) text total) (same_client x (ap (slice_get clients) (sym k.1) ∙ place))
+              (here text total (until.told.each which client text total at (ap (slice_get texts) (sym k.1) ∙ there) (ap (slice_get until.totals) (sym k.1) ∙ has_total))))
+          decide (inr k) = subst (λ (n : ℕ). Told mission until.gained other x n text total) (sym (done_alike number which other k.1)) (until.told.each other x text total place there has_total)
 
 -- ---- a round
 
@@ -386,19 +457,22 @@ round_in_rounds clients number =
 
 module _ (mission : Mission) (clients : List Client) where
   -- a round is over behind the last client
-  pub round_done : (number : ℕ) (first after : PassView) (texts : List (List ℕ)) → HasDoneUntil mission clients number (length clients) first after texts →
+  pub round_done : (number : ℕ) (first after : Stand) (texts : List (List ℕ)) → HasDoneUntil mission clients number (length clients) first after texts →
       HasDoneUntil mission clients (number + 1) 0 first after texts
   round_done number first after texts until = record {
     gained = until.gained;
     gains = until.gains;
     done = subst (λ (l : List NumberedCommand). AreEntriesOf (meanings_of mission.models mission.bound) l (own_entries until.gained)) (round_in_rounds clients number) until.done;
+    totals = until.totals;
     told = record {
       count = until.told.count;
-      each = λ which x text place there.
-          subst (λ (n : ℕ). IsWorkTold mission (client_numbered which x) 0 (take n x.commands) (filter (is_of_client which) (own_entries until.gained)) text)
+      many = until.told.many;
+      each = λ which x text total place there has_total.
+          subst (λ (n : ℕ). IsWorkTold mission (client_numbered which x) 0 (take n x.commands) (filter (is_of_client which) (own_entries until.gained)) text total)
           (done_after number (length clients) which (slice_get_within clients which x place) ∙ sym (done_before (number + 1) 0 which (omega arith)))
-          (until.told.each which x text place there);
+          (until.told.each which x text total place there has_total);
     };
+    risen = until.risen;
   }
 
   no_text : (count at : ℕ) (text : List ℕ) → HasText (texts_without count) at text → text ≡ []
@@ -411,50 +485,53 @@ module _ (mission : Mission) (clients : List Client) where
   replicated (suc count) = ap suc (replicated count)
 
   -- nothing is done at first
-  pub begun : (first : PassView) → HasDoneUntil mission clients 0 0 first first (texts_without (length clients))
+  pub begun : (first : Stand) → HasDoneUntil mission clients 0 0 first first (texts_without (length clients))
   begun first = record {
     gained = [];
-    gains = record { mine = sym (append-nil first.mine); rises = omega arith; lock = refl; stands = refl; split = refl };
+    gains = record { mine = sym (append-nil first.pass.mine); rises = omega arith; lock = refl; stands = refl; split = refl };
     done = refl;
+    totals = zeros (length clients);
     told = record {
       count = replicated (length clients);
-      each = λ which x text place there.
-          subst (λ (n : ℕ). IsWorkTold mission (client_numbered which x) 0 (take n x.commands) [] text) (sym (done_before 0 0 which (omega arith)))
-          (refl, no_text (length clients) which text there);
+      many = zeros_many (length clients);
+      each = λ which x text total place there has_total.
+          subst (λ (n : ℕ). IsWorkTold mission (client_numbered which x) 0 (take n x.commands) [] text total) (sym (done_before 0 0 which (omega arith)))
+          (refl, no_text (length clients) which text there, zero_at (length clients) which total has_total);
     };
+    risen = λ all. let none = zeros_together (length clients) in omega (arith, none);
   }
 
 -- ---- a round that goes on
 
 -- in a round with a number, so many clients had their command done
-pub record IsInRound (mission : Mission) (lock : LockView) (clients : List Client) (number which : ℕ) (before now : PassView) (texts_before texts_now : List (List ℕ)) : Type 0 where
-  pub at : IsAtWork mission lock now
-  pub own : before.lock ≡ lock
+pub record IsInRound (mission : Mission) (lock : LockView) (clients : List Client) (number which : ℕ) (before now : Stand) (texts_before texts_now : List (List ℕ)) : Type 0 where
+  pub at : IsAtWork mission lock now.pass
+  pub own : before.pass.lock ≡ lock
   pub many : length texts_now ≡ length clients
-  pub goes_on : (first : PassView) → HasDoneUntil mission clients number 0 first before texts_before → HasDoneUntil mission clients number which first now texts_now
+  pub goes_on : (first : Stand) → HasDoneUntil mission clients number 0 first before texts_before → HasDoneUntil mission clients number which first now texts_now
 
-pub round_begun : (mission : Mission) (lock : LockView) (clients : List Client) (number : ℕ) (pass : PassView) (texts : List (List ℕ)) → IsAtWork mission lock pass → length texts ≡ length clients →
-    IsInRound mission lock clients number 0 pass pass texts texts
-round_begun mission lock clients number pass texts at many = record { at = at; own = at.own; many = many; goes_on = λ first until. until }
+pub round_begun : (mission : Mission) (lock : LockView) (clients : List Client) (number : ℕ) (first : Stand) (texts : List (List ℕ)) → IsAtWork mission lock first.pass → length texts ≡ length clients →
+    IsInRound mission lock clients number 0 first first texts texts
+round_begun mission lock clients number first texts at many = record { at = at; own = at.own; many = many; goes_on = λ begun until. until }
 
 pub still_at : (mission : Mission) (lock : LockView) (before after : PassView) (gained : Places) → IsAtWork mission lock before → HasGained before after gained → IsAtWork mission lock after
 still_at mission lock before after gained at gains = record { own = gains.lock ∙ at.own; some_model = at.some_model; models = at.models; ruled = at.ruled; bound = at.bound }
 
-pub round_taken : (mission : Mission) (lock : LockView) (clients : List Client) (number which : ℕ) (before now after : PassView) (texts_before texts_now : List (List ℕ))
+pub round_taken : (mission : Mission) (lock : LockView) (clients : List Client) (number which : ℕ) (before now after : Stand) (texts_before texts_now : List (List ℕ))
     (client : Client) (command : Command) (text_before text_after : List ℕ) → slice_get clients which ≡ Some client → slice_get client.commands number ≡ Some command →
     HasText texts_now which text_before → TakesCommand mission which client number command now after text_before text_after →
-    IsInRound mission lock clients number which before now texts_before texts_now → IsInRound mission lock clients number (which + 1) before after texts_before (with_text which text_after texts_now)
+    IsInRound mission lock clients number which before now texts_before texts_now → IsInRound mission lock clients number (which + 1) before after texts_before (with_item which text_after texts_now)
 round_taken mission lock clients number which before now after texts_before texts_now client command text_before text_after place has there numbered round =
     let next : suc which ≡ which + 1 = omega arith in
     record {
-      at = still_at mission lock now after numbered.gained round.at numbered.gains;
+      at = still_at mission lock now.pass after.pass numbered.gained round.at numbered.gains;
       own = round.own;
       many = with_length which text_after texts_now ∙ round.many;
-      goes_on = λ first until. subst (λ (n : ℕ). HasDoneUntil mission clients number n first after (with_text which text_after texts_now)) next
+      goes_on = λ first until. subst (λ (n : ℕ). HasDoneUntil mission clients number n first after (with_item which text_after texts_now)) next
           (command_taken mission clients number which client place command has first now after texts_now text_before text_after there (round.goes_on first until) numbered);
     }
 
-pub round_skipped : (mission : Mission) (lock : LockView) (clients : List Client) (number which : ℕ) (before now : PassView) (texts_before texts_now : List (List ℕ)) (client : Client) →
+pub round_skipped : (mission : Mission) (lock : LockView) (clients : List Client) (number which : ℕ) (before now : Stand) (texts_before texts_now : List (List ℕ)) (client : Client) →
     slice_get clients which ≡ Some client → length client.commands ≤ number → IsInRound mission lock clients number which before now texts_before texts_now →
     IsInRound mission lock clients number (which + 1) before now texts_before texts_now
 round_skipped mission lock clients number which before now texts_before texts_now client place less round =
@@ -467,7 +544,7 @@ round_skipped mission lock clients number which before now texts_before texts_no
           (command_skipped mission clients number which client place less first now texts_now (round.goes_on first until));
     }
 
-pub round_over : (mission : Mission) (lock : LockView) (clients : List Client) (number which : ℕ) (before now : PassView) (texts_before texts_now : List (List ℕ)) →
+pub round_over : (mission : Mission) (lock : LockView) (clients : List Client) (number which : ℕ) (before now : Stand) (texts_before texts_now : List (List ℕ)) →
     which ≡ length clients → length texts_before ≡ length clients → IsInRound mission lock clients number which before now texts_before texts_now →
     TakesRound mission clients number before now texts_before texts_now
 round_over mission lock clients number which before now texts_before texts_now all many round = record {
@@ -478,7 +555,7 @@ round_over mission lock clients number which before now texts_before texts_now a
 }
 
 -- one of the texts in memory is another one
-pub text_set : (texts : List (String Global)) (which : ℕ) (text : String Global) → map string_bytes (slice_set texts which text) ≡ with_text which (string_bytes text) (map string_bytes texts)
+pub text_set : (texts : List (String Global)) (which : ℕ) (text : String Global) → map string_bytes (slice_set texts which text) ≡ with_item which (string_bytes text) (map string_bytes texts)
 text_set [] which text = refl
 text_set (first ∷ texts) zero text = refl
 text_set (first ∷ texts) (suc which) text = ap (λ (l : List (List ℕ)). string_bytes first ∷ l) (text_set texts which text)

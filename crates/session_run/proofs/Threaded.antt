@@ -24,7 +24,7 @@ use Rattle.session_run.specs.Missions.{all_commands, mission_of, opening_of, ses
 use Rattle.session_run.specs.Performed.{IsPerformed}
 use Rattle.session_run.specs.Texts.{client_numbered}
 use Rattle.session_run.specs.Works.{AreDone, AreOf, AreWorksOf, CanWork, numbered_pass, passes_of, split_often, works_texts}
-use Rattle.session_run.proofs.Finished.{AreTold, joined}
+use Rattle.session_run.proofs.Finished.{AreToldSomehow, joined, with_totals}
 use Rattle.session_run.proofs.Rounds.{get_mapped, mapped_length, none_some, same_some}
 
 -- ---- lists
@@ -187,7 +187,8 @@ module _ (judged : JudgedSession) (bound : ℕ) (stats : Bool) (lock : LockView)
         (record { start = numbered_pass lock which; fresh = refl; worked = law mission (client_numbered which client.0) client.0.commands (numbered_pass lock which) pass one.text one.work });
   }
 
-  all_told : PassesHaveTheirEntries → ToldWorksAreDone → (journal : Entries) → StandIn (all_mine (passes_of dones)) journal → HaveAllOf (all_mine (passes_of dones)) journal → AreTold mission journal 0 clients texts
+  all_told : PassesHaveTheirEntries → ToldWorksAreDone → (journal : Entries) → StandIn (all_mine (passes_of dones)) journal → HaveAllOf (all_mine (passes_of dones)) journal →
+      AreToldSomehow mission journal 0 clients texts
   all_told entries law journal right all which client text place at =
       let x = there dones which (let below = slice_get_within clients which client place in let many = done.many in let works_many = of.many in omega (arith, below, many, works_many)) in
       let pass_at = get_mapped (λ (d : Done). d.pass) dones which x.0 x.1 in
@@ -195,10 +196,12 @@ module _ (judged : JudgedSession) (bound : ℕ) (stats : Bool) (lock : LockView)
       let same : one.text ≡ text = same_some one.text text (sym one.written ∙ at) in
       let mine : one.work.gained ≡ x.0.pass.mine = sym one.work.gains.mine in
       let own : own_entries one.work.gained ≡ filter (is_of_client which) journal =
-      ap own_entries mine ∙ entries meanings (all_commands clients) (passes_of dones) journal (all_worked law) right all which x.0.pass pass_at in
-      subst (λ (n : ℕ). IsWorkTold mission (client_numbered n client) 0 client.commands (filter (is_of_client n) journal) text) (omega arith)
-      (subst (λ (t : List ℕ). IsWorkTold mission (client_numbered which client) 0 client.commands (filter (is_of_client which) journal) t) same
-      (subst (λ (l : Entries). IsWorkTold mission (client_numbered which client) 0 client.commands l one.text) own one.work.told))
+      ap own_entries mine ∙ entries meanings (all_commands clients) (passes_of dones) journal (all_worked law) right all which x.0.pass pass_at in (
+        one.work.total,
+        subst (λ (n : ℕ). IsWorkTold mission (client_numbered n client) 0 client.commands (filter (is_of_client n) journal) text one.work.total) (omega arith)
+            (subst (λ (t : List ℕ). IsWorkTold mission (client_numbered which client) 0 client.commands (filter (is_of_client which) journal) t one.work.total) same
+            (subst (λ (l : Entries). IsWorkTold mission (client_numbered which client) 0 client.commands l one.text one.work.total) own one.work.told)),
+      )
 
   pub whole : JoinedPassesAreWhole → IsWhole (joined_with_all first (passes_of dones))
   whole law = law first (passes_of dones) of_one_lock
@@ -212,11 +215,12 @@ module _ (judged : JudgedSession) (bound : ℕ) (stats : Bool) (lock : LockView)
       let all_all = subst (λ (l : Places). HaveAllOf l journal) mine all in
       let fits = fit meanings (opening_of judged.session) (all_commands clients) (passes_of dones) journal (all_worked law) replayed right_all all_all in
       let texts_many : length texts ≡ length clients = told.many ∙ done.many ∙ of.many in
-      let all_texts = joined mission journal 0 clients texts texts_many (all_told entries law journal right_all all_all) in
+      let totalled = with_totals mission journal 0 clients texts texts_many (all_told entries law journal right_all all_all) in
+      let tell = joined mission journal 0 clients texts totalled.totals texts_many totalled.many totalled.told in
       record {
         journal = journal;
         fits = fits;
-        counts = all_texts.0;
-        paid = all_texts.1.1;
-        told = whole_text ∙ ap (λ (l : List ℕ). line_of (journal_data journal) ++ l) all_texts.1.0;
+        counts = tell.counts;
+        paid = tell.paid;
+        told = whole_text ∙ ap (λ (l : List ℕ). line_of (journal_data journal) ++ l) tell.told;
       }

@@ -1,10 +1,11 @@
 -- A session that is performed.
-use Rattle.std.specs.Prelude.{◌≡◌, ℕ, Bool, List}
+use Rattle.std.specs.Prelude.{◌≡◌, ℕ, ◌+◌, Bool, List}
 use Rattle.hangar_core.specs.Fits.{Fits}
 use Rattle.hangar_core.specs.Journals.{Entries}
 use Rattle.hangar_core.specs.Serial.{serial}
 use Rattle.session_judge.specs.declared.judged.JudgedSession.{JudgedSession}
 use Rattle.session_run.specs.Missions.{all_commands, mission_of, opening_of, session_meanings}
+use Rattle.session_run.specs.Steps.{AreAllRises, TellTheirSteps, risen_in_all}
 use Rattle.session_run.specs.Texts.{AreAllPaidFor, session_text}
 
 -- a journal that fits the commands of all clients
@@ -26,8 +27,12 @@ pub record IsPerformed (judged : JudgedSession) (bound : ℕ) (stats : Bool) (te
   pub paid : AreAllPaidFor (mission_of judged bound stats) counts journal 0 judged.session.clients
   pub told : text ≡ session_text judged bound stats counts journal
 
--- along the one of clients in rounds
-pub record IsPerformedInTurn (judged : JudgedSession) (bound : ℕ) (stats : Bool) (text : List ℕ) : Type 0 where
+-- Along the one of clients in rounds. Where no schedule is made and no plan expanded, the steps rise by the sum of how far they rise in
+-- the simulations, each of which is its count.
+pub record IsPerformedInTurn (judged : JudgedSession) (bound : ℕ) (stats : Bool) (text : List ℕ) (before after : ℕ) : Type 0 where
   pub counts : ℕ → ℕ → ℕ
   pub paid : AreAllPaidFor (mission_of judged bound stats) counts (serial_journal judged bound) 0 judged.session.clients
   pub told : text ≡ session_text judged bound stats counts (serial_journal judged bound)
+  pub rises : ℕ → ℕ → ℕ
+  pub counted : AreAllRises counts rises judged.session.clients
+  pub risen : TellTheirSteps (all_commands judged.session.clients) → after ≡ before + risen_in_all rises judged.session.clients

@@ -1,5 +1,5 @@
 -- How clients go in rounds, command by command.
-use Rattle.std.specs.Prelude.{◌≡◌, ℕ, zero, suc, ◌+◌, nat_lt, if◌then◌else◌, List, [], ◌∷◌, ◌++◌, length, map, take, drop, Some, slice_get}
+use Rattle.std.specs.Prelude.{◌≡◌, ℕ, zero, suc, ◌+◌, nat_lt, if◌then◌else◌, false, List, [], ◌∷◌, ◌++◌, length, map, take, drop, Some, slice_get}
 use Rattle.std.specs.List.{filter}
 use Rattle.commands.specs.declared.commands.Command.{Command}
 use Rattle.hangar_core.specs.Fits.{is_of_client, IsCommand, Meanings}
@@ -9,12 +9,13 @@ use Rattle.hangar_lock.specs.Passes.{PassView}
 use Rattle.hangar_lock.specs.Places.{Places}
 use Rattle.session_reader.specs.declared.session.Client.{Client}
 use Rattle.client_work.specs.declared.missions.Mission.{Mission}
-use Rattle.client_work.specs.Counts.{PaysAsReplied}
+use Rattle.client_work.specs.Counts.{PaysAsReplied, simulates}
 use Rattle.client_work.specs.Meanings.{meanings_of}
 use Rattle.client_work.specs.Lines.{told_line}
 use Rattle.client_work.specs.Told.{command_told, count_told}
-use Rattle.client_work.specs.Working.{own_entries, HasGained, IsWorkTold, replies_of}
+use Rattle.client_work.specs.Working.{own_entries, HasGained, IsCount, IsWorkTold, replies_of}
 use Rattle.session_run.specs.Missions.{all_commands}
+use Rattle.session_run.specs.Steps.{TellTheirSteps, together}
 use Rattle.session_run.specs.Texts.{client_numbered}
 
 -- the entries of commands, one after another
@@ -37,18 +38,29 @@ in_rounds_until number client commands = in_rounds number 0 commands ++ heads nu
 abbrev pub done_until : ℕ → ℕ → ℕ → ℕ
 done_until number client which = if nat_lt which client then number + 1 else number
 
--- the texts tell of the commands of each client that are done, by the client's entries
-pub record AreToldUntil (mission : Mission) (clients : List Client) (number client : ℕ) (entries : Entries) (texts : List (List ℕ)) : Type 0 where
+-- a pass, and a count of steps
+pub record Stand : Type 0 where
+  pub pass : PassView
+  pub steps : ℕ
+
+abbrev pub stand_at : PassView → ℕ → Stand
+stand_at pass steps = record { pass = pass; steps = steps }
+
+-- the texts tell of the commands of each client that are done, by the client's entries, and what its simulations took together
+pub record AreToldUntil (mission : Mission) (clients : List Client) (number client : ℕ) (entries : Entries) (texts : List (List ℕ)) (totals : List ℕ) : Type 0 where
   pub count : length texts ≡ length clients
-  pub each : (which : ℕ) (x : Client) (text : List ℕ) → slice_get clients which ≡ Some x → slice_get texts which ≡ Some text →
-      IsWorkTold mission (client_numbered which x) 0 (take (done_until number client which) x.commands) (filter (is_of_client which) entries) text
+  pub many : length totals ≡ length clients
+  pub each : (which : ℕ) (x : Client) (text : List ℕ) (total : ℕ) → slice_get clients which ≡ Some x → slice_get texts which ≡ Some text → slice_get totals which ≡ Some total →
+      IsWorkTold mission (client_numbered which x) 0 (take (done_until number client which) x.commands) (filter (is_of_client which) entries) text total
 
 -- with one pass so many rounds are done, and the commands of the first clients in the next one
-pub record HasDoneUntil (mission : Mission) (clients : List Client) (number client : ℕ) (before after : PassView) (texts : List (List ℕ)) : Type 0 where
+pub record HasDoneUntil (mission : Mission) (clients : List Client) (number client : ℕ) (before after : Stand) (texts : List (List ℕ)) : Type 0 where
   pub gained : Places
-  pub gains : HasGained before after gained
+  pub gains : HasGained before.pass after.pass gained
   pub done : AreEntriesOf (meanings_of mission.models mission.bound) (in_rounds_until number client (all_commands clients)) (own_entries gained)
-  pub told : AreToldUntil mission clients number client (own_entries gained) texts
+  pub totals : List ℕ
+  pub told : AreToldUntil mission clients number client (own_entries gained) texts totals
+  pub risen : TellTheirSteps (all_commands clients) → after.steps ≡ before.steps + together totals
 
 -- ---- one command, one round, all rounds
 
@@ -58,21 +70,23 @@ texts_without zero = []
 texts_without (suc count) = [] ∷ texts_without count
 
 -- a client's command with a number is done with a pass, and what is told of it goes to the end of a text
-pub record TakesCommand (mission : Mission) (which : ℕ) (client : Client) (number : ℕ) (command : Command) (before after : PassView) (text_before text_after : List ℕ) : Type 0 where
+pub record TakesCommand (mission : Mission) (which : ℕ) (client : Client) (number : ℕ) (command : Command) (before after : Stand) (text_before text_after : List ℕ) : Type 0 where
   pub gained : Places
-  pub gains : HasGained before after gained
+  pub gains : HasGained before.pass after.pass gained
   pub parts : IsCommand (meanings_of mission.models mission.bound) which number command [] (own_entries gained)
   pub statements : ℕ
+  pub counted : IsCount command statements before.steps after.steps
+  pub still : simulates command ≡ false → after.steps ≡ before.steps
   pub paid : PaysAsReplied mission command (replies_of gained) statements
   pub told : text_after ≡ text_before ++ told_line mission client.name number command (command_told mission (count_told mission statements) command (replies_of gained))
 
 -- a round is done with a pass
-pub record TakesRound (mission : Mission) (clients : List Client) (number : ℕ) (before after : PassView) (texts_before texts_after : List (List ℕ)) : Type 0 where
-  pub lock : after.lock ≡ before.lock
+pub record TakesRound (mission : Mission) (clients : List Client) (number : ℕ) (before after : Stand) (texts_before texts_after : List (List ℕ)) : Type 0 where
+  pub lock : after.pass.lock ≡ before.pass.lock
   pub count : length texts_after ≡ length texts_before
-  pub goes_on : (first : PassView) → HasDoneUntil mission clients number 0 first before texts_before →
+  pub goes_on : (first : Stand) → HasDoneUntil mission clients number 0 first before texts_before →
       HasDoneUntil mission clients (number + 1) 0 first after texts_after
 
 -- all rounds are
-abbrev pub HasDoneRounds : Mission → List Client → PassView → PassView → List (List ℕ) → Type 0
+abbrev pub HasDoneRounds : Mission → List Client → Stand → Stand → List (List ℕ) → Type 0
 HasDoneRounds mission clients before after texts = HasDoneUntil mission clients (longest (all_commands clients)) 0 before after texts

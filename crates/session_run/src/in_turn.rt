@@ -6,7 +6,7 @@ ghost use Rattle.hangar_core.specs.Serial.{longest};
 ghost use Rattle.session_reader.specs.FewClients.{AreFewClients};
 ghost use Rattle.client_work.specs.Working.{IsAtWork};
 ghost use Rattle.session_run.specs.Missions.{AreBenchesOf, all_commands};
-ghost use Rattle.session_run.specs.Rounds.{HasDoneRounds, TakesRound, TakesCommand, texts_without};
+ghost use Rattle.session_run.specs.Rounds.{HasDoneRounds, TakesRound, TakesCommand, stand_at, texts_without};
 
 use crate::client_benches::client_benches;
 use aerie_base::{OutOfMemory, Steps};
@@ -60,8 +60,8 @@ fn take_command<R: Threads + Wait + Sync, G: Gate, L: Ledger, K: Ledger>(
     requires workplace { IsAtWork workplace.now.mission.now workplace.now.lock.now pass.old }
     requires benches { benches.old ≡ workplace.now.mission.now.bound }
     ensures taken { IfOk result (λ _.
-        TakesCommand workplace.now.mission.now which client.now number command.now pass.old pass.new
-        (string_bytes text.old) (string_bytes text.new)) }
+        TakesCommand workplace.now.mission.now which client.now number command.now
+        (stand_at pass.old steps.old) (stand_at pass.new steps.new) (string_bytes text.old) (string_bytes text.new)) }
     ensures benches { benches.new ≡ benches.old }
     ensures steps { steps.old ≤ steps.new }
 {
@@ -98,7 +98,8 @@ fn take_round<R: Threads + Wait + Sync, G: Gate, L: Ledger, K: Ledger>(
     requires few { AreFewClients clients.now }
     requires texts { length texts.old.items ≡ length clients.now }
     ensures taken { IfOk result (λ _.
-        TakesRound workplace.now.mission.now clients.now number pass.old pass.new
+        TakesRound workplace.now.mission.now clients.now number
+        (stand_at pass.old steps.old) (stand_at pass.new steps.new)
         (map string_bytes texts.old.items) (map string_bytes texts.new.items)) }
     ensures benches { OnOk result (AreBenchesOf workplace.now.mission.now clients.now benches.new.items) }
     ensures steps { steps.old ≤ steps.new }
@@ -139,7 +140,8 @@ pub(crate) fn take_rounds<R: Threads + Wait + Sync, G: Gate, L: Ledger, K: Ledge
     requires workplace { IsAtWork workplace.now.mission.now workplace.now.lock.now pass.old }
     requires few { AreFewClients clients.now }
     ensures taken { IfOk result (λ texts.
-        HasDoneRounds workplace.now.mission.now clients.now pass.old pass.new (map string_bytes texts.items)) }
+        HasDoneRounds workplace.now.mission.now clients.now
+        (stand_at pass.old steps.old) (stand_at pass.new steps.new) (map string_bytes texts.items)) }
     ensures steps { steps.old ≤ steps.new }
 {
     let mut texts = empty_texts(alloc, clients.len())?;

@@ -42,7 +42,8 @@ pub fn perform_in_turn<R: Threads + Wait + Sync, G: Gate, L: Ledger, K: Ledger>(
 ) -> Result<String, OutOfMemory>
     requires session { CanBePerformed judged.now }
     requires bound { bound ≤ step_limit }
-    ensures performed { IfOk result (λ text. IsPerformedInTurn judged.now bound stats (string_bytes text)) }
+    ensures performed { IfOk result (λ text.
+        IsPerformedInTurn judged.now bound stats (string_bytes text) steps.old steps.new) }
     ensures steps { steps.old ≤ steps.new }
 {
     commands_are_done();
@@ -60,7 +61,7 @@ pub fn perform_in_turn<R: Threads + Wait + Sync, G: Gate, L: Ledger, K: Ledger>(
     let clients = judged.session.clients.as_slice();
     let texts = take_rounds(alloc, &workplace, clients, &mut pass, steps, looks)?;
     let (_, journal) = lock.close(pass);
-    last_text(alloc, journal, texts.as_slice())
+    last_text(alloc, journal, texts)
 }
 
 /// Performs a session, each client's commands on a thread of its own, where one can be made. Answers the text that is printed,
@@ -99,5 +100,5 @@ pub fn perform<R: Threads + Wait + Sync, G: Gate>(
     let dones = do_works(alloc, &workplace, clients, works)?;
     let texts = gather(alloc, &lock, &mut pass, dones)?;
     let (_, journal) = lock.close(pass);
-    last_text(alloc, journal, texts.as_slice())
+    last_text(alloc, journal, texts)
 }

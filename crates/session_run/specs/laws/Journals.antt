@@ -4,5 +4,5 @@ use Rattle.session_judge.specs.declared.judged.JudgedSession.{JudgedSession}
 use Rattle.session_run.specs.Performed.{IsPerformed, IsPerformedInTurn}
 
 abbrev pub InTurnFits : Type 0
-InTurnFits = (judged : JudgedSession) (bound : ℕ) (stats : Bool) (text : List ℕ) →
-    IsPerformedInTurn judged bound stats text → IsPerformed judged bound stats text
+InTurnFits = (judged : JudgedSession) (bound : ℕ) (stats : Bool) (text : List ℕ) (before after : ℕ) →
+    IsPerformedInTurn judged bound stats text before after → IsPerformed judged bound stats text

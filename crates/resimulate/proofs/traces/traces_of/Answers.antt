@@ -1,6 +1,10 @@
+use Rattle.std.proofs.Common.{subst}
 use Rattle.run_data.specs.laws.TracedTasks.{timed_instants}
-use Rattle.resimulate.proofs.TaskTraces.{first_learnt}
+use Rattle.resimulate.specs.Origins.{is_asked}
+use Rattle.resimulate.specs.Traces.{TraceList, TakesIn}
 use Rattle.resimulate.proofs.traces.traces_of.Goals as goal
 
 pub returns : goal.returns
-returns c = first_learnt (timed_instants c.args.instants.now) c.in_ok-traces.traces.entries c.note_instants.new.traces.entries c.in_ok-traces.ensures.empty c.in_ok-note_instants.ensures
+returns c =
+    subst (λ (traces : TraceList). TakesIn (is_asked c.args.all c.args.roots.now.keys) (timed_instants c.args.instants.now) traces c.note_instants.new.traces.entries) c.new-traces.ensures.empty
+    c.in_ok-note_instants.ensures

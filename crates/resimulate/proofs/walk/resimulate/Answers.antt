@@ -13,7 +13,7 @@ use Rattle.fitting.specs.Fitting.{IsOldBatch}
 use Rattle.resimulate.specs.OldBatches.{batch_at}
 use Rattle.engine_core.specs.BatchRuns.{ran_on}
 use Rattle.engine_core.specs.EnginePoints.{some_job, ran_not}
-use Rattle.resimulate.specs.EarlyEnds.{IsRest, MayBeEnded}
+use Rattle.resimulate.specs.EarlyEnds.{IsRest}
 use Rattle.resimulate.proofs.EarlyEnds.{ended_fresh, ended_pays, ended_looks}
 use Rattle.resimulate.proofs.Looping.{beside_first, beside_on, beside_less}
 use Rattle.resimulate.proofs.OldBatches.{old_batches_are, beside_is}
@@ -86,8 +86,21 @@ rest_if_due-requires-clause-old_plan g c =
     (subst (λ (m : Parts). IsPlanOf m c.args.old.now.run.plan) c.requires.old c.run-run.ensures.plan)
 
 pub rest_if_due-requires-clause-may : goal.rest_if_due-requires-clause-may
-rest_if_due-requires-clause-may g c = λ may.
-    c.may_be_ended-may_end.ensures may
+rest_if_due-requires-clause-may g c = c.may_end_from-may_end.ensures
+
+pub may_end_from-may_end-requires-clause-plan : goal.may_end_from-may_end-requires-clause-plan
+may_end_from-may_end-requires-clause-plan g c = subst (IsPlanOf c.args.model.now) (sym c.get-planned.ensures) c.requires.plan
+
+pub may_end_from-may_end-requires-clause-fresh : goal.may_end_from-may_end-requires-clause-fresh
+may_end_from-may_end-requires-clause-fresh g c =
+    let old = c.args.old.now.run in
+    subst (λ (r : Run). IsFresh c.args.model.now r.plan r.bound r) (sym c.run-run.ensures.value)
+    (subst (λ (m : Parts). IsFresh m old.plan old.bound old) c.requires.old c.run-run.ensures.fresh)
+
+pub may_end_from-may_end-requires-clause-old_plan : goal.may_end_from-may_end-requires-clause-old_plan
+may_end_from-may_end-requires-clause-old_plan g c =
+    subst (λ (r : Run). IsPlanOf c.args.model.now r.plan) (sym c.run-run.ensures.value)
+    (subst (λ (m : Parts). IsPlanOf m c.args.old.now.run.plan) c.requires.old c.run-run.ensures.plan)
 
 pub returns-in_err-rest-clause-opened : goal.returns-in_err-rest-clause-opened
 returns-in_err-rest-clause-opened g c = c.loop-run.invariant.ran.rose

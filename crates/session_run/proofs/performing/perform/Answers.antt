@@ -1,8 +1,6 @@
-use Rattle.std.proofs.Common.{◌≡◌, refl, List, map, sym, ap, subst, ◌∙◌, String, Global, ◌++◌, length}
+use Rattle.std.proofs.Common.{◌≡◌, refl, List, map, sym, ap, subst, ◌∙◌, length}
 use Rattle.std.proofs.lemmas.Result.{IfOk-weaker}
 use Rattle.std.specs.String.{string_bytes}
-use Rattle.json_line.specs.Json.{line_of}
-use Rattle.report_text.specs.JournalLines.{journal_data}
 use Rattle.hangar_core.specs.declared.workspaces.Workspace.{Workspace}
 use Rattle.hangar_core.specs.Journals.{IsReplay}
 use Rattle.hangar_core.specs.ValidWorkspaces.{CountedWorkspace}
@@ -12,7 +10,6 @@ use Rattle.client_work.specs.declared.missions.Mission.{Mission}
 use Rattle.client_work.specs.Working.{IsAtWork}
 use Rattle.session_reader.specs.FewClients.{AreFewClients}
 use Rattle.session_reader.specs.declared.session.Client.{Client}
-use Rattle.session_run.specs.Joined.{joined_texts}
 use Rattle.session_run.specs.Missions.{opening_of}
 use Rattle.session_run.specs.Works.{AreDone, AreWorksOf, passes_of, split_often}
 use Rattle.session_run.proofs.Rules.{at_work}
@@ -70,5 +67,5 @@ returns g c =
     c.joined_passes_fit.ensures c.joined_passes_are_whole.ensures.all c.told_works_are_done.ensures c.passes_have_their_entries.ensures c.gather.new.pass is
     c.close-journal.result.1 (string_bytes text) c.close-journal.ensures.right c.close-journal.ensures.all
     (subst (λ (w : Workspace). IsReplay w c.close-journal.result.1) opened c.close-journal.ensures.past.replayed)
-    (told ∙ ap (λ (texts : List (String Global)). line_of (journal_data c.close-journal.result.1) ++ joined_texts (map string_bytes texts)) c.as_slice.ensures.value))
+    told)
     c.last_text.ensures

@@ -1,9 +1,6 @@
-use Rattle.std.proofs.Common.{◌≡◌, List, map, sym, ap, subst, ◌∙◌, String, Global, ◌++◌}
+use Rattle.std.proofs.Common.{◌≡◌, List, map, sym, ap, subst, ◌∙◌}
 use Rattle.std.proofs.lemmas.Result.{IfOk-weaker}
 use Rattle.std.specs.String.{string_bytes}
-use Rattle.json_line.specs.Json.{line_of}
-use Rattle.report_text.specs.JournalLines.{journal_data}
-use Rattle.session_run.specs.Joined.{joined_texts}
 use Rattle.hangar_core.specs.declared.workspaces.Workspace.{Workspace}
 use Rattle.hangar_core.specs.Journals.{IsReplay}
 use Rattle.hangar_core.specs.ValidWorkspaces.{CountedWorkspace}
@@ -12,7 +9,7 @@ use Rattle.client_work.specs.declared.missions.Mission.{Mission}
 use Rattle.client_work.specs.Working.{IsAtWork}
 use Rattle.session_reader.specs.declared.session.Client.{Client}
 use Rattle.session_run.specs.Missions.{opening_of}
-use Rattle.session_run.specs.Rounds.{HasDoneRounds}
+use Rattle.session_run.specs.Rounds.{HasDoneRounds, stand_at}
 use Rattle.session_run.proofs.Finished.{finished}
 use Rattle.session_run.proofs.Rules.{at_work}
 use Rattle.session_run.proofs.performing.perform_in_turn.Goals as goal
@@ -29,15 +26,15 @@ pub returns-clause-performed : goal.returns-clause-performed
 returns-clause-performed g c =
     let opened : c.in_ok-lock.lock.opened.workspace ≡ opening_of c.args.judged.now.session =
     ap (λ (h : CountedWorkspace). h.workspace) c.in_ok-lock.ensures.opened ∙ c.in_ok-hangar.ensures.workspace in
-    let done = subst (λ (mission : Mission). HasDoneRounds mission c.args.judged.now.session.clients c.in_ok-lock.pass c.take_rounds.new.pass (map string_bytes c.in_ok-texts.texts.items))
+    let done = subst (λ (mission : Mission). HasDoneRounds mission c.args.judged.now.session.clients (stand_at c.in_ok-lock.pass c.args.steps.now) (stand_at c.take_rounds.new.pass c.take_rounds.new.steps) (map string_bytes c.in_ok-texts.texts.items))
     c.in_ok-mission.ensures
-    (subst (λ (clients : List Client). HasDoneRounds c.in_ok-mission.mission clients c.in_ok-lock.pass c.take_rounds.new.pass (map string_bytes c.in_ok-texts.texts.items))
+    (subst (λ (clients : List Client). HasDoneRounds c.in_ok-mission.mission clients (stand_at c.in_ok-lock.pass c.args.steps.now) (stand_at c.take_rounds.new.pass c.take_rounds.new.steps) (map string_bytes c.in_ok-texts.texts.items))
     c.as_slice-clients.ensures c.in_ok-texts.ensures.taken) in
     IfOk-weaker c.last_text.result _ _ (λ text whole.
-    finished c.args.judged.now c.args.bound c.args.stats c.commands_are_done.ensures.few c.in_ok-lock.pass c.take_rounds.new.pass c.close-journal.result.1
+    finished c.args.judged.now c.args.bound c.args.stats c.commands_are_done.ensures.few (stand_at c.in_ok-lock.pass c.args.steps.now) (stand_at c.take_rounds.new.pass c.take_rounds.new.steps) c.close-journal.result.1
     (map string_bytes c.in_ok-texts.texts.items) (string_bytes text)
     (ap (λ (p : PassView). p.mine) c.in_ok-lock.ensures.first) (ap (λ (p : PassView). p.seen) c.in_ok-lock.ensures.first)
     done c.close-journal.ensures.right c.close-journal.ensures.all
     (subst (λ (w : Workspace). IsReplay w c.close-journal.result.1) opened c.close-journal.ensures.past.replayed)
-    (whole ∙ ap (λ (texts : List (String Global)). line_of (journal_data c.close-journal.result.1) ++ joined_texts (map string_bytes texts)) c.as_slice.ensures.value))
+    whole)
     c.last_text.ensures

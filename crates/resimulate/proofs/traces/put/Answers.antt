@@ -3,7 +3,7 @@ use Rattle.run_data.specs.Tasks.{children_in}
 use Rattle.run_data.specs.declared.frames.Item.{Item}
 use Rattle.resimulate.specs.Traces.{CountsToo}
 use Rattle.resimulate.proofs.TaskTraces.{noted}
-use Rattle.resimulate.proofs.traces.note.Goals as goal
+use Rattle.resimulate.proofs.traces.put.Goals as goal
 
 pub returns : goal.returns
 returns c =
