@@ -2,6 +2,7 @@ pub mod Missions
 pub mod Ruled
 pub mod Texts
 pub mod Steps
+pub mod Cases
 pub mod Rounds
 pub mod Answers
 pub mod Performed

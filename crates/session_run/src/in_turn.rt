@@ -16,6 +16,7 @@ use commands::Command;
 use hangar_lock::Pass;
 use session_reader::Client as SessionClient;
 use std::alloc::Global;
+use std::mem;
 use std::sync::Wait;
 use std::sync::ledger::Ledger;
 use std::thread::Threads;
@@ -160,5 +161,7 @@ pub(crate) fn take_rounds<R: Threads + Wait + Sync, G: Gate, L: Ledger, K: Ledge
             looks,
         )?;
     }
+    // As with what `last_text` leaves: the process ends next.
+    mem::forget(benches);
     Ok(texts)
 }

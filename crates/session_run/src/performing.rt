@@ -60,8 +60,8 @@ pub fn perform_in_turn<R: Threads + Wait + Sync, G: Gate, L: Ledger, K: Ledger>(
     };
     let clients = judged.session.clients.as_slice();
     let texts = take_rounds(alloc, &workplace, clients, &mut pass, steps, looks)?;
-    let (_, journal) = lock.close(pass);
-    last_text(alloc, journal, texts)
+    let (hangar, journal) = lock.close(pass);
+    last_text(alloc, hangar, store, journal, texts)
 }
 
 /// Performs a session, each client's commands on a thread of its own, where one can be made. Answers the text that is printed,
@@ -99,6 +99,6 @@ pub fn perform<R: Threads + Wait + Sync, G: Gate>(
     let works = split_works(alloc, &lock, &mut pass, clients.len())?;
     let dones = do_works(alloc, &workplace, clients, works)?;
     let texts = gather(alloc, &lock, &mut pass, dones)?;
-    let (_, journal) = lock.close(pass);
-    last_text(alloc, journal, texts)
+    let (hangar, journal) = lock.close(pass);
+    last_text(alloc, hangar, store, journal, texts)
 }

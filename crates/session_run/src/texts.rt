@@ -7,7 +7,8 @@ ghost use Rattle.report_text.specs.JournalLines.{journal_data};
 ghost use Rattle.session_run.specs.Joined.{joined_texts};
 
 use aerie_base::OutOfMemory;
-use hangar_core::Journal;
+use hangar_core::{Hangar, Journal};
+use history_store::Store;
 use report_text::journal_line;
 use std::alloc::Global;
 use std::mem;
@@ -46,10 +47,13 @@ fn whole_text(alloc: Global, journal: &Journal, texts: Vec<String>) -> Result<St
     Ok(whole)
 }
 
-/// The same where nothing of the session is asked for any more. The journal is left where it lies: a session is performed once in a
-/// process, which ends when the text is written. Where there is no memory for the text it is freed.
+/// The same where nothing of the session is asked for any more. The workspace, the store and the journal, in which all runs lie, are left
+/// where they lie: a session is performed once in a process, which ends when the text is written, and to free them step by step would
+/// take a tenth of the whole time. Where there is no memory for the text they are freed.
 pub(crate) fn last_text(
     alloc: Global,
+    hangar: Hangar,
+    store: Store,
     journal: Journal,
     texts: Vec<String>,
 ) -> Result<String, OutOfMemory>
@@ -58,5 +62,7 @@ pub(crate) fn last_text(
 {
     let text = whole_text(alloc, &journal, texts)?;
     mem::forget(journal);
+    mem::forget(hangar);
+    mem::forget(store);
     Ok(text)
 }
