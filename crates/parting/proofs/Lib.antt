@@ -1,0 +1,5 @@
+mod Exchanged
+mod PassingTime
+mod PlainLateness
+mod Resuming
+mod TaskPaths
