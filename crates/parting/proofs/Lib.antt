@@ -1,4 +1,5 @@
 mod Exchanged
+mod LiveExchanges
 mod PassingTime
 mod PlainLateness
 mod Resuming

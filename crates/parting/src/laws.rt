@@ -1,5 +1,6 @@
 //! Laws about a simulation that begins in the middle of another one, each the promise of a function without a body.
 
+ghost use Rattle.parting.specs.LiveExchanges.{LiveIsExchanged, PrunedIsExchanged};
 ghost use Rattle.parting.specs.PlainLateness.{PlainlyLateIsLate};
 ghost use Rattle.parting.specs.Resuming.{Resumes};
 
@@ -19,4 +20,12 @@ pub fn edited_plans_resume()
     reached_states_are_of_the_model();
     frames_of_batches_are_of_tasks();
     weight_falls();
+}
+
+/// An engine that leaves out all tasks that have ended may exchange the directives that differ in what it holds.
+pub fn live_tasks_are_exchanged()
+    ensures live { LiveIsExchanged }
+    ensures pruned { PrunedIsExchanged }
+{
+    reached_states_are_of_the_model();
 }
