@@ -1,0 +1,6 @@
+mod Exchanged
+mod LiveExchanges
+mod PassingTime
+mod PlainLateness
+mod Resuming
+mod TaskPaths

@@ -1,0 +1,5 @@
+pub mod Exchanges
+pub mod PlainLateness
+pub mod Resuming
+pub mod LiveExchanges
+pub mod Cases
