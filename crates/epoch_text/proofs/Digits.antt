@@ -1,5 +1,5 @@
 -- Digits of a text of fixed form, and the number that they write.
-use Rattle.std.proofs.Common.{◌≡◌, ℕ, zero, suc, ◌+◌, ◌-◌, ◌^◌, ◌<◌, ◌≤◌, List, [], ◌∷◌, ◌++◌, length, take, drop, Bool, true, false, nat_eq, Option, None, Some, codes, refl, ◌∙◌, ap, arith, length-drop, length-take}
+use Rattle.std.proofs.Common.{◌≡◌, ℕ, zero, suc, ◌^◌, ◌<◌, ◌≤◌, List, [], ◌∷◌, ◌++◌, length, take, drop, true, false, nat_eq, Option, None, Some, codes, refl, ◌∙◌, arith, length-drop, length-take}
 use Rattle.std.specs.Char.{is_ascii_digit, digit_value}
 use Rattle.std.specs.List.{list_all}
 use Rattle.std.specs.Str.Parse.{digits_value, AllDigits}
@@ -13,7 +13,7 @@ use Rattle.epoch_text.specs.Forms.{has_signs, has_form, sign_of}
 digit_value_small : (byte : ℕ) → is_ascii_digit byte ≡ true → digit_value byte < 10
 digit_value_small byte e = grind (arith, nat_tests)
 
-all_digits : (digits : List ℕ) → list_all is_ascii_digit digits ≡ true → AllDigits 10 digits
+pub all_digits : (digits : List ℕ) → list_all is_ascii_digit digits ≡ true → AllDigits 10 digits
 all_digits [] e = tt
 all_digits (byte ∷ digits) e =
     let here : is_ascii_digit byte ≡ true = grind (arith, nat_tests) in

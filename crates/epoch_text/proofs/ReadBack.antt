@@ -37,7 +37,7 @@ written_length : (width number : ℕ) → 0 < width → number < 10 ^ width → 
 written_length width number some below small =
     omega (arith, length-append (replicate (width - length (decimal number)) 48) (decimal number), length-replicate {A = ℕ} (width - length (decimal number)) 48, length-decimal-le width number some below small)
 
-written_digits : (width number : ℕ) → number < 2 ^ 64 → list_all is_ascii_digit (digits_in width number) ≡ true
+pub written_digits : (width number : ℕ) → number < 2 ^ 64 → list_all is_ascii_digit (digits_in width number) ≡ true
 written_digits width number small =
     list_all-append is_ascii_digit (replicate (width - length (decimal number)) 48) (decimal number)
     ∙ rw (zero_digits (width - length (decimal number)), are_digits (decimal number) ((decimal_is_IsNumeral number small).0.1)) refl

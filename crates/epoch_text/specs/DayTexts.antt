@@ -1,5 +1,5 @@
 -- The text of an instant by the number of its day in the year, as "2028-366T23:59:59.999999".
-use Rattle.std.specs.Prelude.{◌≡◌, ℕ, zero, suc, ◌+◌, ◌-◌, ◌/◌, ◌%◌, nat_lt, List, ◌++◌, if◌then◌else◌, codes, ℤ, pos, neg_ℤ, unsigned_abs, ◌+ℤ◌, refl}
+use Rattle.std.specs.Prelude.{◌≡◌, ℕ, zero, suc, ◌+◌, ◌-◌, ◌/◌, ◌%◌, ◌<◌, nat_lt, List, ◌++◌, if◌then◌else◌, codes, ℤ, pos, neg_ℤ, unsigned_abs, ◌+ℤ◌, refl}
 use Rattle.std.specs.Fmt.{digits}
 use Rattle.jiff.specs.Words.{days_in_year, ordinal}
 use Rattle.jiff_core.specs.declared.civil.datetime.DateTime.{DateTime}
@@ -18,6 +18,11 @@ abbrev pub stamp : ℕ → ℕ → ℕ → ℕ → ℕ → ℕ → List ℕ
 stamp year year_day hour minute second micros =
     digits_in 4 year ++ codes "-" ++ digits_in 3 year_day ++ codes "T" ++ digits_in 2 hour ++ codes ":" ++ digits_in 2 minute
     ++ codes ":" ++ digits_in 2 second ++ codes "." ++ digits_in 6 micros
+
+-- the numbers of such a text have no more digits than their places
+abbrev pub HaveFewDigits : ℕ → ℕ → ℕ → ℕ → ℕ → ℕ → Type 0
+HaveFewDigits year year_day hour minute second micros =
+    (year < 10_000) × (year_day < 1_000) × (hour < 100) × (minute < 100) × (second < 100) × (micros < 1_000_000)
 
 -- the text of what a clock shows, with the fraction cut to microseconds
 abbrev pub shown_text : DateTime → List ℕ

@@ -1,14 +1,12 @@
 //! The text of a time.
 
-ghost use Rattle.std.specs.Prelude.{◌≡◌, ◌++◌, IfOk, OnOk, string_bytes, pos, ◌*ℤ◌, ◌≤ℤ◌};
+ghost use Rattle.std.specs.Prelude.{◌≡◌, ◌+◌, ◌%◌, ◌++◌, IfOk, OnOk, string_bytes, pos, ◌*ℤ◌, ◌≤ℤ◌};
 ghost use Rattle.jiff.specs.Words.{civil_nanos};
-ghost use Rattle.epoch_text.specs.DayTexts.{day_text_of, shown_text, stamp};
-ghost use Rattle.epoch_text.specs.Forms.{digits_in};
+ghost use Rattle.epoch_text.specs.DayTexts.{HaveFewDigits, day_text_of, shown_text, stamp};
 ghost use Rattle.epoch_text.specs.Ranges.{IsShown};
 
 use crate::start::Start;
 use aerie_base::{OutOfMemory, Time};
-use itoa::Buffer;
 use jiff::Timestamp;
 use jiff::civil::DateTime;
 use jiff::tz::Offset;
@@ -58,7 +56,7 @@ fn push_shown(text: &mut String, at: DateTime) -> Result<(), OutOfMemory>
     )
 }
 
-/// Appends the text of a date by year and day of the year and a time of day.
+/// Appends the text of a date by year and day of the year and a time of day: all its bytes at once.
 fn push_stamp(
     text: &mut String,
     year: u16,
@@ -68,29 +66,51 @@ fn push_stamp(
     second: u8,
     micros: u32,
 ) -> Result<(), OutOfMemory>
+    requires few { HaveFewDigits year year_day hour minute second micros }
     ensures { OnOk result (string_bytes text.new ≡ string_bytes text.old ++ stamp year year_day hour minute second micros) }
 {
-    push_digits(text, 4, u32::from(year))?;
-    text.push_str("-")?;
-    push_digits(text, 3, u32::from(year_day))?;
-    text.push_str("T")?;
-    push_digits(text, 2, u32::from(hour))?;
-    text.push_str(":")?;
-    push_digits(text, 2, u32::from(minute))?;
-    text.push_str(":")?;
-    push_digits(text, 2, u32::from(second))?;
-    text.push_str(".")?;
-    push_digits(text, 6, micros)
+    let bytes = stamp_bytes(year, year_day, hour, minute, second, micros);
+    Ok(text.push_str(unsafe { std::str::from_utf8_unchecked(&bytes) })?)
 }
 
-/// Appends a number in decimal, with zeros in front up to that many digits.
-fn push_digits(text: &mut String, width: usize, number: u32) -> Result<(), OutOfMemory>
-    ensures { OnOk result (string_bytes text.new ≡ string_bytes text.old ++ digits_in width number) }
+/// The same text, of numbers that have no more digits than their places.
+fn stamp_bytes(year: u16, year_day: u16, hour: u8, minute: u8, second: u8, micros: u32) -> [u8; 24]
+    requires few { HaveFewDigits year year_day hour minute second micros }
+    ensures { result ≡ stamp year year_day hour minute second micros }
 {
-    let mut buffer = Buffer::new();
-    let digits = buffer.format(number);
-    for _ in digits.len()..width {
-        text.push_str("0")?;
-    }
-    Ok(text.push_str(digits)?)
+    let (year, year_day) = (u32::from(year), u32::from(year_day));
+    let (hour, minute, second) = (u32::from(hour), u32::from(minute), u32::from(second));
+    [
+        last_digit(year / 1_000),
+        last_digit(year / 100),
+        last_digit(year / 10),
+        last_digit(year),
+        b'-',
+        last_digit(year_day / 100),
+        last_digit(year_day / 10),
+        last_digit(year_day),
+        b'T',
+        last_digit(hour / 10),
+        last_digit(hour),
+        b':',
+        last_digit(minute / 10),
+        last_digit(minute),
+        b':',
+        last_digit(second / 10),
+        last_digit(second),
+        b'.',
+        last_digit(micros / 100_000),
+        last_digit(micros / 10_000),
+        last_digit(micros / 1_000),
+        last_digit(micros / 100),
+        last_digit(micros / 10),
+        last_digit(micros),
+    ]
+}
+
+/// The byte of a number's last decimal digit.
+fn last_digit(number: u32) -> u8
+    ensures { result ≡ 48 + number % 10 }
+{
+    b'0' + (number % 10) as u8
 }

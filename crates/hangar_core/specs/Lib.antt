@@ -1,6 +1,5 @@
 pub mod Replies
 pub mod Commands
-pub mod HeldPlans
 pub mod Workspaces
 pub mod Opening
 pub mod Changing

@@ -61,9 +61,9 @@ pub fn changed(
     match change {
         BranchChange::Edit(edit) => edited(alloc, models, branch, &edit),
         BranchChange::Migrate { model } => migrated(alloc, models, mappings, branch, &model),
-        BranchChange::Fetch => fetched(alloc, branch),
+        BranchChange::Fetch => fetched(branch),
         BranchChange::Attach { kept } => Ok(attached(branch, kept)),
-        BranchChange::Place { seen, plan } => Ok(placed(branch, seen, plan)),
+        BranchChange::Place { seen, plan } => placed(alloc, branch, seen, plan),
     }
 }
 
@@ -185,11 +185,10 @@ fn migrated_by(
 }
 
 /// Reads a branch.
-fn fetched(alloc: Global, branch: &mut Branch) -> Result<Reply, OutOfMemory>
-    ensures made { IfOk result (λ reply. (reply, branch.new) ≡ fetched_by branch.old) }
-    ensures same { branch.new ≡ branch.old }
+fn fetched(branch: &Branch) -> Result<Reply, OutOfMemory>
+    ensures { IfOk result (λ reply. (reply, branch.now) ≡ fetched_by branch.now) }
 {
-    let plan = branch.plan.share(alloc)?;
+    let plan = branch.plan.share()?;
     let kept = share_run(&branch.kept)?;
     Ok(Reply::Fetched {
         revision: branch.revision,
@@ -207,19 +206,20 @@ fn attached(branch: &mut Branch, kept: Shared<Kept>) -> Reply
 }
 
 /// Gives a branch another plan, where its revision is the one that was fetched.
-fn placed(branch: &mut Branch, seen: u64, plan: Plan) -> Reply
+fn placed(alloc: Global, branch: &mut Branch, seen: u64, plan: Plan) -> Result<Reply, OutOfMemory>
     requires few { branch.old.revision < 2 ^ 63 }
-    ensures { (result, branch.new) ≡ placed_by seen plan branch.old }
+    ensures made { IfOk result (λ reply. (reply, branch.new) ≡ placed_by seen plan branch.old) }
+    ensures unchanged { OnErr result (branch.new ≡ branch.old) }
 {
     if branch.revision != seen {
-        return Reply::Stale {
+        return Ok(Reply::Stale {
             seen,
             now: branch.revision,
-        };
+        });
     }
+    branch.plan = HeldPlan::of(alloc, plan)?;
     branch.revision += 1;
-    branch.plan = HeldPlan::of(plan);
-    Reply::Placed {
+    Ok(Reply::Placed {
         revision: branch.revision,
-    }
+    })
 }

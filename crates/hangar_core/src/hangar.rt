@@ -56,11 +56,12 @@ impl Hangar {
         }) }
     {
         let duration = plan.duration;
+        let plan = HeldPlan::of(alloc, plan)?;
         let mut branches = List::with_capacity(alloc, 1)?;
         branches.push(Branch {
             name: branch,
             revision: 0,
-            plan: HeldPlan::of(plan),
+            plan,
             kept: None,
         })?;
         Ok(Hangar {
@@ -76,8 +77,8 @@ impl Hangar {
     }
 
     /// One step of the workspace: what an entry's action answers. A refusal is a reply as well. Want of memory is the `Err`
-    /// alone, and the workspace is then as it was. A lookup of a branch scans them all. An edit changes the plan in place; a
-    /// plan is copied once at the first Fetch or Fork behind an edit, and once at the first edit of a fork.
+    /// alone, and the workspace is then as it was. A lookup of a branch scans them all. An edit changes the plan in place where
+    /// nobody else holds it, and else copies it once; no other action copies a plan.
     pub fn step(&mut self, alloc: Global, entry: Entry) -> Result<Reply, OutOfMemory>
         requires few { self.old.accepted < 2 ^ 63 }
         requires action { IsActionOn self.old.workspace entry.action }

@@ -1,6 +1,6 @@
 //! A plan that is edited in place, and shared with those who fetch it.
 
-ghost use Rattle.std.specs.Prelude.{◌≡◌, Some, Ok, IfOk, IfErr, OnOk, OnErr};
+ghost use Rattle.std.specs.Prelude.{◌≡◌, Ok, IfOk, IfErr, OnOk, OnErr};
 ghost use Rattle.aerie_base.specs.plans.OfModel.{IsPlanOf};
 ghost use Rattle.plan_edit.specs.Mappings.{IsMappingOf};
 ghost use Rattle.plan_edit.specs.Migrating.{migrate_of, IsMigrateRefusal};
@@ -13,84 +13,53 @@ use commands::Edit;
 use plan_edit::{EditError, Mapping, MigrateError, migrate};
 use std::alloc::Global;
 
-/// The plan of a branch. It is edited in place; it is copied into a shared one at the first sharing behind an edit, and out
-/// of it at the first edit of a plan that is held only there. Contracts see the plan.
+/// The plan of a branch. It is shared with those who fetch it, and edited in place while nobody else holds it; it is copied only
+/// at an edit while somebody else does. Contracts see the plan.
 #[derive(Drop)]
 pub struct HeldPlan {
-    own: Option<Plan>,
-    shared: Option<Shared<Plan>>,
+    plan: Shared<Plan>,
 }
 
 impl std::marker::Model for HeldPlan {
     ghost use Rattle.aerie_base.specs.declared.plans.Plan.{Plan as Shown};
-    ghost use Rattle.hangar_core.specs.HeldPlans.{held_plan, IsHeld};
 
     ghost Value = { Shown };
 
-    ghost view = { λ held. held_plan held.own held.shared };
-
-    ghost invariant = { λ held. IsHeld held.own held.shared };
+    ghost view = { λ held. held.plan };
 }
 
 impl HeldPlan {
     /// A plan that nobody else holds.
-    pub fn of(plan: Plan) -> HeldPlan
-        ensures { result ≡ plan }
+    pub fn of(alloc: Global, plan: Plan) -> Result<HeldPlan, OutOfMemory>
+        ensures { IfOk result (λ held. held ≡ plan) }
     {
-        HeldPlan {
-            own: Some(plan),
-            shared: None,
-        }
+        let plan = Shared::new(alloc, plan)?;
+        Ok(HeldPlan { plan })
     }
 
     /// A plan that others may hold too.
     pub fn of_shared(plan: Shared<Plan>) -> HeldPlan
         ensures { result ≡ plan }
     {
-        HeldPlan {
-            own: None,
-            shared: Some(plan),
-        }
+        HeldPlan { plan }
     }
 
     /// The plan.
     pub fn get(&self) -> &Plan
         ensures { result.now ≡ self.now }
     {
-        match (&self.own, &self.shared) {
-            (Some(own), _) => own,
-            (None, Some(shared)) => shared.get(),
-            (None, None) => unreachable!(),
-        }
+        self.plan.get()
     }
 
-    /// One more owner of the plan, which is copied only where it was edited since it was shared last.
-    pub fn share(&mut self, alloc: Global) -> Result<Shared<Plan>, OutOfMemory>
-        ensures shared { IfOk result (λ plan. plan ≡ self.old) }
-        ensures same { self.new ≡ self.old }
+    /// One more owner of the plan, which is not copied.
+    pub fn share(&self) -> Result<Shared<Plan>, OutOfMemory>
+        ensures { IfOk result (λ plan. plan ≡ self.now) }
     {
-        if let Some(shared) = &self.shared {
-            return shared.share();
-        }
-        let plan = self.get().copy(alloc)?;
-        let shared = Shared::new(alloc, plan)?;
-        let more = shared.share()?;
-        self.shared = Some(shared);
-        Ok(more)
+        self.plan.share()
     }
 
-    /// Sees that the plan is held so that it can be changed in place.
-    fn own(&mut self, alloc: Global) -> Result<(), OutOfMemory>
-        ensures same { self.new ≡ self.old }
-    {
-        if self.own.is_none() {
-            let plan = self.get().copy(alloc)?;
-            self.own = Some(plan);
-        }
-        Ok(())
-    }
-
-    /// Edits the plan in place, and answers what tells of it with a revision.
+    /// Edits the plan, and answers what tells of it with a revision. A copy is kept even where the edit is refused, so that the next
+    /// one takes none.
     pub fn edit(
         &mut self,
         alloc: Global,
@@ -101,18 +70,16 @@ impl HeldPlan {
         requires plan { IsPlanOf model.now self.old }
         ensures { IsEdited edit.now model.now revision self.old self.new result }
     {
-        self.own(alloc)?;
-        match &mut self.own {
-            Some(plan) => {
-                let reply = perform(alloc, model, plan, edit, revision)?;
-                self.shared = None;
-                Ok(reply)
-            }
-            None => Err(EditError::OutOfMemory),
+        if let Some(own) = self.plan.get_mut() {
+            return perform(alloc, model, own, edit, revision);
         }
+        let mut own = self.plan.get().copy(alloc)?;
+        let answer = perform(alloc, model, &mut own, edit, revision);
+        self.plan = Shared::new(alloc, own)?;
+        answer
     }
 
-    /// Takes the plan to another model in place.
+    /// Takes the plan to another model, likewise.
     pub fn migrate(
         &mut self,
         alloc: Global,
@@ -127,14 +94,12 @@ impl HeldPlan {
         ensures unchanged { OnErr result (self.new ≡ self.old) }
         ensures plan { OnOk result (IsPlanOf new.now self.new) }
     {
-        self.own(alloc)?;
-        match &mut self.own {
-            Some(plan) => {
-                migrate(alloc, old, new, mapping, plan)?;
-                self.shared = None;
-                Ok(())
-            }
-            None => Err(MigrateError::OutOfMemory),
+        if let Some(own) = self.plan.get_mut() {
+            return migrate(alloc, old, new, mapping, own);
         }
+        let mut own = self.plan.get().copy(alloc)?;
+        let answer = migrate(alloc, old, new, mapping, &mut own);
+        self.plan = Shared::new(alloc, own)?;
+        answer
     }
 }

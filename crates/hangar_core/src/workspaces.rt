@@ -78,16 +78,17 @@ impl Workspace {
             return Ok(refusal);
         }
         let revision = self.dropped.first(&name);
+        let plan = HeldPlan::of(alloc, empty_plan(alloc, self.duration))?;
         self.add_branch(Branch {
             name,
             revision,
-            plan: HeldPlan::of(empty_plan(alloc, self.duration)),
+            plan,
             kept: None,
         })
     }
 
     /// Begins a branch with the plan and the kept run of another.
-    fn fork(&mut self, alloc: Global, name: Name, source: &Name) -> Result<Reply, OutOfMemory>
+    fn fork(&mut self, name: Name, source: &Name) -> Result<Reply, OutOfMemory>
         requires workspace { IsWorkspace self.old }
         requires few { AreRevisionsWithin 9_223_372_036_854_775_807 self.old }
         ensures made { IfOk result (λ reply. (reply, self.new) ≡ forked self.old name source.now) }
@@ -95,13 +96,13 @@ impl Workspace {
         ensures stands { IsWorkspace self.new }
     {
         match position_of(self.branches.as_slice(), source) {
-            Some(at) => self.fork_from(alloc, at, name),
+            Some(at) => self.fork_from(at, name),
             None => Ok(Reply::NoBranch),
         }
     }
 
     /// Begins a branch with the plan and the kept run of the one at a position.
-    fn fork_from(&mut self, alloc: Global, at: usize, name: Name) -> Result<Reply, OutOfMemory>
+    fn fork_from(&mut self, at: usize, name: Name) -> Result<Reply, OutOfMemory>
         requires workspace { IsWorkspace self.old }
         requires few { AreRevisionsWithin 9_223_372_036_854_775_807 self.old }
         requires within { at < length self.old.branches }
@@ -113,7 +114,7 @@ impl Workspace {
             return Ok(refusal);
         }
         let revision = self.dropped.first(&name);
-        let branch = forked_branch(alloc, &mut self.branches, at, name, revision)?;
+        let branch = forked_branch(self.branches.as_slice(), at, name, revision)?;
         self.add_branch(branch)
     }
 
@@ -184,7 +185,7 @@ impl Workspace {
     {
         match action {
             Action::New { branch } => self.begin(alloc, branch),
-            Action::Fork { branch, source } => self.fork(alloc, branch, &source),
+            Action::Fork { branch, source } => self.fork(branch, &source),
             Action::Drop { branch } => self.drop_branch(branch),
             Action::Edit { branch, edit } => {
                 self.on_branch(alloc, &branch, BranchChange::Edit(edit))
@@ -255,18 +256,16 @@ fn changed_at(
 
 /// A branch with the plan and the kept run of the one at a position.
 fn forked_branch(
-    alloc: Global,
-    branches: &mut List<Branch>,
+    branches: &[Branch],
     at: usize,
     name: Name,
     revision: u64,
 ) -> Result<Branch, OutOfMemory>
-    requires within { at < length branches.old }
-    ensures made { IfOk result (λ branch. IsForkOf branch name revision (slice_get branches.old at)) }
-    ensures same { branches.new ≡ branches.old }
+    requires within { at < length branches.now }
+    ensures { IfOk result (λ branch. IsForkOf branch name revision (slice_get branches.now at)) }
 {
-    let source = &mut branches.items[at];
-    let plan = source.plan.share(alloc)?;
+    let source = &branches[at];
+    let plan = source.plan.share()?;
     let kept = share_run(&source.kept)?;
     Ok(Branch {
         name,

@@ -1,10 +1,10 @@
--- The text is written part by part.
-use Rattle.std.proofs.Common.{append_assoc}
-use Rattle.std.proofs.lemmas.Result.{IfOk-equal}
+-- The bytes are those of a text.
+use Rattle.std.proofs.Common.{sym, subst}
+use Rattle.std.specs.Str.{IsUtf8}
+use Rattle.epoch_text.proofs.Stamps.{stamp_text}
 use Rattle.epoch_text.proofs.writing.push_stamp.Goals as goal
 
-pub returns : goal.returns
-returns c =
-    IfOk-equal _ _ _ _ c.push_digits-6.ensures
-    (rw (c.in_ok-push_str-5.ensures.bytes, c.in_ok-push_digits-5.ensures, c.in_ok-push_str-4.ensures.bytes, c.in_ok-push_digits-4.ensures, c.in_ok-push_str-3.ensures.bytes, c.in_ok-push_digits-3.ensures, c.in_ok-push_str-2.ensures.bytes, c.in_ok-push_digits-2.ensures, c.in_ok-push_str.ensures.bytes, c.in_ok-push_digits.ensures, c.from.ensures, c.from-2.ensures, c.from-3.ensures, c.from-4.ensures, c.from-5.ensures)
-    (simp append_assoc))
+pub from_utf8_unchecked-requires : goal.from_utf8_unchecked-requires
+from_utf8_unchecked-requires c =
+    subst IsUtf8 (sym c.stamp_bytes-bytes.ensures)
+    (stamp_text c.args.year c.args.year_day c.args.hour c.args.minute c.args.second c.args.micros c.requires.few)
