@@ -20,5 +20,6 @@ pub mod FrameOrders
 pub mod BatchOrigins
 pub mod InStep
 pub mod PlannedTasks
+pub mod Exchanging
 pub mod WaitCases
 pub mod Cases
