@@ -9,8 +9,8 @@ use Rattle.live_tasks.specs.declared.wake_times.Wake.TheVariants.{Stale, Never, 
 use Rattle.live_tasks.specs.declared.wake_times.Wait.{Wait}
 use Rattle.live_tasks.specs.declared.wake_times.Watcher.{Watcher}
 use Rattle.live_tasks.specs.Endings.{IsNumberAmong}
-use Rattle.live_tasks.specs.Listing.{delay_cmp, has_delay, ends_at, HasDelayToo, HasDelayNoMore}
-use Rattle.live_tasks.specs.WakeTimes.{numbered_wait, time_of_wake, kept_time, is_stale_wake, is_stale, found_wake, with_wake, WaitBecomes, AreWakes, HasWakeNoMore, began_at, is_current, MayGoStale}
+use Rattle.live_tasks.specs.Listing.{ends_at}
+use Rattle.live_tasks.specs.WakeTimes.{numbered_wait, time_of_wake, kept_time, is_stale_wake, is_stale, found_wake, with_wake, WaitBecomes, wake_cmp, has_wake, AreWakes, HasWakeToo, HasWakeNoMore, began_at, is_current, MayGoStale}
 use Rattle.live_tasks.proofs.Forests.{same_or_not}
 use Rattle.live_tasks.proofs.ListedNumbers.{push_old, push_new}
 
@@ -35,32 +35,28 @@ and_not_itself true = refl
 and_not_itself false = refl
 
 module _ (before after : BTreeSet (ℕ × ℕ)) (number : ℕ) (time : Option ℕ) where
-  less_apart : HasWakeNoMore number time before after → (t n : ℕ) → n ≢ number → has_delay after t n ≡ has_delay before t n
-  less_apart less t n apart = less t n ∙ ap (λ b. has_delay before t n && not (b && ends_at t time)) (apart_test number n apart) ∙ and_true (has_delay before t n)
+  less_apart : HasWakeNoMore number time before after → (t n : ℕ) → n ≢ number → has_wake after t n ≡ has_wake before t n
+  less_apart less t n apart = less t n ∙ ap (λ b. has_wake before t n && not (b && ends_at t time)) (apart_test number n apart) ∙ and_true (has_wake before t n)
 
-  less_here : HasWakeNoMore number time before after → (t : ℕ) → has_delay before t number ≡ ends_at t time → has_delay after t number ≡ false
+  less_here : HasWakeNoMore number time before after → (t : ℕ) → has_wake before t number ≡ ends_at t time → has_wake after t number ≡ false
   less_here less t has =
-      less t number ∙ ap (λ b. has_delay before t number && not (b && ends_at t time)) (itself number)
+      less t number ∙ ap (λ b. has_wake before t number && not (b && ends_at t time)) (itself number)
       ∙ ap (λ b. b && not (ends_at t time)) has ∙ and_not_itself (ends_at t time)
 
-  more_apart : HasDelayToo number time before after → (t n : ℕ) → n ≢ number → has_delay after t n ≡ has_delay before t n
-  more_apart more t n apart = more t n ∙ ap (λ b. has_delay before t n || (b && ends_at t time)) (apart_test number n apart) ∙ or_false (has_delay before t n)
+  more_apart : HasWakeToo number time before after → (t n : ℕ) → n ≢ number → has_wake after t n ≡ has_wake before t n
+  more_apart more t n apart = more t n ∙ ap (λ b. has_wake before t n || (b && ends_at t time)) (apart_test number n apart) ∙ or_false (has_wake before t n)
 
-  more_here : HasDelayToo number time before after → (t : ℕ) → has_delay before t number ≡ false → has_delay after t number ≡ ends_at t time
-  more_here more t none = more t number ∙ ap (λ b. has_delay before t number || (b && ends_at t time)) (itself number) ∙ ap (λ b. b || ends_at t time) none
-
--- a set of delays that loses one at a time
-pub as_wake : (before after : BTreeSet (ℕ × ℕ)) (number time : ℕ) → HasDelayNoMore number time before after → HasWakeNoMore number (Some time) before after
-as_wake before after number time less = less
+  more_here : HasWakeToo number time before after → (t : ℕ) → has_wake before t number ≡ false → has_wake after t number ≡ ends_at t time
+  more_here more t none = more t number ∙ ap (λ b. has_wake before t number || (b && ends_at t time)) (itself number) ∙ ap (λ b. b || ends_at t time) none
 
 pub taken_out_if : (before after : BTreeSet (ℕ × ℕ)) (number time : ℕ) (found : Option ℕ) → found ≡ Some time →
-    ((t n : ℕ) → has_delay after t n ≡ (has_delay before t n && not (nat_eq number n && nat_eq time t))) → HasWakeNoMore number found before after
-taken_out_if before after number time found e less t n = less t n ∙ ap (λ f. has_delay before t n && not (nat_eq number n && ends_at t f)) (sym e)
+    ((t n : ℕ) → has_wake after t n ≡ (has_wake before t n && not (nat_eq number n && nat_eq time t))) → HasWakeNoMore number found before after
+taken_out_if before after number time found e less t n = less t n ∙ ap (λ f. has_wake before t n && not (nat_eq number n && ends_at t f)) (sym e)
 
 pub none_out : (before : BTreeSet (ℕ × ℕ)) (number : ℕ) (found : Option ℕ) → found ≡ None → HasWakeNoMore number found before before
 none_out before number found e t n =
-    sym (and_true (has_delay before t n)) ∙ ap (λ b. has_delay before t n && not b) (sym (and_false (nat_eq number n)))
-    ∙ ap (λ f. has_delay before t n && not (nat_eq number n && ends_at t f)) (sym e)
+    sym (and_true (has_wake before t n)) ∙ ap (λ b. has_wake before t n && not b) (sym (and_false (nat_eq number n)))
+    ∙ ap (λ f. has_wake before t n && not (nat_eq number n && ends_at t f)) (sym e)
   where
     and_false : (b : Bool) → (b && false) ≡ false
     and_false true = refl
@@ -69,13 +65,13 @@ none_out before number found e t n =
 -- ---- one number waits in another way
 
 module _ (old new : List (Option Wait)) (number : ℕ) (found : Option Wait) (becomes : WaitBecomes old new number found) where
-  exact_becomes : (wakes after : BTreeSet (ℕ × ℕ)) → ((t n : ℕ) → has_delay wakes t n ≡ ends_at t (kept_time (numbered_wait old n))) →
-      ((t n : ℕ) → n ≢ number → has_delay after t n ≡ has_delay wakes t n) → ((t : ℕ) → has_delay after t number ≡ ends_at t (kept_time found)) →
-      (t n : ℕ) → has_delay after t n ≡ ends_at t (kept_time (numbered_wait new n))
+  exact_becomes : (wakes after : BTreeSet (ℕ × ℕ)) → ((t n : ℕ) → has_wake wakes t n ≡ ends_at t (kept_time (numbered_wait old n))) →
+      ((t n : ℕ) → n ≢ number → has_wake after t n ≡ has_wake wakes t n) → ((t : ℕ) → has_wake after t number ≡ ends_at t (kept_time found)) →
+      (t n : ℕ) → has_wake after t n ≡ ends_at t (kept_time (numbered_wait new n))
   exact_becomes wakes after exact others here t n = by (same_or_not n number)
     where
-      by : (n ≡ number) ⊎ (n ≢ number) → has_delay after t n ≡ ends_at t (kept_time (numbered_wait new n))
-      by (inl e) = ap (has_delay after t) e ∙ here t ∙ ap (λ w. ends_at t (kept_time w)) (sym becomes.is_there ∙ ap (numbered_wait new) (sym e))
+      by : (n ≡ number) ⊎ (n ≢ number) → has_wake after t n ≡ ends_at t (kept_time (numbered_wait new n))
+      by (inl e) = ap (has_wake after t) e ∙ here t ∙ ap (λ w. ends_at t (kept_time w)) (sym becomes.is_there ∙ ap (numbered_wait new) (sym e))
       by (inr apart) = others t n apart ∙ exact t n ∙ ap (λ w. ends_at t (kept_time w)) (sym (becomes.others n apart))
 
   stale_becomes : (stale later : List ℕ) → ((n : ℕ) → is_stale (numbered_wait old n) ≡ true → IsNumberAmong n stale) → ((n : ℕ) → n ≢ number → IsNumberAmong n stale → IsNumberAmong n later) →
@@ -90,7 +86,7 @@ module _ (old new : List (Option Wait)) (number : ℕ) (found : Option Wait) (be
       by (inr apart) = others n apart (was n (ap is_stale (sym (becomes.others n apart)) ∙ e))
 
   module _ (wakes : BTreeSet (ℕ × ℕ)) (stale : List ℕ) (are : AreWakes old wakes stale) where
-    here_is : (t : ℕ) → has_delay wakes t number ≡ ends_at t (kept_time (numbered_wait old number))
+    here_is : (t : ℕ) → has_wake wakes t number ≡ ends_at t (kept_time (numbered_wait old number))
     here_is t = are.exact t number
 
     -- it begins to wait
@@ -103,7 +99,7 @@ module _ (old new : List (Option Wait)) (number : ℕ) (found : Option Wait) (be
 
     -- its wake time, if it has one, is left out, and it is stale
     pub wakes_stale : (after : BTreeSet (ℕ × ℕ)) (time : Option ℕ) → kept_time (numbered_wait old number) ≡ time → kept_time found ≡ None → HasWakeNoMore number time wakes after →
-        (set.IsOrdered delay_cmp wakes → set.IsOrdered delay_cmp after) → AreWakes new after (stale ++ number ∷ [])
+        (set.IsOrdered wake_cmp wakes → set.IsOrdered wake_cmp after) → AreWakes new after (stale ++ number ∷ [])
     wakes_stale after time was none less sorted = record {
       sorted = sorted are.sorted;
       exact = exact_becomes wakes after are.exact (less_apart wakes after number time less)
@@ -112,8 +108,8 @@ module _ (old new : List (Option Wait)) (number : ℕ) (found : Option Wait) (be
     }
 
     -- it waits no more
-    pub wakes_ended : (after : BTreeSet (ℕ × ℕ)) (time : ℕ) → has_delay wakes time number ≡ true → found ≡ None → HasDelayNoMore number time wakes after →
-        (set.IsOrdered delay_cmp wakes → set.IsOrdered delay_cmp after) → AreWakes new after stale
+    pub wakes_ended : (after : BTreeSet (ℕ × ℕ)) (time : ℕ) → has_wake wakes time number ≡ true → found ≡ None → HasWakeNoMore number (Some time) wakes after →
+        (set.IsOrdered wake_cmp wakes → set.IsOrdered wake_cmp after) → AreWakes new after stale
     wakes_ended after time has none less sorted = record {
       sorted = sorted are.sorted;
       exact = exact_becomes wakes after are.exact (less_apart wakes after number (Some time) less)
@@ -131,8 +127,8 @@ module _ (old new : List (Option Wait)) (number : ℕ) (found : Option Wait) (be
 -- its wake time is found
 module _ (old new : List (Option Wait)) (number : ℕ) (found : Option Wait) (becomes : WaitBecomes old new number found) (wakes after : BTreeSet (ℕ × ℕ)) (stale : List ℕ)
     (are : AreWakes old wakes (number ∷ stale)) where
-  pub wakes_kept : (time : Option ℕ) → kept_time (numbered_wait old number) ≡ None → kept_time found ≡ time → is_stale found ≡ false → HasDelayToo number time wakes after →
-      (set.IsOrdered delay_cmp wakes → set.IsOrdered delay_cmp after) → AreWakes new after stale
+  pub wakes_kept : (time : Option ℕ) → kept_time (numbered_wait old number) ≡ None → kept_time found ≡ time → is_stale found ≡ false → HasWakeToo number time wakes after →
+      (set.IsOrdered wake_cmp wakes → set.IsOrdered wake_cmp after) → AreWakes new after stale
   wakes_kept time none is fresh more sorted = record {
     sorted = sorted are.sorted;
     exact = exact_becomes old new number found becomes wakes after are.exact (more_apart wakes after number time more)

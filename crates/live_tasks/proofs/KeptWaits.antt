@@ -19,8 +19,8 @@ use Rattle.live_tasks.specs.declared.waits.Waits.{Waits}
 use Rattle.live_tasks.specs.Conditions.{wake_for}
 use Rattle.live_tasks.specs.Endings.{IsNumberAmong}
 use Rattle.live_tasks.specs.LeastTimes.{IsUpToTime}
-use Rattle.live_tasks.specs.Listing.{has_delay, ends_at}
-use Rattle.live_tasks.specs.WakeTimes.{numbered_wait, kept_time, is_stale, is_stale_wake, with_wake, found_if, found_wake, WaitBecomes, AreWakes, AreWakesOf, began_at, is_current, MayGoStale}
+use Rattle.live_tasks.specs.Listing.{ends_at}
+use Rattle.live_tasks.specs.WakeTimes.{numbered_wait, kept_time, is_stale, is_stale_wake, with_wake, found_if, found_wake, WaitBecomes, has_wake, AreWakes, AreWakesOf, began_at, is_current, MayGoStale}
 use Rattle.live_tasks.specs.Watchers.{IsWatcherAmong, watchers_of, Watches}
 use Rattle.live_tasks.specs.Waits.{wait_of, watcher_of, IsKept, IsFound, BeginsWait, BeginsWaitIfAny, EndsWait, IsTouched}
 use Rattle.live_tasks.specs.Waking.{AgreeBut}
@@ -302,7 +302,7 @@ fresh_all now horizon cells conditions waits found n = by (is_stale (wait_of wai
     by true e = absurd (subst (IsNumberAmong n) found.none (found.kept.times.stale_ n e))
 
 pub found_exact : (now horizon : ℕ) (cells : List CellState) (conditions : Conditions) (waits : Waits) → IsFound now horizon cells conditions waits → (time n : ℕ) →
-    has_delay waits.times.wakes time n ≡ ends_at time (wake_for now horizon cells (conditions n))
+    has_wake waits.times.wakes time n ≡ ends_at time (wake_for now horizon cells (conditions n))
 found_exact now horizon cells conditions waits found time n =
     found.kept.times.exact time n ∙ ap (ends_at time) (found.kept.right n (fresh_all now horizon cells conditions waits found n))
 

@@ -1,9 +1,8 @@
--- The least of the times of live tasks, by the set in which they are listed.
+-- The least of the times of live tasks, by where they are listed.
 use Rattle.std.proofs.Common.{◌≡◌, ℕ, suc, ◌≤◌, nat_eq, Bool, true, false, cond, List, [], ◌∷◌, min, Option, Some, None, refl, sym, ap, ◌∙◌, subst, arith, slice_get}
 use Rattle.std.proofs.lemmas.Bool.{false≢true}
 use Rattle.std.proofs.lemmas.Bool.Decides.{nat_tests}
 use Rattle.std.specs.BTreeMap.{is_at}
-use Rattle.std.specs.BTreeSet.{BTreeSet}
 use Rattle.aerie_base.specs.Paths.{path_cmp}
 use Rattle.aerie_base.specs.TimeOrder.{earlier}
 use Rattle.effect_cells.specs.declared.effects.CellState.{CellState}
@@ -11,8 +10,8 @@ use Rattle.run_data.specs.Tasks.{TaskPhase, Task, Table, task_at}
 use Rattle.run_data.specs.laws.EndedTaskLaws.{stands_at}
 use Rattle.run_data.specs.laws.NextTimes.{delay_in, least_delay, wake_in, least_wake}
 use Rattle.live_tasks.specs.declared.slots.Slot.{Slot}
-use Rattle.live_tasks.specs.LeastTimes.{IsUpToTime, least_of, time_of_slot}
-use Rattle.live_tasks.specs.Listing.{delay_of_slot, has_delay, ends_at, AreDelays, IsNoneBefore, IsLeastEnd}
+use Rattle.live_tasks.specs.LeastTimes.{IsUpToTime, least_of, time_of_slot, IsNoneBefore, IsLeastTime}
+use Rattle.live_tasks.specs.Listing.{delay_of_slot, DelayEnd, has_delay, ends_at, AreDelays}
 use Rattle.live_tasks.specs.Slots.{Slots, slot_at, AreTable}
 
 -- ---- which times these are
@@ -92,15 +91,15 @@ module _ (time_of : TaskPhase → Option ℕ) where
 
   -- ---- of the live tasks
 
-  module _ (slots : Slots) (table : Table) (times : BTreeSet (ℕ × ℕ)) (are : AreTable slots table)
-      (exact : (time number : ℕ) → has_delay times time number ≡ ends_at time (time_of_slot time_of (slot_at slots number))) where
+  module _ (slots : Slots) (table : Table) (listed : ℕ → ℕ → Bool) (are : AreTable slots table)
+      (exact : (time number : ℕ) → listed time number ≡ ends_at time (time_of_slot time_of (slot_at slots number))) where
     -- the slot of a listed time
     record TimedSlot (time number : ℕ) : Type 0 where
       slot : Slot
       there : slot_at slots number ≡ Some slot
       is : time_of slot.task.phase ≡ Some time
 
-    slot_is : (time number : ℕ) → has_delay times time number ≡ true → TimedSlot time number
+    slot_is : (time number : ℕ) → listed time number ≡ true → TimedSlot time number
     slot_is time number has = by (slot_at slots number) refl (sym (exact time number) ∙ has)
       where
         by : (found : Option Slot) → slot_at slots number ≡ found → ends_at time (time_of_slot time_of (slot_at slots number)) ≡ true → TimedSlot time number
@@ -113,10 +112,10 @@ module _ (time_of : TaskPhase → Option ℕ) where
                 let k : nat_eq until time ≡ true = ap (ends_at time) (sym g) ∙ h in
                 record { slot = slot; there = e; is = g ∙ ap Some (grind (arith, nat_tests)) }
 
-    most : (time number : ℕ) → has_delay times time number ≡ true → AtMost (least_of time_of table) time
+    most : (time number : ℕ) → listed time number ≡ true → AtMost (least_of time_of table) time
     most time number has = let one = slot_is time number has in least_most table one.slot.path one.slot.task time (are.tasks number one.slot one.there) one.is
 
-    least_listed : (time : ℕ) → least_of time_of table ≡ Some time → (number : ℕ) × (has_delay times time number ≡ true)
+    least_listed : (time : ℕ) → least_of time_of table ≡ Some time → (number : ℕ) × (listed time number ≡ true)
     least_listed time e =
         let one = least_there table time e in
         let at = stands_at table one.place one.path one.task are.order one.there in
@@ -127,8 +126,8 @@ module _ (time_of : TaskPhase → Option ℕ) where
           exact time has.number ∙ ap (λ o. ends_at time (time_of_slot time_of o)) has.there ∙ ap (λ (t : Task). ends_at time (time_of t.phase)) g ∙ ap (ends_at time) one.is ∙ itself time,
         )
 
-    -- what the set has as its least is the least of the table
-    pub least_is : (found : Option ℕ) → IsLeastEnd times found → found ≡ least_of time_of table
+    -- the least that is listed is the least of the table
+    pub least_is : (found : Option ℕ) → IsLeastTime listed found → found ≡ least_of time_of table
     least_is None none = by (least_of time_of table) refl
       where
         by : (least : Option ℕ) → least_of time_of table ≡ least → None ≡ least_of time_of table
@@ -142,7 +141,7 @@ module _ (time_of : TaskPhase → Option ℕ) where
         sym (one.1 ∙ ap Some (omega (arith, a, b)))
 
     -- none is listed before a time that is not after the least of the table
-    pub none_before : (now : ℕ) → IsUpToTime now (least_of time_of table) → IsNoneBefore now times
+    pub none_before : (now : ℕ) → IsUpToTime now (least_of time_of table) → IsNoneBefore now listed
     none_before now up time number has =
         let one = most time number has in
         let a : now ≤ one.0 = subst (IsUpToTime now) one.1 up in
@@ -163,12 +162,12 @@ delay_of_slot_is : (found : Option Slot) → delay_of_slot found ≡ time_of_slo
 delay_of_slot_is None = refl
 delay_of_slot_is (Some slot) = refl
 
-module _ (slots : Slots) (table : Table) (delays : BTreeSet (ℕ × ℕ)) (are : AreTable slots table) (listed : AreDelays slots delays) where
+module _ (slots : Slots) (table : Table) (delays : List DelayEnd) (are : AreTable slots table) (listed : AreDelays slots delays) where
   delay_exact : (time number : ℕ) → has_delay delays time number ≡ ends_at time (time_of_slot delay_in (slot_at slots number))
   delay_exact time number = listed.exact time number ∙ ap (ends_at time) (delay_of_slot_is (slot_at slots number))
 
-  pub least_end_is : (found : Option ℕ) → IsLeastEnd delays found → found ≡ least_delay table
-  least_end_is found least = least_is delay_in slots table delays are delay_exact found least ∙ sym (least_delay_is table)
+  pub least_end_is : (found : Option ℕ) → IsLeastTime (has_delay delays) found → found ≡ least_delay table
+  least_end_is found least = least_is delay_in slots table (has_delay delays) are delay_exact found least ∙ sym (least_delay_is table)
 
-  pub none_ends_before : (now : ℕ) → IsUpToTime now (least_delay table) → IsNoneBefore now delays
-  none_ends_before now up = none_before delay_in slots table delays are delay_exact now (subst (IsUpToTime now) (least_delay_is table) up)
+  pub none_ends_before : (now : ℕ) → IsUpToTime now (least_delay table) → IsNoneBefore now (has_delay delays)
+  none_ends_before now up = none_before delay_in slots table (has_delay delays) are delay_exact now (subst (IsUpToTime now) (least_delay_is table) up)

@@ -18,7 +18,8 @@ mod Orders
 mod Reached
 mod Changes
 mod ListedNumbers
-mod DelaySets
+mod WakeSets
+mod DelayHeaps
 mod ListedChanges
 mod ListedDelays
 mod Resting

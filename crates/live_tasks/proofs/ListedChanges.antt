@@ -1,5 +1,5 @@
 -- What changes of a task leave of its being ready or delayed.
-use Rattle.std.proofs.Common.{◌≡◌, ◌⊎◌, inl, inr, ℕ, nat_eq, Bool, true, false, Option, Some, None, is_some, option_map, refl, if◌then◌else◌}
+use Rattle.std.proofs.Common.{◌≡◌, ◌⊎◌, inl, inr, ℕ, nat_eq, Bool, true, false, Option, Some, None, is_some, option_map, refl, sym, ap, ◌∙◌, if◌then◌else◌}
 use Rattle.std.proofs.lemmas.Bool.{false≢true}
 use Rattle.aerie_base.specs.declared.values.Value.{Value}
 use Rattle.aerie_base.specs.declared.plans.Edge.{Edge}
@@ -29,6 +29,10 @@ ready_no_delay (Some slot) e = by slot.task.phase e
     by (calling child into state) f = refl
     by (over result) f = refl
 
+pub no_delay : (delay : Option ℕ) → is_some delay ≡ false → delay ≡ None
+no_delay None e = refl
+no_delay (Some time) e = absurd (false≢true (sym e))
+
 -- ---- a child has ended
 
 module _ (own : ℕ) (result : Option Value) where
@@ -52,9 +56,9 @@ module _ (own : ℕ) (result : Option Value) where
   return_ready (waiting condition state) e = e
   return_ready (over value) e = e
 
-  pub told_delay : (found : Option Slot) → (delay_of_slot found ≡ None) ⊎ (delay_of_slot found ≡ delay_of_slot (option_map (slot_after_child_end own result) found))
-  told_delay None = inl refl
-  told_delay (Some slot) = inr (return_delay slot.task.phase)
+  pub told_delay : (found : Option Slot) → delay_of_slot found ≡ delay_of_slot (option_map (slot_after_child_end own result) found)
+  told_delay None = refl
+  told_delay (Some slot) = return_delay slot.task.phase
 
   pub told_ready : (found : Option Slot) → is_ready_slot found ≡ true → is_ready_slot (option_map (slot_after_child_end own result) found) ≡ true
   told_ready None e = e
@@ -79,9 +83,17 @@ module _ (now to : ℕ) (edge : Edge) where
   due_ready (waiting condition state) e = e
   due_ready (over value) e = e
 
-  pub fallen_delay : (found : Option Slot) → (delay_of_slot found ≡ None) ⊎ (delay_of_slot found ≡ delay_of_slot (option_map (slot_when_due now to edge) found))
-  fallen_delay None = inl refl
-  fallen_delay (Some slot) = due_delay slot.task.phase
+  due_delay_slot : (found : Option Slot) → (delay_of_slot found ≡ None) ⊎ (delay_of_slot found ≡ delay_of_slot (option_map (slot_when_due now to edge) found))
+  due_delay_slot None = inl refl
+  due_delay_slot (Some slot) = due_delay slot.task.phase
+
+  -- what was delayed has the same delay
+  pub fallen_delay : (found : Option Slot) → is_some (delay_of_slot found) ≡ true → delay_of_slot found ≡ delay_of_slot (option_map (slot_when_due now to edge) found)
+  fallen_delay found some = by (due_delay_slot found)
+    where
+      by : (delay_of_slot found ≡ None) ⊎ (delay_of_slot found ≡ delay_of_slot (option_map (slot_when_due now to edge) found)) → delay_of_slot found ≡ delay_of_slot (option_map (slot_when_due now to edge) found)
+      by (inl e) = absurd (false≢true (sym (ap is_some e) ∙ some))
+      by (inr e) = e
 
   pub fallen_ready : (found : Option Slot) → is_ready_slot found ≡ true → is_ready_slot (option_map (slot_when_due now to edge) found) ≡ true
   fallen_ready None e = e

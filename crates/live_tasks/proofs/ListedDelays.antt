@@ -2,15 +2,15 @@
 use Rattle.std.proofs.Common.{◌≡◌, ◌≢◌, ◌⊎◌, inl, inr, ℕ, nat_eq, Bool, true, false, not, ◌&&◌, List, Option, Some, None, option_map, refl, sym, ap, ◌∙◌, subst, arith, if◌then◌else◌}
 use Rattle.std.proofs.lemmas.Bool.{false≢true}
 use Rattle.std.proofs.lemmas.Bool.Decides.{nat_tests}
-use Rattle.std.specs.BTreeSet as set
-use Rattle.std.specs.BTreeSet.{BTreeSet}
 use Rattle.run_data.specs.Tasks.{TaskPhase, anchored, ready, delayed, waiting, calling, over, rested, rested_phase}
 use Rattle.run_data.specs.laws.NextTimes.{delay_in}
 use Rattle.run_data.specs.laws.ReadyTasks.{is_ready_phase}
 use Rattle.live_tasks.specs.declared.slots.Slot.{Slot}
 use Rattle.live_tasks.specs.Slots.{Slots, slot_at, Becomes}
 use Rattle.live_tasks.specs.Changes.{slot_changed, AreChanged}
-use Rattle.live_tasks.specs.Listing.{is_ready_slot, delay_of_slot, listed_if, HaveAllReady, AreReadyAlone, delay_cmp, has_delay, ends_at, AreDelays, HasDelayNoMore, IsNoneBefore, AreOnlyListed}
+use Rattle.live_tasks.specs.LeastTimes.{IsNoneBefore}
+use Rattle.live_tasks.specs.Listing.{is_ready_slot, delay_of_slot, listed_if, HaveAllReady, AreReadyAlone, DelayEnd, has_delay, ends_at, IsDelayHeap, AreDelays, HasDelayNoMore, IsFirstEnd, AreOnlyListed}
+use Rattle.live_tasks.proofs.DelayHeaps.{first_there}
 use Rattle.live_tasks.proofs.Forests.{same_or_not}
 use Rattle.live_tasks.proofs.ListedNumbers.{readies_become, alone_become}
 use Rattle.live_tasks.proofs.ListedChanges.{some_map}
@@ -41,14 +41,14 @@ slot_rests : (now : ℕ) (found : Option Slot) → delay_of_slot found ≡ Some 
 slot_rests now None e = absurd (cc)
 slot_rests now (Some slot) e = due_rests now slot.task.phase e
 
-module _ (old new : Slots) (number now : ℕ) (becomes : Becomes old new number (option_map (slot_changed (rested now)) (slot_at old number))) (delays after : BTreeSet (ℕ × ℕ)) (readies more : List ℕ)
-    (due : has_delay delays now number ≡ true) (less : HasDelayNoMore number now delays after) (sorted : set.IsOrdered delay_cmp delays → set.IsOrdered delay_cmp after)
+module _ (old new : Slots) (number now : ℕ) (becomes : Becomes old new number (option_map (slot_changed (rested now)) (slot_at old number))) (delays after : List DelayEnd) (readies more : List ℕ)
+    (due : IsFirstEnd now number delays) (less : HasDelayNoMore number now delays after) (heap : IsDelayHeap after)
     (listed : AreOnlyListed old readies delays) (pushed : more ≡ listed_if true number readies) where
   abbrev found : Option Slot
   found = option_map (slot_changed (rested now)) (slot_at old number)
 
   delay_is : delay_of_slot (slot_at old number) ≡ Some now
-  delay_is = ends_there now (delay_of_slot (slot_at old number)) (sym (listed.all.delays_.exact now number) ∙ due)
+  delay_is = ends_there now (delay_of_slot (slot_at old number)) (sym (listed.all.delays_.exact now number) ∙ first_there delays _ due)
 
   its : (is_ready_slot found ≡ true) × (delay_of_slot found ≡ None) × (is_ready_slot (slot_at old number) ≡ false)
   its = slot_rests now (slot_at old number) delay_is
@@ -87,7 +87,7 @@ module _ (old new : Slots) (number now : ℕ) (becomes : Becomes old new number 
           subst (HaveAllReady new) (sym list_is)
           (readies_become old new number found becomes false readies (some_map (slot_changed (rested now)) (slot_at old number)) listed.all.readies_ (λ e. absurd (false≢true e))
           (λ e among. false≢true (sym its.2 ∙ listed.alone number among)));
-      delays_ = record { sorted = sorted listed.all.delays_.sorted; exact = exact };
+      delays_ = record { heap = heap; exact = exact };
     };
     alone =
         subst (AreReadyAlone new) (sym list_is)
@@ -138,12 +138,12 @@ slot_stays now None e = refl
 slot_stays now (Some slot) e = ap (λ (phase : TaskPhase). Some (record slot { task = record slot.task { phase = phase } })) (stays_delayed now slot.task.phase e)
 
 -- where no delay ends now, all have gone on
-pub all_rested : (now : ℕ) (first slots : Slots) (delays : BTreeSet (ℕ × ℕ)) → RestsAlike now first slots → AreDelays slots delays → ((number : ℕ) → has_delay delays now number ≡ false) →
+pub all_rested : (now : ℕ) (first slots : Slots) (delays : List DelayEnd) → RestsAlike now first slots → AreDelays slots delays → ((number : ℕ) → has_delay delays now number ≡ false) →
     AreChanged (rested now) first slots
 all_rested now first slots delays alike are none number = sym (slot_stays now (slot_at slots number) (sym (are.exact now number) ∙ none number)) ∙ alike number
 
 -- none ends earlier once one has ended
-pub none_before_less : (now number : ℕ) (before after : BTreeSet (ℕ × ℕ)) → IsNoneBefore now before → HasDelayNoMore number now before after → IsNoneBefore now after
+pub none_before_less : (now number : ℕ) (before after : List DelayEnd) → IsNoneBefore now (has_delay before) → HasDelayNoMore number now before after → IsNoneBefore now (has_delay after)
 none_before_less now number before after none less t n e = none t n (by (has_delay before t n) refl)
   where
     by : (b : Bool) → has_delay before t n ≡ b → has_delay before t n ≡ true

@@ -3,12 +3,10 @@ use Rattle.std.proofs.Common.{◌≡◌, ◌≢◌, ◌⊎◌, inl, inr, ℕ, na
 use Rattle.std.proofs.lemmas.Bool.{false≢true}
 use Rattle.std.proofs.lemmas.Bool.Decides.{nat_tests}
 use Rattle.std.specs.List.{filter}
-use Rattle.std.specs.BTreeSet as set
-use Rattle.std.specs.BTreeSet.{BTreeSet}
 use Rattle.live_tasks.specs.declared.slots.Slot.{Slot}
 use Rattle.live_tasks.specs.Slots.{Slots, slot_at, Becomes}
 use Rattle.live_tasks.specs.Endings.{IsNumberAmong}
-use Rattle.live_tasks.specs.Listing.{is_ready_slot, delay_of_slot, is_newly_ready, listed_if, ready_among, HaveNoRepeats, HaveAllReady, AreReadyAlone, delay_cmp, has_delay, ends_at, AreDelays, HasDelayToo, AreTasksListed, AreOnlyListed}
+use Rattle.live_tasks.specs.Listing.{is_ready_slot, delay_of_slot, is_newly_ready, listed_if, ready_among, HaveNoRepeats, HaveAllReady, AreReadyAlone, DelayEnd, has_delay, ends_at, newly_delayed, AreDelays, HasDelayToo, IsNewDelay, StaysHeap, AreTasksListed, AreOnlyListed}
 use Rattle.live_tasks.proofs.Forests.{same_or_not}
 
 -- ---- one number more
@@ -118,47 +116,58 @@ module _ (old new : Slots) (number : ℕ) (found : Option Slot) (becomes : Becom
 
   -- ---- the delays
 
-  pub delays_become : (delays after : BTreeSet (ℕ × ℕ)) → (delay_of_slot (slot_at old number) ≡ None) ⊎ (delay_of_slot (slot_at old number) ≡ delay_of_slot found) → AreDelays old delays →
-      HasDelayToo number (delay_of_slot found) delays after → set.IsOrdered delay_cmp after → AreDelays new after
-  delays_become delays after before are more sorted = record { sorted = sorted; exact = exact }
-    where
-      exact : (t n : ℕ) → has_delay after t n ≡ ends_at t (delay_of_slot (slot_at new n))
-      exact t n = more t n ∙ ap (λ b. b || (nat_eq number n && ends_at t (delay_of_slot found))) (are.exact t n) ∙ by (same_or_not n number)
-        where
-          joined : (x y : Bool) → (x ≡ false) ⊎ (x ≡ y) → (x || (true && y)) ≡ y
-          joined true y (inl e) = absurd (cc)
-          joined true y (inr e) = e
-          joined false y e = refl
+  -- whether its delay stood there before
+  module _ (was : Bool) (fresh : was ≡ false → delay_of_slot (slot_at old number) ≡ None) (same : was ≡ true → delay_of_slot (slot_at old number) ≡ delay_of_slot found) (delays after : List DelayEnd)
+      (are : AreDelays old delays) where
+    is_new : IsNewDelay number (newly_delayed was found) delays
+    is_new t e = by was refl e
+      where
+        by : (w : Bool) → was ≡ w → ends_at t (newly_delayed w found) ≡ true → has_delay delays t number ≡ false
+        by true f g = absurd (false≢true g)
+        by false f g = are.exact t number ∙ ap (ends_at t) (fresh f)
 
-          none : (x y : Bool) → (x || (false && y)) ≡ x
-          none true y = refl
-          none false y = refl
+    joined : (t : ℕ) → (ends_at t (delay_of_slot (slot_at old number)) || (true && ends_at t (newly_delayed was found))) ≡ ends_at t (delay_of_slot found)
+    joined t = by was refl
+      where
+        none : (x : Bool) → (x || false) ≡ x
+        none true = refl
+        none false = refl
 
-          here : (delay_of_slot (slot_at old number) ≡ None) ⊎ (delay_of_slot (slot_at old number) ≡ delay_of_slot found) →
-              (ends_at t (delay_of_slot (slot_at old number)) ≡ false) ⊎ (ends_at t (delay_of_slot (slot_at old number)) ≡ ends_at t (delay_of_slot found))
-          here (inl e) = inl (ap (ends_at t) e)
-          here (inr e) = inr (ap (ends_at t) e)
+        by : (w : Bool) → was ≡ w → (ends_at t (delay_of_slot (slot_at old number)) || (true && ends_at t (newly_delayed w found))) ≡ ends_at t (delay_of_slot found)
+        by true f = none (ends_at t (delay_of_slot (slot_at old number))) ∙ ap (ends_at t) (same f)
+        by false f = ap (λ d. ends_at t d || ends_at t (delay_of_slot found)) (fresh f)
 
-          by : (n ≡ number) ⊎ (n ≢ number) →
-              (ends_at t (delay_of_slot (slot_at old n)) || (nat_eq number n && ends_at t (delay_of_slot found))) ≡ ends_at t (delay_of_slot (slot_at new n))
-          by (inl e) =
-              let k : nat_eq number n ≡ true = grind (arith, nat_tests) in
-              ap (λ b. ends_at t (delay_of_slot (slot_at old n)) || (b && ends_at t (delay_of_slot found))) k
-              ∙ ap (λ m. ends_at t (delay_of_slot (slot_at old m)) || (true && ends_at t (delay_of_slot found))) e
-              ∙ joined (ends_at t (delay_of_slot (slot_at old number))) (ends_at t (delay_of_slot found)) (here before)
-              ∙ sym (ap (λ m. ends_at t (delay_of_slot (slot_at new m))) e ∙ ap (λ o. ends_at t (delay_of_slot o)) becomes.is_there)
-          by (inr other) =
-              let k : nat_eq number n ≡ false = grind (arith, nat_tests) in
-              ap (λ b. ends_at t (delay_of_slot (slot_at old n)) || (b && ends_at t (delay_of_slot found))) k
-              ∙ none (ends_at t (delay_of_slot (slot_at old n))) (ends_at t (delay_of_slot found))
-              ∙ ap (λ o. ends_at t (delay_of_slot o)) (sym (becomes.others n other))
+    pub delays_become : HasDelayToo number (newly_delayed was found) delays after → StaysHeap number (newly_delayed was found) delays after → AreDelays new after
+    delays_become more heap = record { heap = heap is_new are.heap; exact = exact }
+      where
+        exact : (t n : ℕ) → has_delay after t n ≡ ends_at t (delay_of_slot (slot_at new n))
+        exact t n = more t n ∙ ap (λ b. b || (nat_eq number n && ends_at t (newly_delayed was found))) (are.exact t n) ∙ by (same_or_not n number)
+          where
+            none : (x y : Bool) → (x || (false && y)) ≡ x
+            none true y = refl
+            none false y = refl
+
+            by : (n ≡ number) ⊎ (n ≢ number) →
+                (ends_at t (delay_of_slot (slot_at old n)) || (nat_eq number n && ends_at t (newly_delayed was found))) ≡ ends_at t (delay_of_slot (slot_at new n))
+            by (inl e) =
+                let k : nat_eq number n ≡ true = grind (arith, nat_tests) in
+                ap (λ b. ends_at t (delay_of_slot (slot_at old n)) || (b && ends_at t (newly_delayed was found))) k
+                ∙ ap (λ m. ends_at t (delay_of_slot (slot_at old m)) || (true && ends_at t (newly_delayed was found))) e
+                ∙ joined t
+                ∙ sym (ap (λ m. ends_at t (delay_of_slot (slot_at new m))) e ∙ ap (λ o. ends_at t (delay_of_slot o)) becomes.is_there)
+            by (inr other) =
+                let k : nat_eq number n ≡ false = grind (arith, nat_tests) in
+                ap (λ b. ends_at t (delay_of_slot (slot_at old n)) || (b && ends_at t (newly_delayed was found))) k
+                ∙ none (ends_at t (delay_of_slot (slot_at old n))) (ends_at t (newly_delayed was found))
+                ∙ ap (λ o. ends_at t (delay_of_slot o)) (sym (becomes.others n other))
 
 -- ---- a task came to stand at a number, and was listed
 
-module _ (old new last : Slots) (number : ℕ) (found : Option Slot) (was : Bool) (readies more_readies : List ℕ) (delays more_delays : BTreeSet (ℕ × ℕ)) (becomes : Becomes old new number found)
-    (some : is_some (slot_at old number) ≡ true → is_some found ≡ true) (due : (delay_of_slot (slot_at old number) ≡ None) ⊎ (delay_of_slot (slot_at old number) ≡ delay_of_slot found))
-    (same : last ≡ new) (readies_are : more_readies ≡ listed_if (is_newly_ready was (slot_at new number)) number readies)
-    (delays_are : HasDelayToo number (delay_of_slot (slot_at new number)) delays more_delays) (sorted : set.IsOrdered delay_cmp delays → set.IsOrdered delay_cmp more_delays) where
+module _ (old new last : Slots) (number : ℕ) (found : Option Slot) (was was_delayed : Bool) (readies more_readies : List ℕ) (delays more_delays : List DelayEnd) (becomes : Becomes old new number found)
+    (some : is_some (slot_at old number) ≡ true → is_some found ≡ true) (fresh : was_delayed ≡ false → delay_of_slot (slot_at old number) ≡ None)
+    (held : was_delayed ≡ true → delay_of_slot (slot_at old number) ≡ delay_of_slot found) (same : last ≡ new)
+    (readies_are : more_readies ≡ listed_if (is_newly_ready was (slot_at new number)) number readies)
+    (delays_are : HasDelayToo number (newly_delayed was_delayed (slot_at new number)) delays more_delays) (heap : StaysHeap number (newly_delayed was_delayed (slot_at new number)) delays more_delays) where
   lists : more_readies ≡ listed_if (is_newly_ready was found) number readies
   lists = readies_are ∙ ap (λ o. listed_if (is_newly_ready was o) number readies) becomes.is_there
 
@@ -167,8 +176,9 @@ module _ (old new last : Slots) (number : ℕ) (found : Option Slot) (was : Bool
       subst (λ s. AreTasksListed s more_readies more_delays) (sym same) (record {
         readies_ = subst (HaveAllReady new) (sym lists) (readies_become old new number found becomes was readies some are.readies_ stood apart);
         delays_ =
-            delays_become old new number found becomes delays more_delays due are.delays_
-            (subst (λ o. HasDelayToo number (delay_of_slot o) delays more_delays) becomes.is_there delays_are) (sorted are.delays_.sorted);
+            delays_become old new number found becomes was_delayed fresh held delays more_delays are.delays_
+            (subst (λ o. HasDelayToo number (newly_delayed was_delayed o) delays more_delays) becomes.is_there delays_are)
+            (subst (λ o. StaysHeap number (newly_delayed was_delayed o) delays more_delays) becomes.is_there heap);
       })
 
   pub alone_listed : was ≡ is_ready_slot (slot_at old number) → (is_ready_slot (slot_at old number) ≡ true → is_ready_slot found ≡ true) → AreOnlyListed old readies delays →
@@ -221,7 +231,7 @@ once_ready slots (first ∷ rest) once = by (is_ready_slot (slot_at slots first)
     by true further = ((λ a. once.0 (among_ready slots rest first a).0), further)
     by false further = further
 
-pub relisted : (slots : Slots) (readies : List ℕ) (delays : BTreeSet (ℕ × ℕ)) → AreTasksListed slots readies delays → AreOnlyListed slots (ready_among slots readies) delays
+pub relisted : (slots : Slots) (readies : List ℕ) (delays : List DelayEnd) → AreTasksListed slots readies delays → AreOnlyListed slots (ready_among slots readies) delays
 relisted slots readies delays are = record {
   all = record {
     readies_ = record {

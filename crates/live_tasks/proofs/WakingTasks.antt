@@ -11,10 +11,11 @@ use Rattle.run_data.specs.laws.NextTimes.{wake_in, least_wake}
 use Rattle.live_tasks.specs.declared.slots.Slot.{Slot}
 use Rattle.live_tasks.specs.declared.waits.Waits.{Waits}
 use Rattle.live_tasks.specs.Conditions.{condition_of_slot, condition_at, wake_for, MayBeSolved}
-use Rattle.live_tasks.specs.LeastTimes.{IsUpToTime, time_of_slot}
-use Rattle.live_tasks.specs.Listing.{has_delay, ends_at, IsLeastEnd}
+use Rattle.live_tasks.specs.LeastTimes.{IsUpToTime, time_of_slot, IsLeastTime}
+use Rattle.live_tasks.specs.Listing.{ends_at}
 use Rattle.live_tasks.specs.Slots.{Slots, slot_at, AreTable}
 use Rattle.live_tasks.specs.Waits.{IsFound}
+use Rattle.live_tasks.specs.WakeTimes.{has_wake}
 use Rattle.live_tasks.specs.Waking.{AreSolvable, WakesPass}
 use Rattle.live_tasks.proofs.KeptWaits.{found_exact, kept_passed}
 use Rattle.live_tasks.proofs.LeastTimes.{least_is, up_to_each, least_wake_is}
@@ -33,18 +34,18 @@ wake_of_slot now horizon cells None = refl
 wake_of_slot now horizon cells (Some slot) = sym (wake_in_is now horizon cells slot.task.phase)
 
 module _ (now horizon : ℕ) (cells : List CellState) (slots : Slots) (table : Table) (waits : Waits) (are : AreTable slots table) (found : IsFound now horizon cells (condition_at slots) waits) where
-  exact : (time number : ℕ) → has_delay waits.times.wakes time number ≡ ends_at time (time_of_slot (wake_in now horizon cells) (slot_at slots number))
+  exact : (time number : ℕ) → has_wake waits.times.wakes time number ≡ ends_at time (time_of_slot (wake_in now horizon cells) (slot_at slots number))
   exact time number = found_exact now horizon cells (condition_at slots) waits found time number ∙ ap (ends_at time) (wake_of_slot now horizon cells (slot_at slots number))
 
   -- the least that is kept is the least of the table
-  pub least_kept : (wake : Option ℕ) → IsLeastEnd waits.times.wakes wake → wake ≡ least_wake now horizon cells table
-  least_kept wake least = least_is (wake_in now horizon cells) slots table waits.times.wakes are exact wake least ∙ sym (least_wake_is now horizon cells table)
+  pub least_kept : (wake : Option ℕ) → IsLeastTime (has_wake waits.times.wakes) wake → wake ≡ least_wake now horizon cells table
+  least_kept wake least = least_is (wake_in now horizon cells) slots table (has_wake waits.times.wakes) are exact wake least ∙ sym (least_wake_is now horizon cells table)
 
   -- and none is before a time up to that
   up_to : (time : ℕ) → IsUpToTime time (least_wake now horizon cells table) → (number : ℕ) → IsUpToTime time (wake_for now horizon cells (condition_at slots number))
   up_to time up number =
       subst (IsUpToTime time) (sym (wake_of_slot now horizon cells (slot_at slots number)))
-      (up_to_each (wake_in now horizon cells) slots table waits.times.wakes are exact time (subst (IsUpToTime time) (least_wake_is now horizon cells table) up) number)
+      (up_to_each (wake_in now horizon cells) slots table (has_wake waits.times.wakes) are exact time (subst (IsUpToTime time) (least_wake_is now horizon cells table) up) number)
 
 pub wakes_pass_by : StaysWhileTimePasses → WakesPass
 wakes_pass_by law now dt horizon cells tasks in_step found up most =

@@ -2,7 +2,6 @@
 use Rattle.std.proofs.Common.{◌≡◌, ◌≢◌, ◌⊎◌, inl, inr, ℕ, ◌+◌, ◌-◌, ◌<◌, ◌≤◌, nat_eq, Bool, true, false, not, ◌&&◌, List, [], ◌∷◌, ◌++◌, Option, Some, None, is_some, option_map, refl, sym, ap, ◌∙◌, subst, arith, if◌then◌else◌}
 use Rattle.std.proofs.lemmas.Bool.{false≢true}
 use Rattle.std.proofs.lemmas.Bool.Decides.{nat_tests}
-use Rattle.std.specs.BTreeSet.{BTreeSet}
 use Rattle.aerie_base.specs.declared.conditions.Cond.{Cond}
 use Rattle.aerie_base.specs.declared.plans.Edge.{Edge}
 use Rattle.effect_cells.specs.declared.effects.CellState.{CellState}
@@ -18,10 +17,12 @@ use Rattle.live_tasks.specs.declared.slots.Slot.{Slot}
 use Rattle.live_tasks.specs.declared.waits.Waits.{Waits}
 use Rattle.live_tasks.specs.Changes.{slot_changed, AreChanged, KeepsKinds}
 use Rattle.live_tasks.specs.Conditions.{condition_of_slot, condition_at, wake_for}
-use Rattle.live_tasks.specs.Listing.{is_ready_slot, delay_of_slot, listed_if, HaveAllReady, AreReadyAlone, has_delay, ends_at, AreOnlyListed, IsNoneBefore}
+use Rattle.live_tasks.specs.LeastTimes.{IsNoneBefore}
+use Rattle.live_tasks.specs.Listing.{is_ready_slot, delay_of_slot, listed_if, HaveAllReady, AreReadyAlone, DelayEnd, has_delay, ends_at, AreOnlyListed}
 use Rattle.live_tasks.specs.Phases.{condition_of_wait, phase_after_wait, after_wait}
 use Rattle.live_tasks.specs.Slots.{Slots, slot_at, Becomes}
 use Rattle.live_tasks.specs.Waits.{IsFound, EndsWait}
+use Rattle.live_tasks.specs.WakeTimes.{has_wake}
 use Rattle.live_tasks.proofs.Forests.{same_or_not}
 use Rattle.live_tasks.proofs.KeptWaits.{found_exact, found_ended}
 use Rattle.live_tasks.proofs.ListedChanges.{some_map}
@@ -56,15 +57,15 @@ not_before now horizon cells (Some condition) time e = go (wake_time cells condi
 
 -- ---- the waits and the set of wake times
 
-pub due_waits : (now horizon : ℕ) (cells : List CellState) (conditions : ℕ → Option Cond) (waits : Waits) (number : ℕ) → IsFound now horizon cells conditions waits → has_delay waits.times.wakes now number ≡ true →
+pub due_waits : (now horizon : ℕ) (cells : List CellState) (conditions : ℕ → Option Cond) (waits : Waits) (number : ℕ) → IsFound now horizon cells conditions waits → has_wake waits.times.wakes now number ≡ true →
     wake_for now horizon cells (conditions number) ≡ Some now
 due_waits now horizon cells conditions waits number found due = ends_there now (wake_for now horizon cells (conditions number)) (sym (found_exact now horizon cells conditions waits found now number) ∙ due)
 
-pub due_is_wait : (now horizon : ℕ) (cells : List CellState) (conditions : ℕ → Option Cond) (waits : Waits) (number : ℕ) → IsFound now horizon cells conditions waits → has_delay waits.times.wakes now number ≡ true →
+pub due_is_wait : (now horizon : ℕ) (cells : List CellState) (conditions : ℕ → Option Cond) (waits : Waits) (number : ℕ) → IsFound now horizon cells conditions waits → has_wake waits.times.wakes now number ≡ true →
     is_some (conditions number) ≡ true
 due_is_wait now horizon cells conditions waits number found due = waits_if now horizon cells (conditions number) now (due_waits now horizon cells conditions waits number found due)
 
-pub none_before_now : (now horizon : ℕ) (cells : List CellState) (conditions : ℕ → Option Cond) (waits : Waits) → IsFound now horizon cells conditions waits → IsNoneBefore now waits.times.wakes
+pub none_before_now : (now horizon : ℕ) (cells : List CellState) (conditions : ℕ → Option Cond) (waits : Waits) → IsFound now horizon cells conditions waits → IsNoneBefore now (has_wake waits.times.wakes)
 none_before_now now horizon cells conditions waits found time number has =
     not_before now horizon cells (conditions number) time (ends_there time (wake_for now horizon cells (conditions number)) (sym (found_exact now horizon cells conditions waits found time number) ∙ has))
 
@@ -114,7 +115,7 @@ module _ (law : HoldsWhereItWakesNow) (now horizon : ℕ) (cells : List CellStat
   slot_on None e = absurd (cc)
   slot_on (Some slot) e = ap (λ (phase : TaskPhase). Some (record slot { task = record slot.task { phase = phase } })) (woken_on slot.task.phase e)
 
-  pub wakes_more : (first slots later : Slots) (waits : Waits) (number : ℕ) → IsFound now horizon cells (condition_at slots) waits → has_delay waits.times.wakes now number ≡ true →
+  pub wakes_more : (first slots later : Slots) (waits : Waits) (number : ℕ) → IsFound now horizon cells (condition_at slots) waits → has_wake waits.times.wakes now number ≡ true →
       Becomes slots later number (option_map (slot_changed after_wait) (slot_at slots number)) → WakesAlike cells first slots → WakesAlike cells first later
   wakes_more first slots later waits number found due becomes alike n = by (same_or_not n number)
     where
@@ -130,7 +131,7 @@ module _ (law : HoldsWhereItWakesNow) (now horizon : ℕ) (cells : List CellStat
   slot_stays (Some slot) none = ap (λ (phase : TaskPhase). Some (record slot { task = record slot.task { phase = phase } })) (woken_stays slot.task.phase none)
 
   -- where none wakes now, all have gone on
-  pub all_woken : (first slots : Slots) (waits : Waits) → IsFound now horizon cells (condition_at slots) waits → WakesAlike cells first slots → ((n : ℕ) → has_delay waits.times.wakes now n ≡ false) →
+  pub all_woken : (first slots : Slots) (waits : Waits) → IsFound now horizon cells (condition_at slots) waits → WakesAlike cells first slots → ((n : ℕ) → has_wake waits.times.wakes now n ≡ false) →
       AreChanged (woken cells) first slots
   all_woken first slots waits found alike none n = sym (slot_stays (slot_at slots n) out) ∙ alike n
     where
@@ -187,7 +188,7 @@ waking_slot (Some slot) e = by slot.task.phase refl e
     by (over result) f g = absurd (false≢true g)
 
 module _ (old new : Slots) (number : ℕ) (becomes : Becomes old new number (option_map (slot_changed after_wait) (slot_at old number))) (waits : is_some (condition_at old number) ≡ true)
-    (readies more : List ℕ) (delays : BTreeSet (ℕ × ℕ)) (pushed : more ≡ readies ++ number ∷ []) (listed : AreOnlyListed old readies delays) where
+    (readies more : List ℕ) (delays : List DelayEnd) (pushed : more ≡ readies ++ number ∷ []) (listed : AreOnlyListed old readies delays) where
   abbrev found : Option Slot
   found = option_map (slot_changed after_wait) (slot_at old number)
 
@@ -212,7 +213,7 @@ module _ (old new : Slots) (number : ℕ) (becomes : Becomes old new number (opt
           subst (HaveAllReady new) (sym list_is)
           (readies_become old new number found becomes false readies (some_map (slot_changed after_wait) (slot_at old number)) listed.all.readies_ (λ e. absurd (false≢true e))
           (λ e among. false≢true (sym its.not_ready ∙ listed.alone number among)));
-      delays_ = record { sorted = listed.all.delays_.sorted; exact = exact };
+      delays_ = record { heap = listed.all.delays_.heap; exact = exact };
     };
     alone =
         subst (AreReadyAlone new) (sym list_is)

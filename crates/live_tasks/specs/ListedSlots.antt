@@ -1,5 +1,6 @@
 -- The lists of ready tasks and of delays, and what is kept of waiting tasks, stand beside the live tasks.
 use Rattle.std.specs.Prelude.{◌≡◌, ℕ, List, Option, length}
+use Rattle.std.specs.BinaryHeap.{heap_items}
 use Rattle.effect_cells.specs.declared.effects.CellState.{CellState}
 use Rattle.live_tasks.specs.declared.listed_slots.ListedSlots.{ListedSlots}
 use Rattle.live_tasks.specs.declared.slots.Slot.{Slot}
@@ -14,11 +15,11 @@ slot_in tables number = slot_at tables.slots.slots number
 
 -- all that are ready are listed, and all delays
 abbrev pub ListsAll : ListedSlots → Type 0
-ListsAll tables = AreTasksListed tables.slots.slots tables.readies.items tables.delays
+ListsAll tables = AreTasksListed tables.slots.slots tables.readies.items (heap_items tables.delays)
 
 -- and only those that are ready
 abbrev pub ListsExactly : ListedSlots → Type 0
-ListsExactly tables = AreOnlyListed tables.slots.slots tables.readies.items tables.delays
+ListsExactly tables = AreOnlyListed tables.slots.slots tables.readies.items (heap_items tables.delays)
 
 -- the wake times that are kept are right, but for those that are to be found anew
 abbrev pub AreWaitsKept : ℕ → ℕ → List CellState → ListedSlots → Type 0

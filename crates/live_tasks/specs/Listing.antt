@@ -1,9 +1,10 @@
 -- Which of the live tasks are ready, and when the delays of the others end: lists by number.
-use Rattle.std.specs.Prelude.{◌≡◌, ℕ, ◌≤◌, ◌&&◌, ◌||◌, Bool, true, false, not, List, [], ◌∷◌, ◌++◌, Option, Some, None, nat_eq, is_some, if◌then◌else◌}
+use Rattle.std.specs.Prelude.{◌≡◌, ℕ, ◌&&◌, ◌||◌, Bool, true, false, not, List, [], ◌∷◌, ◌++◌, Option, Some, None, nat_eq, is_some, slice_get, if◌then◌else◌}
 use Rattle.std.specs.Ordering.{nat_cmp, ordering_then}
 use Rattle.std.specs.declared.cmp.Ordering.{Ordering}
-use Rattle.std.specs.BTreeSet as set
-use Rattle.std.specs.BTreeSet.{BTreeSet}
+use Rattle.std.specs.declared.cmp.Reverse.{Reverse}
+use Rattle.std.specs.BinaryHeap.{IsHeap}
+use Rattle.std.specs.List.{IsDistinct, list_any}
 use Rattle.run_data.specs.laws.NextTimes.{delay_in}
 use Rattle.run_data.specs.laws.ReadyTasks.{is_ready_phase}
 use Rattle.live_tasks.specs.declared.slots.Slot.{Slot}
@@ -55,53 +56,73 @@ AreReadyAlone slots numbers = (number : ℕ) → IsNumberAmong number numbers �
 
 -- ---- the ends of delays
 
--- by time, and by number where the times are the same
-abbrev pub delay_cmp : ℕ × ℕ → ℕ × ℕ → Ordering
-delay_cmp x y = ordering_then (nat_cmp x.0 y.0) (nat_cmp x.1 y.1)
+-- when a delay ends, and the number of its task; what ends first is the greatest, as a heap wants it
+abbrev pub DelayEnd : Type 0
+DelayEnd = Reverse (ℕ × ℕ)
 
-abbrev pub has_delay : BTreeSet (ℕ × ℕ) → ℕ → ℕ → Bool
-has_delay delays time number = set.contains delay_cmp delays (time, number)
+abbrev pub delay_end : ℕ → ℕ → DelayEnd
+delay_end time number = record { 0 = (time, number) }
+
+abbrev pub is_same_end : DelayEnd → DelayEnd → Bool
+is_same_end x y = nat_eq x.0.0 y.0.0 && nat_eq x.0.1 y.0.1
+
+-- by time, and by number where the times are the same
+abbrev pub end_cmp : DelayEnd → DelayEnd → Ordering
+end_cmp x y = ordering_then (nat_cmp y.0.0 x.0.0) (nat_cmp y.0.1 x.0.1)
+
+-- whether the end of a delay at a time stands there with a number
+abbrev pub has_delay : List DelayEnd → ℕ → ℕ → Bool
+has_delay ends time number = list_any (is_same_end (delay_end time number)) ends
 
 abbrev pub ends_at : ℕ → Option ℕ → Bool
 ends_at time None = false
 ends_at time (Some other) = nat_eq other time
 
+-- they are a heap, in which none comes twice
+pub record IsDelayHeap (ends : List DelayEnd) : Type 0 where
+  pub ordered : IsHeap end_cmp ends
+  pub once : IsDistinct is_same_end ends
+
 -- the end of each delay stands there with the number of its task, and nothing else does
-pub record AreDelays (slots : Slots) (delays : BTreeSet (ℕ × ℕ)) : Type 0 where
-  pub sorted : set.IsOrdered delay_cmp delays
-  pub exact : (time number : ℕ) → has_delay delays time number ≡ ends_at time (delay_of_slot (slot_at slots number))
+pub record AreDelays (slots : Slots) (ends : List DelayEnd) : Type 0 where
+  pub heap : IsDelayHeap ends
+  pub exact : (time number : ℕ) → has_delay ends time number ≡ ends_at time (delay_of_slot (slot_at slots number))
 
--- a change of the set leaves it in order
-abbrev pub KeepsSorted : BTreeSet (ℕ × ℕ) → BTreeSet (ℕ × ℕ) → Type 0
-KeepsSorted before after = set.IsOrdered delay_cmp before → set.IsOrdered delay_cmp after
+-- when the delay of a task ends, where that does not stand there already
+abbrev pub newly_delayed : Bool → Option Slot → Option ℕ
+newly_delayed true found = None
+newly_delayed false found = delay_of_slot found
 
--- the set with the end of one more delay
-abbrev pub HasDelayToo : ℕ → Option ℕ → BTreeSet (ℕ × ℕ) → BTreeSet (ℕ × ℕ) → Type 0
+-- with the end of one more delay
+abbrev pub HasDelayToo : ℕ → Option ℕ → List DelayEnd → List DelayEnd → Type 0
 HasDelayToo number delay before after =
     (t n : ℕ) → has_delay after t n ≡ (has_delay before t n || (nat_eq number n && ends_at t delay))
 
--- the set without the end of a delay at a time
-abbrev pub HasDelayNoMore : ℕ → ℕ → BTreeSet (ℕ × ℕ) → BTreeSet (ℕ × ℕ) → Type 0
+-- the end of a delay does not stand there with a number
+abbrev pub IsNewDelay : ℕ → Option ℕ → List DelayEnd → Type 0
+IsNewDelay number delay ends = (time : ℕ) → ends_at time delay ≡ true → has_delay ends time number ≡ false
+
+-- with one more that is new they stay a heap
+abbrev pub StaysHeap : ℕ → Option ℕ → List DelayEnd → List DelayEnd → Type 0
+StaysHeap number delay before after = IsNewDelay number delay before → IsDelayHeap before → IsDelayHeap after
+
+-- a delay that ends at a time is the first
+abbrev pub IsFirstEnd : ℕ → ℕ → List DelayEnd → Type 0
+IsFirstEnd time number ends = slice_get ends 0 ≡ Some (delay_end time number)
+
+-- without the end of a delay at a time
+abbrev pub HasDelayNoMore : ℕ → ℕ → List DelayEnd → List DelayEnd → Type 0
 HasDelayNoMore number time before after =
     (t n : ℕ) → has_delay after t n ≡ (has_delay before t n && not (nat_eq number n && nat_eq time t))
-
--- no delay ends before a time
-abbrev pub IsNoneBefore : ℕ → BTreeSet (ℕ × ℕ) → Type 0
-IsNoneBefore now delays = (time number : ℕ) → has_delay delays time number ≡ true → now ≤ time
-
--- the least end of a delay, if there is one
-abbrev pub IsLeastEnd : BTreeSet (ℕ × ℕ) → Option ℕ → Type 0
-IsLeastEnd delays None = (time number : ℕ) → has_delay delays time number ≡ false
-IsLeastEnd delays (Some time) = ((number : ℕ) × (has_delay delays time number ≡ true)) × IsNoneBefore time delays
 
 -- ---- both
 
 -- what is listed of the live tasks: all that are ready, and all delays
-pub record AreTasksListed (slots : Slots) (readies : List ℕ) (delays : BTreeSet (ℕ × ℕ)) : Type 0 where
+pub record AreTasksListed (slots : Slots) (readies : List ℕ) (ends : List DelayEnd) : Type 0 where
   pub readies_ : HaveAllReady slots readies
-  pub delays_ : AreDelays slots delays
+  pub delays_ : AreDelays slots ends
 
 -- and only those that are ready
-pub record AreOnlyListed (slots : Slots) (readies : List ℕ) (delays : BTreeSet (ℕ × ℕ)) : Type 0 where
-  pub all : AreTasksListed slots readies delays
+pub record AreOnlyListed (slots : Slots) (readies : List ℕ) (ends : List DelayEnd) : Type 0 where
+  pub all : AreTasksListed slots readies ends
   pub alone : AreReadyAlone slots readies

@@ -1,5 +1,7 @@
 -- Waits by number: who waits, since when, and when it wakes.
-use Rattle.std.specs.Prelude.{◌≡◌, ◌≢◌, ◌⊎◌, ℕ, ◌&&◌, Bool, true, false, not, nat_eq, List, ◌∷◌, Option, Some, None, option_map, slice_index_or, if◌then◌else◌}
+use Rattle.std.specs.Prelude.{◌≡◌, ◌≢◌, ◌⊎◌, ℕ, ◌&&◌, ◌||◌, Bool, true, false, not, nat_eq, List, ◌∷◌, Option, Some, None, option_map, slice_index_or, if◌then◌else◌}
+use Rattle.std.specs.Ordering.{nat_cmp, ordering_then}
+use Rattle.std.specs.declared.cmp.Ordering.{Ordering}
 use Rattle.std.specs.BTreeSet as set
 use Rattle.std.specs.BTreeSet.{BTreeSet}
 use Rattle.live_tasks.specs.declared.wake_times.Wake.{Wake}
@@ -8,7 +10,7 @@ use Rattle.live_tasks.specs.declared.wake_times.Wait.{Wait}
 use Rattle.live_tasks.specs.declared.wake_times.Watcher.{Watcher}
 use Rattle.live_tasks.specs.declared.wake_times.WakeTimes.{WakeTimes}
 use Rattle.live_tasks.specs.Endings.{IsNumberAmong}
-use Rattle.live_tasks.specs.Listing.{delay_cmp, has_delay, ends_at}
+use Rattle.live_tasks.specs.Listing.{ends_at}
 
 -- ---- one wait
 
@@ -47,6 +49,30 @@ with_wake wake wait = record wait { wake = wake }
 abbrev pub found_if : Option ℕ → Wait → Wait
 found_if time wait = if is_stale_wake wait.wake then with_wake (found_wake time) wait else wait
 
+-- ---- the set of wake times
+
+-- by time, and by number where the times are the same
+abbrev pub wake_cmp : ℕ × ℕ → ℕ × ℕ → Ordering
+wake_cmp x y = ordering_then (nat_cmp x.0 y.0) (nat_cmp x.1 y.1)
+
+-- whether a wake time stands there with a number
+abbrev pub has_wake : BTreeSet (ℕ × ℕ) → ℕ → ℕ → Bool
+has_wake wakes time number = set.contains wake_cmp wakes (time, number)
+
+-- a change leaves it in order
+abbrev pub KeepsSorted : BTreeSet (ℕ × ℕ) → BTreeSet (ℕ × ℕ) → Type 0
+KeepsSorted before after = set.IsOrdered wake_cmp before → set.IsOrdered wake_cmp after
+
+-- with the wake time of a number, if it has one
+abbrev pub HasWakeToo : ℕ → Option ℕ → BTreeSet (ℕ × ℕ) → BTreeSet (ℕ × ℕ) → Type 0
+HasWakeToo number time before after =
+    (t n : ℕ) → has_wake after t n ≡ (has_wake before t n || (nat_eq number n && ends_at t time))
+
+-- without it
+abbrev pub HasWakeNoMore : ℕ → Option ℕ → BTreeSet (ℕ × ℕ) → BTreeSet (ℕ × ℕ) → Type 0
+HasWakeNoMore number time before after =
+    (t n : ℕ) → has_wake after t n ≡ (has_wake before t n && not (nat_eq number n && ends_at t time))
+
 -- ---- all of them
 
 -- a wait stands at a number now, and at the others what stood there
@@ -56,14 +82,9 @@ pub record WaitBecomes (old new : List (Option Wait)) (number : ℕ) (found : Op
 
 -- each kept wake time stands in the set with its number, and nothing else does; whose wake time is stale is among these numbers
 pub record AreWakes (waits : List (Option Wait)) (wakes : BTreeSet (ℕ × ℕ)) (stale : List ℕ) : Type 0 where
-  pub sorted : set.IsOrdered delay_cmp wakes
-  pub exact : (time number : ℕ) → has_delay wakes time number ≡ ends_at time (kept_time (numbered_wait waits number))
+  pub sorted : set.IsOrdered wake_cmp wakes
+  pub exact : (time number : ℕ) → has_wake wakes time number ≡ ends_at time (kept_time (numbered_wait waits number))
   pub stale_ : (number : ℕ) → is_stale (numbered_wait waits number) ≡ true → IsNumberAmong number stale
-
--- the set without the wake time of a number
-abbrev pub HasWakeNoMore : ℕ → Option ℕ → BTreeSet (ℕ × ℕ) → BTreeSet (ℕ × ℕ) → Type 0
-HasWakeNoMore number time before after =
-    (t n : ℕ) → has_delay after t n ≡ (has_delay before t n && not (nat_eq number n && ends_at t time))
 
 abbrev pub AreWakesOf : WakeTimes → Type 0
 AreWakesOf times = AreWakes times.by_number.items times.wakes times.stale.items

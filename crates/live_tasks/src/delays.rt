@@ -1,47 +1,51 @@
-//! The ends of delays.
+//! The ends of delays: only the first of them is ever taken out, so they stand in a heap.
 
-ghost use Rattle.std.specs.Prelude.{◌≡◌, ◌<◌, ℕ, true, false, None, IfSome, OnOk};
-ghost use Rattle.std.specs.BTreeSet as set;
-ghost use Rattle.live_tasks.specs.Listing.{has_delay, HasDelayToo, HasDelayNoMore, IsNoneBefore, IsLeastEnd, KeepsSorted};
+ghost use Rattle.std.specs.Prelude.{◌≡◌, ◌<◌, ℕ, false, None, length, IfSome, OnOk};
+ghost use Rattle.std.specs.BinaryHeap.{heap_items};
+ghost use Rattle.live_tasks.specs.LeastTimes.{IsNoneBefore, IsLeastTime};
+ghost use Rattle.live_tasks.specs.Listing.{has_delay, IsDelayHeap, HasDelayToo, StaysHeap, IsFirstEnd, HasDelayNoMore};
 
 use crate::phases::micros;
 use aerie_base::{OutOfMemory, Time};
-use std::collections::BTreeSet;
+use std::alloc::Global;
+use std::cmp::Reverse;
+use std::collections::BinaryHeap;
 
-/// Puts the end of a delay among others with the number of its task, if there is one.
+/// No delay.
+pub fn no_delays(alloc: Global) -> BinaryHeap<Reverse<(u64, usize)>>
+    ensures none { (time number : ℕ) → has_delay (heap_items result) time number ≡ false }
+    ensures heap { IsDelayHeap (heap_items result) }
+{
+    BinaryHeap::new(alloc)
+}
+
+/// Puts the end of a delay, if there is one, among others with the number of its task.
 pub fn list_delay(
-    delays: &mut BTreeSet<(u64, usize)>,
+    delays: &mut BinaryHeap<Reverse<(u64, usize)>>,
     number: usize,
     delay: Option<u64>,
 ) -> Result<(), OutOfMemory>
-    ensures more { OnOk result (HasDelayToo number delay delays.old delays.new) }
-    ensures sorted { KeepsSorted delays.old delays.new }
+    ensures more { OnOk result (
+        HasDelayToo number delay (heap_items delays.old) (heap_items delays.new)) }
+    ensures heap { OnOk result (
+        StaysHeap number delay (heap_items delays.old) (heap_items delays.new)) }
 {
     let Some(time) = delay else {
         return Ok(());
     };
-    delays.insert((time, number))?;
+    delays.push(Reverse((time, number)))?;
     Ok(())
 }
 
-/// Takes the end of a delay at a time out of others.
-pub fn end_delay(delays: &mut BTreeSet<(u64, usize)>, number: usize, now: Time)
-    ensures less { HasDelayNoMore number now delays.old delays.new }
-    ensures fewer { has_delay delays.old now number ≡ true →
-        set.btree_set_len delays.new < set.btree_set_len delays.old }
-    ensures sorted { KeepsSorted delays.old delays.new }
-{
-    delays.remove(&(micros(now), number));
-}
-
 /// The number of a task whose delay ends at a time, where none ends earlier.
-pub fn first_due(delays: &BTreeSet<(u64, usize)>, now: Time) -> Option<usize>
-    ensures found { IfSome result (λ number. has_delay delays.now now number ≡ true) }
-    ensures none { result ≡ None → IsNoneBefore now delays.now →
-        (number : ℕ) → has_delay delays.now now number ≡ false }
+pub fn first_due(delays: &BinaryHeap<Reverse<(u64, usize)>>, now: Time) -> Option<usize>
+    requires { IsDelayHeap (heap_items delays.now) }
+    ensures found { IfSome result (λ number. IsFirstEnd now number (heap_items delays.now)) }
+    ensures none { result ≡ None → IsNoneBefore now (has_delay (heap_items delays.now)) →
+        (number : ℕ) → has_delay (heap_items delays.now) now number ≡ false }
 {
-    match delays.first() {
-        Some((time, number)) => {
+    match delays.peek() {
+        Some(Reverse((time, number))) => {
             if *time == micros(now) {
                 Some(*number)
             } else {
@@ -52,12 +56,25 @@ pub fn first_due(delays: &BTreeSet<(u64, usize)>, now: Time) -> Option<usize>
     }
 }
 
-/// The least end of a delay.
-pub fn least_end(delays: &BTreeSet<(u64, usize)>) -> Option<u64>
-    ensures { IsLeastEnd delays.now result }
+/// Takes the end of a delay that is the first out of others.
+pub fn end_first(delays: &mut BinaryHeap<Reverse<(u64, usize)>>)
+    requires { IsDelayHeap (heap_items delays.old) }
+    ensures less { (time number : ℕ) → IsFirstEnd time number (heap_items delays.old) →
+        HasDelayNoMore number time (heap_items delays.old) (heap_items delays.new) }
+    ensures fewer { (time number : ℕ) → IsFirstEnd time number (heap_items delays.old) →
+        length (heap_items delays.new) < length (heap_items delays.old) }
+    ensures heap { IsDelayHeap (heap_items delays.new) }
 {
-    match delays.first() {
-        Some((time, _)) => Some(*time),
+    delays.pop();
+}
+
+/// The least end of a delay.
+pub fn least_end(delays: &BinaryHeap<Reverse<(u64, usize)>>) -> Option<u64>
+    requires { IsDelayHeap (heap_items delays.now) }
+    ensures { IsLeastTime (has_delay (heap_items delays.now)) result }
+{
+    match delays.peek() {
+        Some(Reverse((time, _))) => Some(*time),
         None => None,
     }
 }

@@ -16,5 +16,6 @@ pub mod slots;
 pub mod tasks;
 pub mod waits;
 pub mod wake_times;
+pub mod wakes;
 pub mod waking;
 pub mod watchers;

@@ -1,17 +1,18 @@
 //! The live tasks by number, with lists of those that are ready and of the ends of delays.
 
-ghost use Rattle.std.specs.Prelude.{◌≡◌, ◌<◌, ◌+◌, ℕ, [], true, false, None, Some, IfOk, OnOk};
-ghost use Rattle.std.specs.BTreeSet as set;
+ghost use Rattle.std.specs.Prelude.{◌≡◌, ◌<◌, ◌+◌, ℕ, [], true, false, None, Some, length, IfOk, OnOk};
+ghost use Rattle.std.specs.BinaryHeap.{heap_items};
 ghost use Rattle.slab.specs.Slab.{slab_len};
 ghost use Rattle.run_data.specs.Tasks.{children_in, rested};
 ghost use Rattle.live_tasks.specs.Slots.{slot_at, Becomes, ChangesOne, IsForest};
 ghost use Rattle.live_tasks.specs.Readies.{AreReadyTasks, AreReadyNumbers};
 ghost use Rattle.live_tasks.specs.Endings.{slot_has_ended, slot_after_child_end, slot_when_due, slot_with_child, StepsOne, MayMake};
 ghost use Rattle.live_tasks.specs.Changes.{slot_changed, AreChanged};
-ghost use Rattle.live_tasks.specs.Listing.{is_ready_slot, delay_of_slot, is_newly_ready, listed_if, ready_among, has_delay, KeepsSorted, HasDelayToo, HasDelayNoMore, IsNoneBefore};
+ghost use Rattle.live_tasks.specs.Listing.{is_ready_slot, is_newly_ready, listed_if, ready_among, newly_delayed, has_delay, HasDelayToo, HasDelayNoMore, IsFirstEnd, StaysHeap};
+ghost use Rattle.live_tasks.specs.LeastTimes.{IsNoneBefore};
 ghost use Rattle.live_tasks.specs.ListedSlots.{ListsExactly, ListsAll, KeepsAll, KeepsExactly, KeepsWaits, AreWaitsKeptFor, slot_in};
 
-use crate::delays::{end_delay, first_due, list_delay};
+use crate::delays::{end_first, first_due, list_delay, no_delays};
 use crate::readies::{ReadyTask, in_order, numbers_of, of_numbers, rise};
 use crate::slots::{Slot, count, delay, fall_due, insert, is_ready, rest, step, take_out, tell};
 use crate::waits::{Waits, begin_wait};
@@ -19,7 +20,8 @@ use aerie_base::{Edge, OutOfMemory, Time, Value};
 use run_data::Frame;
 use slab::Slab;
 use std::alloc::Global;
-use std::collections::BTreeSet;
+use std::cmp::Reverse;
+use std::collections::BinaryHeap;
 
 /// The live tasks by number; the numbers of those that are ready, in no order; the ends of delays in microseconds, each with
 /// the number of its task; and what is kept of those that wait for conditions.
@@ -27,7 +29,7 @@ use std::collections::BTreeSet;
 pub struct ListedSlots {
     pub slots: Slab<Slot>,
     pub readies: Vec<usize>,
-    pub delays: BTreeSet<(u64, usize)>,
+    pub delays: BinaryHeap<Reverse<(u64, usize)>>,
     pub waits: Waits,
 }
 
@@ -60,25 +62,30 @@ impl ListedSlots {
         Ok(ListedSlots {
             slots,
             readies: Vec::new(alloc),
-            delays: BTreeSet::new(alloc),
+            delays: no_delays(alloc),
             waits,
         })
     }
 
-    /// Lists the task of a number as it is now; it may have been ready before.
-    fn list(&mut self, number: usize, was_ready: bool) -> Result<(), OutOfMemory>
+    /// Lists the task of a number as it is now; it may have been listed as ready before, and the end of its delay too.
+    fn list(&mut self, number: usize, was_ready: bool, was_delayed: bool) -> Result<(), OutOfMemory>
         ensures slots { self.new.slots ≡ self.old.slots }
         ensures readies { OnOk result (self.new.readies.items
             ≡ listed_if (is_newly_ready was_ready (slot_in self.old number)) number self.old.readies.items) }
         ensures delays { OnOk result (
-            HasDelayToo number (delay_of_slot (slot_in self.old number)) self.old.delays self.new.delays) }
-        ensures sorted { OnOk result (KeepsSorted self.old.delays self.new.delays) }
+            HasDelayToo number (newly_delayed was_delayed (slot_in self.old number))
+            (heap_items self.old.delays) (heap_items self.new.delays)) }
+        ensures heap { OnOk result (
+            StaysHeap number (newly_delayed was_delayed (slot_in self.old number))
+            (heap_items self.old.delays) (heap_items self.new.delays)) }
         ensures waits { self.new.waits ≡ self.old.waits }
     {
         let is_new = is_ready(&self.slots, number) && !was_ready;
         push_if(&mut self.readies, number, is_new)?;
-        let end = delay(&self.slots, number);
-        list_delay(&mut self.delays, number, end)?;
+        if !was_delayed {
+            let end = delay(&self.slots, number);
+            list_delay(&mut self.delays, number, end)?;
+        }
         Ok(())
     }
 
@@ -97,7 +104,7 @@ impl ListedSlots {
         ensures waits { OnOk result (KeepsWaits self.old self.new) }
     {
         step(&mut self.slots, alloc, now, number, frame)?;
-        self.list(number, true)?;
+        self.list(number, true, false)?;
         begin_wait(&mut self.waits, &self.slots, number)?;
         Ok(())
     }
@@ -111,7 +118,7 @@ impl ListedSlots {
         ensures waits { OnOk result (KeepsWaits self.old self.new) }
     {
         let number = insert(&mut self.slots, slot)?;
-        self.list(number, false)?;
+        self.list(number, false, false)?;
         begin_wait(&mut self.waits, &self.slots, number)?;
         Ok(number)
     }
@@ -165,7 +172,8 @@ impl ListedSlots {
     {
         let was_ready = is_ready(&self.slots, number);
         tell(&mut self.slots, alloc, number, own, value)?;
-        self.list(number, was_ready)?;
+        // a child's end neither begins nor ends a delay
+        self.list(number, was_ready, true)?;
         Ok(())
     }
 
@@ -184,32 +192,33 @@ impl ListedSlots {
         ensures waits { OnOk result (KeepsWaits self.old self.new) }
     {
         let was_ready = is_ready(&self.slots, number);
+        let was_delayed = delay(&self.slots, number).is_some();
         fall_due(&mut self.slots, number, now, to, edge);
-        self.list(number, was_ready)?;
+        self.list(number, was_ready, was_delayed)?;
         Ok(())
     }
 
-    /// The task of a number, whose delay ends at a time, goes on.
+    /// The task of a number, whose delay ends at a time and is the first, goes on.
     fn resume(&mut self, number: usize, now: Time) -> Result<(), OutOfMemory>
-        requires due { has_delay self.old.delays now number ≡ true }
+        requires due { IsFirstEnd now number (heap_items self.old.delays) }
         requires listed { ListsExactly self.old }
         ensures is { OnOk result (
             ChangesOne (slot_changed (rested now)) self.old.slots.slots self.new.slots.slots number) }
         ensures length { slab_len self.new.slots ≡ slab_len self.old.slots }
-        ensures less { HasDelayNoMore number now self.old.delays self.new.delays }
-        ensures fewer { set.btree_set_len self.new.delays < set.btree_set_len self.old.delays }
+        ensures less { HasDelayNoMore number now (heap_items self.old.delays) (heap_items self.new.delays) }
+        ensures fewer { length (heap_items self.new.delays) < length (heap_items self.old.delays) }
         ensures listed { OnOk result (ListsExactly self.new) }
         ensures waits { OnOk result (KeepsWaits self.old self.new) }
     {
         rest(&mut self.slots, number, now);
-        end_delay(&mut self.delays, number, now);
+        end_first(&mut self.delays);
         push_if(&mut self.readies, number, true)?;
         Ok(())
     }
 
     /// All go on whose delay ends at a time; none ends earlier.
     pub fn rest(&mut self, now: Time) -> Result<(), OutOfMemory>
-        requires none_before { IsNoneBefore now self.old.delays }
+        requires none_before { IsNoneBefore now (has_delay (heap_items self.old.delays)) }
         requires listed { ListsExactly self.old }
         ensures are { OnOk result (AreChanged (rested now) self.old.slots.slots self.new.slots.slots) }
         ensures length { OnOk result (slab_len self.new.slots ≡ slab_len self.old.slots) }

@@ -3,10 +3,9 @@
 ghost use Rattle.std.specs.Prelude.{◌≡◌, ℕ, ◌<◌, ◌++◌, ◌∷◌, [], true, false, None, Some, length, IfOk, OnOk, IfSome, option_map};
 ghost use Rattle.std.specs.BTreeSet as set;
 ghost use Rattle.live_tasks.specs.declared.wake_times.Wake.TheVariants.{Stale};
-ghost use Rattle.live_tasks.specs.Listing.{delay_cmp, has_delay};
-ghost use Rattle.live_tasks.specs.WakeTimes.{numbered_wait, time_of_wake, is_stale_wake, is_stale, found_wake, found_if, with_wake, WaitBecomes, AreWakesOf, AreWakesBut, is_current, MayGoStale, HasWakeNoMore};
+ghost use Rattle.live_tasks.specs.WakeTimes.{numbered_wait, time_of_wake, is_stale_wake, is_stale, found_wake, found_if, with_wake, WaitBecomes, AreWakesOf, AreWakesBut, is_current, MayGoStale, has_wake};
 
-use crate::delays::{end_delay, list_delay};
+use crate::wakes::{end_wake, leave_out, list_wake};
 use aerie_base::{OutOfMemory, Time};
 use std::alloc::Global;
 use std::collections::BTreeSet;
@@ -87,17 +86,6 @@ fn numbered_wait(waits: &[Option<Wait>], number: usize) -> Option<Wait>
     }
 }
 
-/// Takes a wake time out of others, if there is one.
-fn leave_out(wakes: &mut BTreeSet<(u64, usize)>, number: usize, time: Option<u64>)
-    ensures less { HasWakeNoMore number time wakes.old wakes.new }
-    ensures sorted { set.IsOrdered delay_cmp wakes.old → set.IsOrdered delay_cmp wakes.new }
-{
-    let Some(time) = time else {
-        return;
-    };
-    wakes.remove(&(time, number));
-}
-
 /// Another wait for a number, or none.
 fn put(waits: &mut Vec<Option<Wait>>, number: usize, wait: Option<Wait>)
     requires { number < length waits.old.items }
@@ -156,12 +144,12 @@ impl WakeTimes {
     pub fn end(&mut self, number: usize, now: Time)
         ensures wait { WaitBecomes self.old.by_number.items self.new.by_number.items number None }
         ensures stale { self.new.stale ≡ self.old.stale }
-        ensures wakes { has_delay self.old.wakes now number ≡ true
+        ensures wakes { has_wake self.old.wakes now number ≡ true
             → AreWakesOf self.old → AreWakesOf self.new }
-        ensures fewer { has_delay self.old.wakes now number ≡ true
+        ensures fewer { has_wake self.old.wakes now number ≡ true
             → set.btree_set_len self.new.wakes < set.btree_set_len self.old.wakes }
     {
-        end_delay(&mut self.wakes, number, now);
+        end_wake(&mut self.wakes, number, now);
         if number < self.by_number.len() {
             put(&mut self.by_number, number, None);
         }
@@ -229,7 +217,7 @@ impl WakeTimes {
         if !wait.wake.is_stale() {
             return Ok(());
         }
-        list_delay(&mut self.wakes, number, time)?;
+        list_wake(&mut self.wakes, number, time)?;
         let wait = Wait {
             since: wait.since,
             wake: Wake::found(time),

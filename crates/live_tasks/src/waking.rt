@@ -8,19 +8,19 @@ ghost use Rattle.run_data.specs.Tasks.{on_each, woken};
 ghost use Rattle.live_tasks.specs.Changes.{slot_changed, AreChanged};
 ghost use Rattle.live_tasks.specs.Conditions.{condition_at, wake_for, MayBeSolved};
 ghost use Rattle.live_tasks.specs.ListedSlots.{ListsExactly, AreWaitsKept, AreWaitsFound};
-ghost use Rattle.live_tasks.specs.Listing.{has_delay};
 ghost use Rattle.live_tasks.specs.Phases.{after_wait};
 ghost use Rattle.live_tasks.specs.Slots.{slot_at, Becomes};
 ghost use Rattle.live_tasks.specs.InStep.{table_in, IsInStep};
 ghost use Rattle.live_tasks.specs.Waits.{IsKept, IsFound, EndsWait};
+ghost use Rattle.live_tasks.specs.WakeTimes.{has_wake};
 ghost use Rattle.live_tasks.specs.Waking.{AreKept, AreFound, AreSolvable, WakesPass, IsLeastWake};
 
-use crate::delays::{first_due, least_end};
 use crate::listed_slots::ListedSlots;
 use crate::phases::micros;
 use crate::slots::{Slot, wake};
 use crate::tasks::LiveTasks;
 use crate::waits::{Waits, condition_of};
+use crate::wakes::{first_waking, least_wake};
 use aerie_base::{OutOfMemory, Time};
 use effect_cells::{Cells, kept_wake_times_stay, waiting_depends_on_cells_read};
 use slab::Slab;
@@ -69,7 +69,7 @@ fn solve_all(
 impl ListedSlots {
     /// The task of a number, whose wake time is now, goes on.
     fn wake(&mut self, number: usize, now: Time) -> Result<(), OutOfMemory>
-        requires due { has_delay self.old.waits.times.wakes now number ≡ true }
+        requires due { has_wake self.old.waits.times.wakes now number ≡ true }
         requires waits { is_some (condition_at self.old.slots.slots number) ≡ true }
         requires listed { ListsExactly self.old }
         ensures is { OnOk result (Becomes self.old.slots.slots self.new.slots.slots number
@@ -98,7 +98,7 @@ impl ListedSlots {
     {
         waiting_depends_on_cells_read();
         solve_all(&mut self.waits, &self.slots, now, horizon, cells)?;
-        while let Some(number) = first_due(&self.waits.times.wakes, now) {
+        while let Some(number) = first_waking(&self.waits.times.wakes, now) {
             self.wake(number, now)?;
         }
         Ok(())
@@ -127,7 +127,7 @@ impl LiveTasks {
         requires { IsInStep self.now }
         ensures { IsLeastWake self.now result }
     {
-        least_end(&self.tables.waits.times.wakes)
+        least_wake(&self.tables.waits.times.wakes)
     }
 }
 

@@ -1,10 +1,7 @@
 use Rattle.std.proofs.Common.{sym, ◌∙◌}
-use Rattle.live_tasks.proofs.DelaySets.{none_there, none_at_all, empty_from_length}
+use Rattle.live_tasks.proofs.DelayHeaps.{none_now, at_first}
 use Rattle.live_tasks.proofs.delays.first_due.Goals as goal
 
 pub returns-else-time-micros-clause-none : goal.returns-else-time-micros-clause-none
-returns-else-time-micros-clause-none c = λ none before number.
-    none_there _ _ _ _ c.in-Some.ensures.member c.in-Some.ensures.least (λ e. c.if-time-micros.false (e ∙ sym c.micros.ensures.value)) before number
-
-pub returns-in-None-clause-none : goal.returns-in-None-clause-none
-returns-in-None-clause-none c = λ none before number. none_at_all _ (empty_from_length _ c.in-None.ensures.variant.1) _ number
+returns-else-time-micros-clause-none c = λ _.
+    none_now _ _ _ (at_first _ c.in-Some.field-0.now c.in-Some.ensures.item.0 c.in-Some.ensures.item.1) (c.in-Some.ensures.greatest c.requires.ordered) (λ e. c.if-time-micros.false (e ∙ sym c.micros.ensures.value))

@@ -1,4 +1,5 @@
 use Rattle.std.proofs.Common.{sym, subst, ap, ◌∙◌}
+use Rattle.std.specs.BinaryHeap.{heap_items}
 use Rattle.live_tasks.specs.Listing.{AreOnlyListed}
 use Rattle.live_tasks.specs.Readies.{entries_at, AreReadyNumbers, numbers_of_tasks}
 use Rattle.run_data.specs.laws.OrderedTables.{IsOrderedTable}
@@ -18,7 +19,7 @@ pub returns-clause-listed : goal.returns-clause-listed
 returns-clause-listed c =
     let ready = c.in_ok-sorted.ensures.numbers in
     let numbers = numbers_of_tasks c.in_ok-sorted.sorted.items in
-    subst (λ n. AreOnlyListed c.args.self.now.slots.slots n c.args.self.now.delays) (sym (c.in_ok-numbers.ensures ∙ ap numbers_of_tasks c.as_slice-2.ensures.value))
+    subst (λ n. AreOnlyListed c.args.self.now.slots.slots n (heap_items c.args.self.now.delays)) (sym (c.in_ok-numbers.ensures ∙ ap numbers_of_tasks c.as_slice-2.ensures.value))
     (record {
       all = record { readies_ = numbers_all c.args.self.now.slots.slots numbers ready; delays_ = c.requires.listed.all.delays_ };
       alone = numbers_alone c.args.self.now.slots.slots numbers ready;

@@ -1,4 +1,5 @@
-use Rattle.std.proofs.Common.{ap, option_map}
+use Rattle.std.proofs.Common.{true, ap, sym, option_map}
+use Rattle.std.proofs.lemmas.Bool.{false≢true}
 use Rattle.live_tasks.specs.Endings.{slot_after_child_end}
 use Rattle.live_tasks.specs.Slots.{slot_at}
 use Rattle.live_tasks.proofs.ListedNumbers.{alone_listed}
@@ -8,8 +9,8 @@ use Rattle.live_tasks.proofs.listed_slots.ListedSlots.tell.Goals as goal
 
 pub returns-clause-listed : goal.returns-clause-listed
 returns-clause-listed c listed =
-    alone_listed _ _ _ c.args.number (option_map (slot_after_child_end c.args.own c.args.value) (slot_at c.args.self.now.slots.slots c.args.number)) c.is_ready-was_ready.result _ _ _ _ c.in_ok-tell.ensures.is (some_map _ _) (told_delay c.args.own c.args.value _)
-    (ap (λ s. s.slots) c.list.ensures.slots) c.in_ok-list.ensures.readies c.in_ok-list.ensures.delays c.in_ok-list.ensures.sorted c.is_ready-was_ready.ensures (told_ready c.args.own c.args.value _) listed
+    alone_listed _ _ _ c.args.number (option_map (slot_after_child_end c.args.own c.args.value) (slot_at c.args.self.now.slots.slots c.args.number)) c.is_ready-was_ready.result true _ _ _ _ c.in_ok-tell.ensures.is (some_map _ _)
+    (λ e. absurd (false≢true (sym e))) (λ e. told_delay c.args.own c.args.value _) (ap (λ s. s.slots) c.list.ensures.slots) c.in_ok-list.ensures.readies c.in_ok-list.ensures.delays c.in_ok-list.ensures.heap c.is_ready-was_ready.ensures (told_ready c.args.own c.args.value _) listed
 
 pub returns-clause-waits : goal.returns-clause-waits
 returns-clause-waits c =

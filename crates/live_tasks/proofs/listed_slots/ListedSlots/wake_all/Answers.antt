@@ -24,5 +24,5 @@ pub returns-clause-are : goal.returns-clause-are
 returns-clause-are c =
     all_woken c.waiting_depends_on_cells_read.ensures.now c.args.now c.args.horizon c.args.cells.now c.requires.horizon c.args.self.now.slots.slots c.loop-number.self.slots.slots c.loop-number.self.waits
     c.loop-number.invariant.1 c.loop-number.invariant.0
-    (c.first_due.ensures.none (next_none c.first_due.result c.in_default.not-Some)
+    (c.first_waking.ensures.none (next_none c.first_waking.result c.in_default.not-Some)
     (none_before_now c.args.now c.args.horizon c.args.cells.now (condition_at c.loop-number.self.slots.slots) c.loop-number.self.waits c.loop-number.invariant.1))

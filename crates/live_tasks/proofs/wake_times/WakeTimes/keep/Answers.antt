@@ -8,6 +8,6 @@ returns-clause-wakes c = λ are.
     let was = ap (λ waits. numbered_wait waits c.args.number) (sym c.as_slice.ensures.value) ∙ sym c.numbered_wait.ensures ∙ c.in-Some.is in
     let stale = sym c.is_stale.ensures ∙ c.if-not-is_stale.false in
     wakes_kept c.args.self.now.by_number.items c.put.new.waits.items c.args.number _ (record { is_there = c.put.ensures.is_there; others = c.put.ensures.others }) c.args.self.now.wakes
-    c.list_delay.new.delays c.args.self.now.stale.items are c.args.time (ap kept_time was ∙ stale_no_time c.in-Some.wait.wake stale)
+    c.list_wake.new.wakes c.args.self.now.stale.items are c.args.time (ap kept_time was ∙ stale_no_time c.in-Some.wait.wake stale)
     (ap time_of_wake c.found.ensures ∙ found_time c.in-Some.wait c.args.time) (ap is_stale_wake c.found.ensures ∙ found_fresh c.in-Some.wait c.args.time)
-    c.in_ok-list_delay.ensures.more c.list_delay.ensures.sorted
+    c.in_ok-list_wake.ensures.more c.list_wake.ensures.sorted

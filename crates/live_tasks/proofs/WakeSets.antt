@@ -1,4 +1,4 @@
--- The set of the ends of delays.
+-- The set of the wake times that are kept.
 use Rattle.std.proofs.Common.{◌≡◌, ℕ, ◌<◌, ◌≤◌, Bool, true, false, cond, not, ◌&&◌, ◌||◌, List, [], ◌∷◌, length, Option, Some, refl, ap, ◌∙◌, arith, nat_eq}
 use Rattle.std.proofs.lemmas.Bool.Decides.{nat_tests}
 use Rattle.std.specs.declared.cmp.Ordering.{Ordering}
@@ -7,7 +7,9 @@ use Rattle.std.specs.Ordering.{nat_cmp, is_eq, is_gt, ordering_then}
 use Rattle.std.specs.BTreeMap.{is_at}
 use Rattle.std.specs.BTreeSet as set
 use Rattle.std.specs.BTreeSet.{BTreeSet}
-use Rattle.live_tasks.specs.Listing.{delay_cmp, has_delay, ends_at, IsNoneBefore, IsLeastEnd}
+use Rattle.live_tasks.specs.LeastTimes.{IsNoneBefore, IsLeastTime}
+use Rattle.live_tasks.specs.Listing.{ends_at}
+use Rattle.live_tasks.specs.WakeTimes.{wake_cmp, has_wake}
 
 then_eq : (a b : Ordering) → is_eq (ordering_then a b) ≡ (is_eq a && is_eq b)
 then_eq Less b = refl
@@ -17,7 +19,7 @@ then_eq Greater b = refl
 eq_nat : (a b : ℕ) → is_eq (nat_cmp a b) ≡ nat_eq a b
 eq_nat a b = grind (arith, nat_tests)
 
-pub here : (time number t n : ℕ) → is_at (delay_cmp (time, number)) (t, n) ≡ (nat_eq time t && nat_eq number n)
+pub here : (time number t n : ℕ) → is_at (wake_cmp (time, number)) (t, n) ≡ (nat_eq time t && nat_eq number n)
 here time number t n = then_eq (nat_cmp time t) (nat_cmp number n) ∙ rw (eq_nat time t, eq_nat number n) refl
 
 added : (n m x : Bool) → cond (n && m) true x ≡ (x || (m && n))
@@ -30,10 +32,10 @@ added false true false = refl
 added false false true = refl
 added false false false = refl
 
-pub put_in : (before after : BTreeSet (ℕ × ℕ)) (until number : ℕ) (delay : Option ℕ) → delay ≡ Some until → set.Updates delay_cmp before after (until, number) true →
-    (t n : ℕ) → has_delay after t n ≡ (has_delay before t n || (nat_eq number n && ends_at t delay))
-put_in before after until number delay e updates t n =
-    rw e (updates.0 (t, n) ∙ ap (λ b. cond b true (has_delay before t n)) (here until number t n) ∙ added (nat_eq until t) (nat_eq number n) (has_delay before t n))
+pub put_in : (before after : BTreeSet (ℕ × ℕ)) (until number : ℕ) (time : Option ℕ) → time ≡ Some until → set.Updates wake_cmp before after (until, number) true →
+    (t n : ℕ) → has_wake after t n ≡ (has_wake before t n || (nat_eq number n && ends_at t time))
+put_in before after until number time e updates t n =
+    rw e (updates.0 (t, n) ∙ ap (λ b. cond b true (has_wake before t n)) (here until number t n) ∙ added (nat_eq until t) (nat_eq number n) (has_wake before t n))
 
 removed : (n m x : Bool) → cond (n && m) false x ≡ (x && not (m && n))
 removed true true true = refl
@@ -45,10 +47,10 @@ removed false true false = refl
 removed false false true = refl
 removed false false false = refl
 
-pub taken_out : (before after : BTreeSet (ℕ × ℕ)) (until number : ℕ) → set.Updates delay_cmp before after (until, number) false →
-    (t n : ℕ) → has_delay after t n ≡ (has_delay before t n && not (nat_eq number n && nat_eq until t))
+pub taken_out : (before after : BTreeSet (ℕ × ℕ)) (until number : ℕ) → set.Updates wake_cmp before after (until, number) false →
+    (t n : ℕ) → has_wake after t n ≡ (has_wake before t n && not (nat_eq number n && nat_eq until t))
 taken_out before after until number updates t n =
-    updates.0 (t, n) ∙ ap (λ b. cond b false (has_delay before t n)) (here until number t n) ∙ removed (nat_eq until t) (nat_eq number n) (has_delay before t n)
+    updates.0 (t, n) ∙ ap (λ b. cond b false (has_wake before t n)) (here until number t n) ∙ removed (nat_eq until t) (nat_eq number n) (has_wake before t n)
 
 -- ---- the first
 
@@ -60,11 +62,11 @@ not_above a b o h = go (nat_cmp a b) refl h
     go Equal x y = grind (arith, nat_tests)
     go Greater x y = absurd (cc)
 
-pub none_there : (delays : BTreeSet (ℕ × ℕ)) (now t n : ℕ) → has_delay delays t n ≡ true → set.IsLowerBound delay_cmp delays (t, n) → (t ≡ now → ⊥) → IsNoneBefore now delays →
-    (number : ℕ) → has_delay delays now number ≡ false
-none_there delays now t n has low apart none number = by (has_delay delays now number) refl
+pub none_there : (wakes : BTreeSet (ℕ × ℕ)) (now t n : ℕ) → has_wake wakes t n ≡ true → set.IsLowerBound wake_cmp wakes (t, n) → (t ≡ now → ⊥) → IsNoneBefore now (has_wake wakes) →
+    (number : ℕ) → has_wake wakes now number ≡ false
+none_there wakes now t n has low apart none number = by (has_wake wakes now number) refl
   where
-    by : (b : Bool) → has_delay delays now number ≡ b → b ≡ false
+    by : (b : Bool) → has_wake wakes now number ≡ b → b ≡ false
     by false e = refl
     by true e =
         let below = not_above t now (nat_cmp n number) (low (now, number) e) in
@@ -72,11 +74,11 @@ none_there delays now t n has low apart none number = by (has_delay delays now n
         absurd (apart (omega (arith, below, above)))
 
 -- none ends before the first
-pub first_is_least : (delays : BTreeSet (ℕ × ℕ)) (t n : ℕ) → has_delay delays t n ≡ true → set.IsLowerBound delay_cmp delays (t, n) → IsLeastEnd delays (Some t)
-first_is_least delays t n has low = ((n, has), λ time number e. not_above t time (nat_cmp n number) (low (time, number) e))
+pub first_is_least : (wakes : BTreeSet (ℕ × ℕ)) (t n : ℕ) → has_wake wakes t n ≡ true → set.IsLowerBound wake_cmp wakes (t, n) → IsLeastTime (has_wake wakes) (Some t)
+first_is_least wakes t n has low = ((n, has), λ time number e. not_above t time (nat_cmp n number) (low (time, number) e))
 
-pub none_at_all : (delays : BTreeSet (ℕ × ℕ)) → delays.keys ≡ [] → (time number : ℕ) → has_delay delays time number ≡ false
-none_at_all delays e time number = rw e refl
+pub none_at_all : (wakes : BTreeSet (ℕ × ℕ)) → wakes.keys ≡ [] → (time number : ℕ) → has_wake wakes time number ≡ false
+none_at_all wakes e time number = rw e refl
 
 pub empty_from_length : {X : Type 0} (xs : List X) → (0 < length xs → false ≡ true) → xs ≡ []
 empty_from_length [] h = refl
