@@ -42,3 +42,10 @@ mod PlannedAll
 mod LiveItself
 mod KeepsWaits
 mod WakingTasks
+mod GatheredDelays
+mod LeftOut
+mod CopiedTasks
+mod JoinedTasks
+mod JoinedAll
+mod CommonLeft
+mod ExchangedLive

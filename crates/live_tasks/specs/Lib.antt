@@ -20,5 +20,8 @@ pub mod FrameOrders
 pub mod BatchOrigins
 pub mod InStep
 pub mod PlannedTasks
+pub mod LeftOut
+pub mod Exchanging
+pub mod Joining
 pub mod WaitCases
 pub mod Cases

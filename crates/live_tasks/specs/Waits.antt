@@ -64,3 +64,8 @@ pub record IsTouched (touched : List ℕ) (old new : Waits) : Type 0 where
       IsWatcherAmong watcher (watchers_of old.watchers cell) → IsWatcherAmong watcher (watchers_of new.watchers cell)
   pub stale : (cell : ℕ) (watcher : Watcher) → is_cell_among cell touched ≡ true → is_current old.times.by_number.items watcher ≡ true →
       IsWatcherAmong watcher (watchers_of old.watchers cell) → is_stale (wait_of new watcher.number) ≡ true
+
+-- wherever one is right, whatever the tasks, the other is
+abbrev pub KeepsRight : Waits → Waits → Type 0
+KeepsRight old new =
+    (now horizon : ℕ) (cells : List CellState) (conditions : ℕ → Option Cond) → IsKept now horizon cells conditions old → IsKept now horizon cells conditions new

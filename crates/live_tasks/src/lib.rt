@@ -4,6 +4,7 @@
 pub mod batch_origins;
 pub mod beginnings;
 pub mod delays;
+pub mod exchanging;
 pub mod followers;
 pub mod listed_slots;
 pub mod origins;

@@ -7,14 +7,18 @@ ghost use Rattle.run_data.specs.Tasks.{children_in, rested};
 ghost use Rattle.live_tasks.specs.Slots.{slot_at, Becomes, ChangesOne, IsForest};
 ghost use Rattle.live_tasks.specs.Readies.{AreReadyTasks, AreReadyNumbers};
 ghost use Rattle.live_tasks.specs.Endings.{slot_has_ended, slot_after_child_end, slot_when_due, slot_with_child, StepsOne, MayMake};
+ghost use Rattle.parting.specs.IdRanges.{is_id_between};
+ghost use Rattle.live_tasks.specs.LeftOut.{AreCommon, AreIdle};
 ghost use Rattle.live_tasks.specs.Changes.{slot_changed, AreChanged};
-ghost use Rattle.live_tasks.specs.Listing.{is_ready_slot, is_newly_ready, listed_if, ready_among, newly_delayed, has_delay, HasDelayToo, HasDelayNoMore, IsFirstEnd, StaysHeap};
+ghost use Rattle.live_tasks.specs.Listing.{is_ready_slot, is_newly_ready, listed_if, ready_among, newly_delayed, has_delay, HasDelayToo, HasDelayNoMore, IsFirstEnd, StaysHeap, AreDelays};
 ghost use Rattle.live_tasks.specs.LeastTimes.{IsNoneBefore};
 ghost use Rattle.live_tasks.specs.ListedSlots.{ListsExactly, ListsAll, KeepsAll, KeepsExactly, KeepsWaits, AreWaitsKeptFor, slot_in};
 
 use crate::delays::{end_first, first_due, list_delay, no_delays};
 use crate::readies::{ReadyTask, in_order, numbers_of, of_numbers, rise};
-use crate::slots::{Slot, count, delay, fall_due, insert, is_ready, rest, step, take_out, tell};
+use crate::slots::{
+    Slot, count, delay, fall_due, insert, is_ready, leave_out, rest, step, take_out, tell,
+};
 use crate::waits::{Waits, begin_wait};
 use aerie_base::{Edge, OutOfMemory, Time, Value};
 use run_data::Frame;
@@ -43,6 +47,21 @@ fn push_if(numbers: &mut Vec<usize>, number: usize, listed: bool) -> Result<(), 
     Ok(())
 }
 
+/// The ends of the delays of all tasks.
+fn delays_of(
+    alloc: Global,
+    slots: &Slab<Slot>,
+) -> Result<BinaryHeap<Reverse<(u64, usize)>>, OutOfMemory>
+    ensures { IfOk result (λ delays. AreDelays slots.now.slots (heap_items delays)) }
+{
+    let mut delays = no_delays(alloc);
+    for number in 0..slots.capacity() {
+        let end = delay(slots, number);
+        list_delay(&mut delays, number, end)?;
+    }
+    Ok(delays)
+}
+
 /// Of some numbers those of ready tasks are left.
 fn keep_ready(slots: &Slab<Slot>, numbers: &mut Vec<usize>)
     ensures { numbers.new.items ≡ ready_among slots.now.slots numbers.old.items }
@@ -65,6 +84,40 @@ impl ListedSlots {
             delays: no_delays(alloc),
             waits,
         })
+    }
+
+    /// The same once more.
+    pub fn copy(&self, alloc: Global) -> Result<ListedSlots, OutOfMemory>
+        requires { ListsExactly self.now }
+        ensures slots { IfOk result (λ copy. copy.slots.slots ≡ self.now.slots.slots) }
+        ensures listed { IfOk result ListsExactly }
+        ensures waits { IfOk result (KeepsWaits self.now) }
+    {
+        let slots = self.slots.clone()?;
+        let readies = Vec::from_slice(alloc, self.readies.as_slice())?;
+        let delays = delays_of(alloc, &slots)?;
+        let waits = self.waits.copy(alloc)?;
+        Ok(ListedSlots {
+            slots,
+            readies,
+            delays,
+            waits,
+        })
+    }
+
+    /// Takes the tasks of the directives of a range of ids out, none of whom is ready or waits.
+    pub fn leave_out(&mut self, alloc: Global, first: u32, past: u64) -> Result<(), OutOfMemory>
+        requires listed { ListsExactly self.old }
+        requires idle { AreIdle (is_id_between first past) self.old.slots.slots }
+        ensures is { OnOk result (
+            AreCommon (is_id_between first past) self.old.slots.slots self.new.slots.slots) }
+        ensures listed { OnOk result (ListsExactly self.new) }
+        ensures waits { OnOk result (KeepsWaits self.old self.new) }
+    {
+        leave_out(&mut self.slots, first, past);
+        let delays = delays_of(alloc, &self.slots)?;
+        self.delays = delays;
+        Ok(())
     }
 
     /// Lists the task of a number as it is now; it may have been listed as ready before, and the end of its delay too.

@@ -161,7 +161,58 @@ fn magnitude(by: Number) -> u64
     by.get().unsigned_abs()
 }
 
+impl LivePhase {
+    /// The same once more; its state and its condition have one more owner.
+    fn copy(&self) -> Result<LivePhase, OutOfMemory>
+        ensures { IfOk result (λ copy. copy ≡ self.now) }
+    {
+        match self {
+            LivePhase::Anchored {
+                to,
+                edge,
+                start,
+                state,
+            } => Ok(LivePhase::Anchored {
+                to: *to,
+                edge: *edge,
+                start: *start,
+                state: state.share()?,
+            }),
+            LivePhase::Ready(state) => Ok(LivePhase::Ready(state.share()?)),
+            LivePhase::Delayed { until, state } => Ok(LivePhase::Delayed {
+                until: *until,
+                state: state.share()?,
+            }),
+            LivePhase::Waiting { condition, state } => {
+                let condition = condition.share()?;
+                Ok(LivePhase::Waiting {
+                    condition,
+                    state: state.share()?,
+                })
+            }
+            LivePhase::Calling { child, into, state } => Ok(LivePhase::Calling {
+                child: *child,
+                into: *into,
+                state: state.share()?,
+            }),
+            LivePhase::Over(result) => Ok(LivePhase::Over(*result)),
+        }
+    }
+}
+
 impl LiveTask {
+    /// The same task once more.
+    pub fn copy(&self) -> Result<LiveTask, OutOfMemory>
+        ensures { IfOk result (λ copy. copy ≡ self.now) }
+    {
+        let phase = self.phase.copy()?;
+        Ok(LiveTask {
+            phase,
+            made: self.made,
+            begun: self.begun,
+        })
+    }
+
     /// A task that does this, has made so many children and has begun or not.
     pub fn new(phase: LivePhase, made: u32, begun: bool) -> LiveTask
         ensures { result ≡ record { phase = task_phase_of phase; made = made; begun = begun } }

@@ -56,6 +56,20 @@ fn root_slot(alloc: Global, path: Path, task: LiveTask) -> Result<Slot, OutOfMem
     })
 }
 
+/// The slot of a directive before it begins.
+pub fn directive_slot(
+    alloc: Global,
+    model: &Model,
+    directive: &Directive,
+) -> Result<Slot, OutOfMemory>
+    ensures { IfOk result (λ slot.
+        slot ≡ slot_of_root (root directive.now.id) (directive_task model.now directive.now)) }
+{
+    let state = activity_state(alloc, model, directive.kind, directive.arguments.as_slice())?;
+    let path = Path::of_directive(alloc, directive.id)?;
+    root_slot(alloc, path, planned(directive, state))
+}
+
 /// With a task as a follower, if it has an anchor.
 fn follow(
     followers: &mut Vec<Follower>,

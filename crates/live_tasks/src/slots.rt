@@ -7,6 +7,9 @@ ghost use Rattle.run_data.specs.Tasks.{children_in, rested};
 ghost use Rattle.live_tasks.specs.Phases.{after_wait};
 ghost use Rattle.live_tasks.specs.Slots.{slot_at, Becomes, ChangesOne};
 ghost use Rattle.live_tasks.specs.Endings.{slot_has_ended, slot_after_child_end, slot_when_due, slot_after_step, slot_with_child, StepsOne, MayMake, IsFirst};
+ghost use Rattle.run_data.specs.laws.LateDifferences.{is_of_differing};
+ghost use Rattle.parting.specs.IdRanges.{is_id_between};
+ghost use Rattle.live_tasks.specs.LeftOut.{is_slot_of, common_slot, AreCommon};
 ghost use Rattle.live_tasks.specs.Changes.{slot_changed};
 ghost use Rattle.live_tasks.specs.Listing.{is_ready_slot, delay_of_slot};
 
@@ -14,7 +17,7 @@ use crate::phases::{LiveTask, count_children};
 use aerie_base::{Edge, OutOfMemory, Path, Shared, Time, Value};
 use run_data::Frame;
 use slab::Slab;
-use std::alloc::Global;
+use std::alloc::{AllocError, Global};
 
 /// A live task: its path, what it does, the number of its parent if it has one, its own number among that one's children, and how
 /// many of its own children are live.
@@ -27,7 +30,33 @@ pub struct Slot {
     pub live_below: usize,
 }
 
+impl Clone for Slot {
+    ghost is_clone = { λ slot copy. copy ≡ slot };
+
+    fn clone(&self) -> Result<Slot, AllocError> {
+        match self.copy() {
+            Ok(slot) => Ok(slot),
+            Err(_) => Err(AllocError),
+        }
+    }
+}
+
 impl Slot {
+    /// The same once more.
+    fn copy(&self) -> Result<Slot, OutOfMemory>
+        ensures { IfOk result (λ copy. copy ≡ self.now) }
+    {
+        let path = self.path.share()?;
+        let task = self.task.copy()?;
+        Ok(Slot {
+            path,
+            task,
+            parent: self.parent,
+            own: self.own,
+            live_below: self.live_below,
+        })
+    }
+
     /// Whether the task has ended: its body is over and no child is live.
     pub fn has_ended(&self) -> bool
         ensures { result ≡ slot_has_ended (Some self.now) }
@@ -232,4 +261,49 @@ pub fn count(slots: &mut Slab<Slot>, number: usize) -> Result<(), OutOfMemory>
         slot.count()?;
     }
     Ok(())
+}
+
+/// Whether an id is in a range: not below its first, and below its end.
+pub fn is_in(id: u32, first: u32, past: u64) -> bool
+    ensures { result ≡ is_id_between first past id }
+{
+    id >= first && u64::from(id) < past
+}
+
+/// Whether a path is that of a directive whose id is in a range, or of a task under it.
+fn is_of_range(path: &Path, first: u32, past: u64) -> bool
+    ensures { result ≡ is_of_differing (is_id_between first past) path.now }
+{
+    // It says what the parts of a path are.
+    let _ = path.children();
+    !path.daemon() && is_in(path.id(), first, past)
+}
+
+/// Whether the task of a number is there, and of a directive whose id is in a range or under it.
+fn is_in_range(slots: &Slab<Slot>, number: usize, first: u32, past: u64) -> bool
+    ensures { result ≡ is_slot_of (is_id_between first past) (slot_at slots.now.slots number) }
+{
+    match slots.get(number) {
+        Some(slot) => is_of_range(slot.path.get(), first, past),
+        None => false,
+    }
+}
+
+/// Takes the task of a number out, if it is of a directive whose id is in a range or under it.
+fn leave_one(slots: &mut Slab<Slot>, number: usize, first: u32, past: u64)
+    ensures { Becomes slots.old.slots slots.new.slots number
+        (common_slot (is_id_between first past) (slot_at slots.old.slots number)) }
+{
+    if is_in_range(slots, number, first, past) {
+        slots.try_remove(number);
+    }
+}
+
+/// Takes the tasks out that are of a directive whose id is in a range, or under it.
+pub fn leave_out(slots: &mut Slab<Slot>, first: u32, past: u64)
+    ensures { AreCommon (is_id_between first past) slots.old.slots slots.new.slots }
+{
+    for number in 0..slots.capacity() {
+        leave_one(slots, number, first, past);
+    }
 }

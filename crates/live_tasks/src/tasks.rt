@@ -54,12 +54,20 @@ impl LiveTasks {
         ensures waits { IfOk result (λ tasks. AreWaitsKeptFor cells tasks.tables) }
     {
         let tables = ListedSlots::new(alloc, cells)?;
-        Ok(LiveTasks {
+        Ok(LiveTasks::with_followers(alloc, tables, Vec::new(alloc)))
+    }
+
+    /// These tasks and followers; no room is kept for a batch yet.
+    pub fn with_followers(alloc: Global, tables: ListedSlots, followers: Vec<Follower>) -> LiveTasks
+        ensures tables { result.tables ≡ tables }
+        ensures followers { result.followers ≡ followers }
+    {
+        LiveTasks {
             tables,
-            followers: Vec::new(alloc),
+            followers,
             origins: Vec::new(alloc),
             numbers: Vec::new(alloc),
-        })
+        }
     }
 
     /// An edge of the directive with an id has come: who is anchored to it falls due. It takes a time in the order of the number of those

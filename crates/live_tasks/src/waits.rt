@@ -6,11 +6,11 @@ ghost use Rattle.std.specs.BTreeSet as set;
 ghost use Rattle.std.specs.Option.{option_copied};
 ghost use Rattle.live_tasks.specs.Conditions.{condition_at};
 ghost use Rattle.live_tasks.specs.WakeTimes.{AreWakesOf};
-ghost use Rattle.live_tasks.specs.Waits.{wait_of, BeginsWait, BeginsWaitIfAny, IsTouched};
+ghost use Rattle.live_tasks.specs.Waits.{wait_of, BeginsWait, BeginsWaitIfAny, IsTouched, KeepsRight};
 
 use crate::slots::Slot;
 use crate::wake_times::{WakeTimes, Watcher};
-use crate::watchers::{touch_all, unwatched, watch};
+use crate::watchers::{copy_watchers, touch_all, unwatched, watch};
 use aerie_base::{Cond, List, OutOfMemory};
 use slab::Slab;
 use std::alloc::Global;
@@ -35,6 +35,15 @@ impl Waits {
             times: WakeTimes::new(alloc),
             watchers,
         })
+    }
+
+    /// The same once more: for the same tasks it is as right.
+    pub fn copy(&self, alloc: Global) -> Result<Waits, OutOfMemory>
+        ensures { IfOk result (KeepsRight self.now) }
+    {
+        let times = self.times.copy(alloc)?;
+        let watchers = copy_watchers(alloc, &self.watchers)?;
+        Ok(Waits { times, watchers })
     }
 
     /// A number begins to wait for a condition.

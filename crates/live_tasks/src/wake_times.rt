@@ -121,6 +121,23 @@ impl WakeTimes {
         }
     }
 
+    /// The same once more.
+    pub fn copy(&self, alloc: Global) -> Result<WakeTimes, OutOfMemory>
+        ensures by_number { IfOk result (λ copy. copy.by_number.items ≡ self.now.by_number.items) }
+        ensures wakes { IfOk result (λ copy. copy.wakes ≡ self.now.wakes) }
+        ensures stale { IfOk result (λ copy. copy.stale.items ≡ self.now.stale.items) }
+    {
+        let by_number = Vec::from_slice(alloc, self.by_number.as_slice())?;
+        let wakes = self.wakes.clone()?;
+        let stale = Vec::from_slice(alloc, self.stale.as_slice())?;
+        Ok(WakeTimes {
+            by_number,
+            wakes,
+            stale,
+            begun: self.begun,
+        })
+    }
+
     /// A number begins to wait; its wake time is to be found. What tells the wait from others is answered.
     pub fn begin(&mut self, number: usize) -> Result<u64, OutOfMemory>
         ensures wait { IfOk result (λ since. WaitBecomes self.old.by_number.items self.new.by_number.items number

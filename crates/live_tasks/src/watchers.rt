@@ -22,6 +22,21 @@ pub fn unwatched(alloc: Global, cells: usize) -> Result<List<List<Watcher>>, Out
     Ok(watchers)
 }
 
+/// The same watchers once more.
+pub fn copy_watchers(
+    alloc: Global,
+    watchers: &List<List<Watcher>>,
+) -> Result<List<List<Watcher>>, OutOfMemory>
+    ensures { IfOk result (λ copy. copy ≡ watchers.now) }
+{
+    let mut all = List::with_capacity(alloc, watchers.len())?;
+    for some in watchers.as_slice() {
+        let copied = Vec::from_slice(alloc, some.as_slice())?;
+        all.push(List::from_vec(copied))?;
+    }
+    Ok(all)
+}
+
 /// One more watches a cell, if there is such a cell.
 fn watch_cell(
     watchers: &mut List<List<Watcher>>,

@@ -1,4 +1,5 @@
 pub mod Exchanges
+pub mod IdRanges
 pub mod PlainLateness
 pub mod Resuming
 pub mod LiveExchanges
