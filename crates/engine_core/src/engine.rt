@@ -11,6 +11,7 @@ ghost use Rattle.engine_core.specs.BatchEnds.{batch_frames};
 ghost use Rattle.engine_core.specs.EngineStates.{jobs_in, time_in, batches_in, instants_in, spent_in, IsEngineState, LeadsTo, IsNextOf, PaysForBatch, LooksForBatch, OfSameModels};
 ghost use Rattle.engine_core.specs.Simulations.{engine_state_of, IsBeforeBatch};
 
+use crate::marks::Mark;
 use crate::simulation::Simulation;
 use aerie_base::{List, Model, OutOfMemory, Plan, Shared, Steps, Time};
 use live_tasks::ready_jobs::ReadyJobs;
@@ -127,6 +128,16 @@ impl<'a> Engine<'a> {
         ensures { result ≡ spent_in self.now.point }
     {
         self.simulation.spent()
+    }
+
+    /// The simulation as it stands, set aside at the beginning of an instant. What is settled is shared.
+    pub fn mark(&self, alloc: Global, model: &Shared<Model>) -> Result<Mark, OutOfMemory>
+        requires model { model.now ≡ self.now.model }
+        requires job { jobs_in self.now.point ≡ [] → ⊥ }
+        requires begins { batches_in self.now.point ≡ [] }
+        ensures { IfOk result (λ mark. mark ≡ self.now) }
+    {
+        Err(OutOfMemory)
     }
 
     /// The next batch, whose frames the stepper gives by waves, and on to the next batch that has a job, or to the outcome.
