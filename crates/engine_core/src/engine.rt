@@ -15,6 +15,7 @@ use crate::marks::Mark;
 use crate::simulation::Simulation;
 use aerie_base::{List, Model, OutOfMemory, Plan, Shared, Steps, Time};
 use live_tasks::ready_jobs::ReadyJobs;
+use run_data::laws::instants_begin_untouched;
 use run_data::{Frame, Instant, Job, Run, Stepper};
 use std::alloc::Global;
 use std::sync::ledger::Ledger;
@@ -46,7 +47,11 @@ impl<'a> std::marker::Model for Engine<'a> {
 }
 
 /// A simulation before a batch, whose jobs these are, or at its run.
-fn engine_at<'a>(model: &'a Model, simulation: Simulation, ready: ReadyJobs) -> Engine<'a>
+pub(crate) fn engine_at<'a>(
+    model: &'a Model,
+    simulation: Simulation,
+    ready: ReadyJobs,
+) -> Engine<'a>
     requires { IsBeforeBatch model.now ready simulation }
     ensures is { result ≡ engine_state_of model.now simulation }
     ensures stands { IsEngineState result }
@@ -137,7 +142,13 @@ impl<'a> Engine<'a> {
         requires begins { batches_in self.now.point ≡ [] }
         ensures { IfOk result (λ mark. mark ≡ self.now) }
     {
-        Err(OutOfMemory)
+        instants_begin_untouched();
+        let request = &self.simulation.request;
+        let simulation = self
+            .simulation
+            .copy_for(alloc, &request.plan, request.bound)?;
+        let mark = Mark::new(model.share()?, simulation);
+        Ok(mark)
     }
 
     /// The next batch, whose frames the stepper gives by waves, and on to the next batch that has a job, or to the outcome.

@@ -5,15 +5,21 @@ ghost use Rattle.aerie_base.specs.Ranges.{step_limit};
 ghost use Rattle.aerie_base.specs.plans.OfModel.{IsPlanOf};
 ghost use Rattle.run_data.specs.laws.LateDifferences.{DifferLate};
 ghost use Rattle.run_data.specs.laws.Orders.{EachOf};
+ghost use Rattle.live_tasks.specs.InStep.{IsInStep};
 ghost use Rattle.parting.specs.IdRanges.{is_id_between};
 ghost use Rattle.parting.specs.PlainLateness.{IsPlainlyLate};
 ghost use Rattle.engine_core.specs.EngineStates.{jobs_in, time_in, batches_in, instants_in, spent_in, IsEngineState};
-ghost use Rattle.engine_core.specs.Marks.{IsSetAside};
+ghost use Rattle.engine_core.specs.Marks.{IsSetAside, IsCopyOf, IsCopyFor};
 ghost use Rattle.engine_core.specs.Simulations.{engine_state_of};
 
-use crate::engine::Engine;
-use crate::simulation::Simulation;
-use aerie_base::{Model, OutOfMemory, Plan, Shared, Time};
+use crate::engine::{Engine, engine_at};
+use crate::history::{History, put_shared};
+use crate::present::Present;
+use crate::simulation::{Request, Simulation};
+use aerie_base::{List, Model, OutOfMemory, Plan, Shared, Time};
+use live_tasks::ready_jobs::ReadyJobs;
+use parting::laws::{edited_plans_resume, live_tasks_are_exchanged};
+use run_data::laws::{instants_begin_untouched, reached_states_are_of_the_model};
 use std::alloc::Global;
 
 /// A simulation that was set aside at the beginning of an instant, where a job is ready, with its model. Contracts see of it what
@@ -42,7 +48,74 @@ impl std::marker::Model for Mark {
     ghost invariant = { λ mark. IsSetAside mark.model mark.simulation };
 }
 
+impl History {
+    /// The same, where no batch stands in the instant at hand. The settled instants are shared.
+    fn copy(&self, alloc: Global) -> Result<History, OutOfMemory>
+        requires batches { self.now.batches ≡ [] }
+        requires touched { self.now.touched ≡ [] }
+        ensures { IfOk result (λ history. history ≡ self.now) }
+    {
+        let mut instants = List::with_capacity(alloc, self.instants.len())?;
+        put_shared(&mut instants, self.instants.as_slice())?;
+        Ok(History {
+            instants,
+            batches: List::new(alloc),
+            touched: List::new(alloc),
+        })
+    }
+}
+
+impl Present {
+    /// The same. The cells are shared.
+    fn copy(&self, alloc: Global) -> Result<Present, OutOfMemory>
+        requires { IsInStep self.now.tasks }
+        ensures { IfOk result (IsCopyOf self.now) }
+    {
+        let cells = self.cells.share()?;
+        let tasks = self.tasks.copy(alloc)?;
+        Ok(Present {
+            time: self.time,
+            spent: self.spent,
+            cells,
+            tasks,
+        })
+    }
+}
+
+impl Simulation {
+    /// The same for a plan and a bound, at the beginning of an instant.
+    pub(crate) fn copy_for(
+        &self,
+        alloc: Global,
+        plan: &Shared<Plan>,
+        bound: u64,
+    ) -> Result<Simulation, OutOfMemory>
+        requires in_step { IsInStep self.now.present.tasks }
+        requires batches { self.now.history.batches ≡ [] }
+        requires touched { self.now.history.touched ≡ [] }
+        ensures { IfOk result (IsCopyFor (record { plan = plan.now; bound = bound }) self.now) }
+    {
+        let plan = plan.share()?;
+        let history = self.history.copy(alloc)?;
+        let present = self.present.copy(alloc)?;
+        Ok(Simulation {
+            request: Request { plan, bound },
+            history,
+            present,
+            ending: None,
+        })
+    }
+}
+
 impl Mark {
+    /// Of a simulation that stands at the beginning of an instant.
+    pub(crate) fn new(model: Shared<Model>, simulation: Simulation) -> Mark
+        requires { IsSetAside model simulation }
+        ensures { result ≡ engine_state_of model simulation }
+    {
+        Mark { model, simulation }
+    }
+
     /// The model. It takes no memory.
     pub fn model(&self) -> &Shared<Model>
         ensures model { result.now ≡ self.now.model }
@@ -112,6 +185,19 @@ impl Mark {
         ensures time { IfOk result (λ engine. time_in engine.point ≡ time_in self.now.point) }
         ensures spent { IfOk result (λ engine. spent_in engine.point ≡ spent_in self.now.point) }
     {
-        Err(OutOfMemory)
+        edited_plans_resume();
+        live_tasks_are_exchanged();
+        instants_begin_untouched();
+        reached_states_are_of_the_model();
+        let _ = until;
+        let mut simulation = self.simulation.copy_for(alloc, plan, bound)?;
+        simulation
+            .present
+            .tasks
+            .exchange(alloc, model, plan.get(), first, past)?;
+        let mut ready = ReadyJobs::new(alloc);
+        simulation.ready(alloc, &mut ready)?;
+        let engine = engine_at(model, simulation, ready);
+        Ok(engine)
     }
 }
