@@ -11,6 +11,7 @@ mod FrameByFrame
 mod GatheredFrames
 mod PassedPoints
 mod PassingTime
+mod ResumedMarks
 mod RunCounts
 mod SimulationBatches
 mod SimulationMoves

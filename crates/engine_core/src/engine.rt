@@ -11,9 +11,11 @@ ghost use Rattle.engine_core.specs.BatchEnds.{batch_frames};
 ghost use Rattle.engine_core.specs.EngineStates.{jobs_in, time_in, batches_in, instants_in, spent_in, IsEngineState, LeadsTo, IsNextOf, PaysForBatch, LooksForBatch, OfSameModels};
 ghost use Rattle.engine_core.specs.Simulations.{engine_state_of, IsBeforeBatch};
 
+use crate::marks::Mark;
 use crate::simulation::Simulation;
 use aerie_base::{List, Model, OutOfMemory, Plan, Shared, Steps, Time};
 use live_tasks::ready_jobs::ReadyJobs;
+use run_data::laws::instants_begin_untouched;
 use run_data::{Frame, Instant, Job, Run, Stepper};
 use std::alloc::Global;
 use std::sync::ledger::Ledger;
@@ -45,7 +47,11 @@ impl<'a> std::marker::Model for Engine<'a> {
 }
 
 /// A simulation before a batch, whose jobs these are, or at its run.
-fn engine_at<'a>(model: &'a Model, simulation: Simulation, ready: ReadyJobs) -> Engine<'a>
+pub(crate) fn engine_at<'a>(
+    model: &'a Model,
+    simulation: Simulation,
+    ready: ReadyJobs,
+) -> Engine<'a>
     requires { IsBeforeBatch model.now ready simulation }
     ensures is { result ≡ engine_state_of model.now simulation }
     ensures stands { IsEngineState result }
@@ -127,6 +133,22 @@ impl<'a> Engine<'a> {
         ensures { result ≡ spent_in self.now.point }
     {
         self.simulation.spent()
+    }
+
+    /// The simulation as it stands, set aside at the beginning of an instant. What is settled is shared.
+    pub fn mark(&self, alloc: Global, model: &Shared<Model>) -> Result<Mark, OutOfMemory>
+        requires model { model.now ≡ self.now.model }
+        requires job { jobs_in self.now.point ≡ [] → ⊥ }
+        requires begins { batches_in self.now.point ≡ [] }
+        ensures { IfOk result (λ mark. mark ≡ self.now) }
+    {
+        instants_begin_untouched();
+        let request = &self.simulation.request;
+        let simulation = self
+            .simulation
+            .copy_for(alloc, &request.plan, request.bound)?;
+        let mark = Mark::new(model.share()?, simulation);
+        Ok(mark)
     }
 
     /// The next batch, whose frames the stepper gives by waves, and on to the next batch that has a job, or to the outcome.

@@ -5,10 +5,12 @@ mod batch_ends;
 mod batches;
 mod engine;
 mod history;
+mod marks;
 mod passing;
 mod present;
 mod simulating;
 mod simulation;
 
 pub use engine::Engine;
+pub use marks::Mark;
 pub use simulating::simulate;

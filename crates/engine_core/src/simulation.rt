@@ -108,7 +108,7 @@ impl Simulation {
     }
 
     /// In place of other jobs, those of the ready tasks, all with one view of the cells, which is shared; none where it has ended.
-    fn ready(&mut self, alloc: Global, jobs: &mut ReadyJobs) -> Result<(), OutOfMemory>
+    pub(crate) fn ready(&mut self, alloc: Global, jobs: &mut ReadyJobs) -> Result<(), OutOfMemory>
         requires { AreTasksIn self.old }
         ensures jobs { OnOk result (jobs.new ≡ jobs_in (point_in self.old)) }
         ensures stands { OnOk result (StandsAt self.old.request (point_in self.old) self.new) }

@@ -100,8 +100,9 @@ module _ (differs : ℕ → Bool) where
       by false g = refl
 
   -- what holds of each that differs as it is planned holds of what stands there
-  pub all_planned : (P : Task → Type 0) (model : Parts) (directives : List Directive) (table : Table) (path : List ℕ) → EachOf (λ directive. differs directive.id ≡ true → P (planned_task model directive)) directives →
-      ((task : Task) → task_at table path ≡ Some task → P task) → (task : Task) → task_at (with_directives model (differing_directives differs directives) table) path ≡ Some task → P task
+  pub all_planned : (P : List ℕ → Task → Type 0) (model : Parts) (directives : List Directive) (table : Table) (path : List ℕ) →
+      EachOf (λ directive. differs directive.id ≡ true → P (root directive.id) (planned_task model directive)) directives →
+      ((task : Task) → task_at table path ≡ Some task → P path task) → (task : Task) → task_at (with_directives model (differing_directives differs directives) table) path ≡ Some task → P path task
   all_planned P model [] table path each before task there = before task there
   all_planned P model (directive ∷ rest) table path each before task there =
       by (differs directive.id) refl there (λ other stood at. all_planned P model rest other path each.1 stood task at)
@@ -112,12 +113,15 @@ module _ (differs : ℕ → Bool) where
       differing : List Directive
       differing = differing_directives differs rest
 
-      put : (same : Bool) → P (planned_task model directive) → (one : Task) → ◌≡◌ {A = Option Task} (cond same (Some (planned_task model directive)) (task_at table path)) (Some one) → P one
-      put true p one e = let k : planned_task model directive ≡ one = cc in subst P k p
-      put false p one e = before one e
+      put : (same : Bool) → is_at (path_cmp path) (root directive.id) ≡ same → P (root directive.id) (planned_task model directive) → (one : Task) →
+          ◌≡◌ {A = Option Task} (cond same (Some (planned_task model directive)) (task_at table path)) (Some one) → P path one
+      put true here p one e =
+          let k : planned_task model directive ≡ one = cc in
+          subst (P path) k (subst (λ (q : List ℕ). P q (planned_task model directive)) (sym (is_same path (root directive.id) here)) p)
+      put false here p one e = before one e
 
       by : (here : Bool) → differs directive.id ≡ here → task_at (with_directives model (if here then directive ∷ differing else differing) table) path ≡ Some task →
-          ((other : Table) → ((one : Task) → task_at other path ≡ Some one → P one) → task_at (with_directives model differing other) path ≡ Some task → P task) → P task
+          ((other : Table) → ((one : Task) → task_at other path ≡ Some one → P path one) → task_at (with_directives model differing other) path ≡ Some task → P path task) → P path task
       by true f at further =
-          further next (λ one e. put (is_at (path_cmp path) (root directive.id)) (each.0 f) one (sym (at_with table (root directive.id) path (planned_task model directive)) ∙ e)) at
+          further next (λ one e. put (is_at (path_cmp path) (root directive.id)) refl (each.0 f) one (sym (at_with table (root directive.id) path (planned_task model directive)) ∙ e)) at
       by false f at further = further table before at

@@ -60,7 +60,7 @@ module _ (differs : ℕ → Bool) (model : Parts) (plan : Plan) (table : Table) 
   all_open (directive ∷ rest) = (λ e. planned_open directive.anchor directive.start _, all_open rest)
 
   open_there : (path : List ℕ) (task : Task) → is_of_differing differs path ≡ true → task_at whole path ≡ Some task → is_open task.phase ≡ true
-  open_there path task e there = all_planned differs (λ (one : Task). is_open one.phase ≡ true) model plan.directives (common_tasks differs table) path (all_open plan.directives) none task there
+  open_there path task e there = all_planned differs (λ (at : List ℕ) (one : Task). is_open one.phase ≡ true) model plan.directives (common_tasks differs table) path (all_open plan.directives) none task there
     where
       none : (one : Task) → task_at (common_tasks differs table) path ≡ Some one → is_open one.phase ≡ true
       none one f = let k : ◌≡◌ {A = Option Task} None (Some one) = sym (none_common table path e) ∙ f in absurd (cc)

@@ -5,7 +5,7 @@ use Rattle.aerie_base.specs.declared.models.model.Parts.{Parts}
 use Rattle.aerie_base.specs.declared.plans.Anchor.{Anchor}
 use Rattle.aerie_base.specs.declared.plans.Directive.{Directive}
 use Rattle.aerie_base.specs.declared.plans.Plan.{Plan}
-use Rattle.aerie_base.specs.Paths.{child_path}
+use Rattle.aerie_base.specs.Paths.{child_path, root}
 use Rattle.aerie_base.specs.models.ValidModel.{valid_model}
 use Rattle.aerie_base.specs.plans.OfModel.{IsPlanOf}
 use Rattle.effect_cells.specs.declared.effects.CellState.{CellState}
@@ -21,7 +21,7 @@ use Rattle.run_data.specs.Tasks.{TaskPhase, anchored, ready, delayed, waiting, c
 use Rattle.run_data.specs.Transitions.{Next, more, finished, begins, onward}
 use Rattle.run_data.specs.laws.BatchFrames.{Among, HasPath, OfReady, OfChild, AreFramesOf, BatchFrames}
 use Rattle.run_data.specs.laws.FramesByPath.{frame_of_path, at_no_frame}
-use Rattle.run_data.specs.laws.LateDifferences.{is_of_differing, is_common, common_tasks, AlikeBut, RunSideBySide}
+use Rattle.run_data.specs.laws.LateDifferences.{is_of_differing, is_common, common_tasks, AlikeBut, DifferLate, RunSideBySide}
 use Rattle.run_data.specs.laws.LiveAfterFrames.{each_of_among}
 use Rattle.run_data.specs.laws.OrderedTables.{IsOrderedTable}
 use Rattle.run_data.specs.laws.Orders.{EachOf}
@@ -30,7 +30,8 @@ use Rattle.run_data.specs.laws.Weights.{WeightFalls}
 use Rattle.run_data.specs.laws.TableParts.{order_part, part_at, part_none, same_tables, each_at, changed_at}
 use Rattle.parting.specs.Exchanges.{differing_directives, exchanged, exchanged_state}
 use Rattle.parting.specs.PlainLateness.{StartsPlainlyLate, IsPlainlyLate}
-use Rattle.parting.specs.Resuming.{Resumes}
+use Rattle.parting.specs.Resuming.{Resumes, SameJobs}
+use Rattle.parting.specs.UnbegunDirectives.{IsYetToStart, HaveNotStarted}
 use Rattle.parting.proofs.Exchanged.{planned_task, order_directives, same_at, differing_at, common_at, daemons_at, all_planned}
 use Rattle.parting.proofs.PassingTime.{step_later}
 use Rattle.parting.proofs.TaskPaths.{longer_of, stands_long}
@@ -99,7 +100,23 @@ module _ (of_model : ReachedIsOfModel) (frames_of : BatchFrames) (falls : Weight
 
   waits : (path : List ℕ) (task : Task) → task_at as_planned path ≡ Some task → WaitsLate until task.phase
   waits path task there =
-      all_planned differs (λ (one : Task). WaitsLate until one.phase) model plan.directives [] path (planned_each plan.directives late) (none_there path) task there
+      all_planned differs (λ (at : List ℕ) (one : Task). WaitsLate until one.phase) model plan.directives [] path (planned_each plan.directives late) (none_there path) task there
+
+  yet_none : (id from : ℕ) (anchor : Option Anchor) (state : TaskState) → StartsPlainlyLate until anchor from →
+      IsYetToStart until (root id) (record { phase = planned anchor from state; made = 0; begun = false })
+  yet_none id from None state starts = record { id = id; path_is = refl; begun = refl; start = from; state = state; phase = refl; late = starts }
+  yet_none id from (Some anchor) state starts = absurd starts
+
+  yet_each : (directives : List Directive) → EachOf (IsPlainlyLate differs until) directives →
+      EachOf (λ directive. differs directive.id ≡ true → IsYetToStart until (root directive.id) (planned_task model directive)) directives
+  yet_each [] each = tt
+  yet_each (directive ∷ rest) each = (λ e. yet_none directive.id directive.start directive.anchor _ (each.0 e), yet_each rest each.1)
+
+  absent : (path : List ℕ) (task : Task) → task_at [] path ≡ Some task → IsYetToStart until path task
+  absent path task e = absurd (cc)
+
+  yet_to_start : (path : List ℕ) (task : Task) → task_at as_planned path ≡ Some task → IsYetToStart until path task
+  yet_to_start path task there = all_planned differs (IsYetToStart until) model plan.directives [] path (yet_each plan.directives late) (absent path) task there
 
   -- at each of their paths stands what the plan says
   abbrev Stand : Table → Type 0
@@ -209,8 +226,18 @@ module _ (of_model : ReachedIsOfModel) (frames_of : BatchFrames) (falls : Weight
 -- ---- the exchanged state
 
 module _ (of_model : ReachedIsOfModel) (frames_of : BatchFrames) (falls : WeightFalls) (side_by_side : RunSideBySide) where
-  pub resumes : Resumes
-  resumes differs until model plan old_plan bound old_bound given late other old_reached before = subst (λ s. IsReached model plan bound (more s)) same reached
+  pub have_not_started : HaveNotStarted
+  have_not_started differs until model plan bound valid is late at reached before path task e there =
+      yet_to_start of_model frames_of falls differs until model plan bound valid is late path task
+      (sym (all_stand of_model frames_of falls differs until model plan bound valid is late (more at) reached before path e) ∙ there)
+
+  resumed : (differs : ℕ → Bool) (until : ℕ) (model : Parts) (plan old_plan : Plan) (bound old_bound : ℕ) → DifferLate differs until model plan old_plan bound old_bound →
+      EachOf (IsPlainlyLate differs until) plan.directives → (other : SimulationState) → IsReached model old_plan old_bound (more other) → other.time < until →
+      IsReached model plan bound (more (exchanged_state differs model plan other))
+      × (ready_jobs other.cells (exchanged differs model plan other.table) ≡ ready_jobs other.cells other.table)
+  resumed differs until model plan old_plan bound old_bound given late other old_reached before =
+      (subst (λ s. IsReached model plan bound (more s)) same reached,
+      sym (ap (λ (s : SimulationState). ready_jobs s.cells s.table) same) ∙ beside.3)
     where
       beside : (at : SimulationState) × IsReached model plan bound (more at) × AlikeBut differs at other × (ready_jobs at.cells at.table ≡ ready_jobs other.cells other.table)
       beside = side_by_side differs until model plan old_plan bound old_bound given other old_reached before
@@ -253,3 +280,11 @@ module _ (of_model : ReachedIsOfModel) (frames_of : BatchFrames) (falls : Weight
         batches = alike.batches i;
         touched = alike.touched i;
       }
+
+  pub resumes : Resumes
+  resumes differs until model plan old_plan bound old_bound given late other old_reached before =
+      (resumed differs until model plan old_plan bound old_bound given late other old_reached before).0
+
+  pub same_jobs : SameJobs
+  same_jobs differs until model plan old_plan bound old_bound given late other old_reached before =
+      (resumed differs until model plan old_plan bound old_bound given late other old_reached before).1
