@@ -235,9 +235,10 @@ module _ (of_model : ReachedIsOfModel) (frames_of : BatchFrames) (falls : Weight
       EachOf (IsPlainlyLate differs until) plan.directives → (other : SimulationState) → IsReached model old_plan old_bound (more other) → other.time < until →
       IsReached model plan bound (more (exchanged_state differs model plan other))
       × (ready_jobs other.cells (exchanged differs model plan other.table) ≡ ready_jobs other.cells other.table)
-  resumed differs until model plan old_plan bound old_bound given late other old_reached before =
-      (subst (λ s. IsReached model plan bound (more s)) same reached,
-      sym (ap (λ (s : SimulationState). ready_jobs s.cells s.table) same) ∙ beside.3)
+  resumed differs until model plan old_plan bound old_bound given late other old_reached before = (
+    subst (λ s. IsReached model plan bound (more s)) same reached,
+    sym (ap (λ (s : SimulationState). ready_jobs s.cells s.table) same) ∙ beside.3,
+  )
     where
       beside : (at : SimulationState) × IsReached model plan bound (more at) × AlikeBut differs at other × (ready_jobs at.cells at.table ≡ ready_jobs other.cells other.table)
       beside = side_by_side differs until model plan old_plan bound old_bound given other old_reached before
