@@ -1,10 +1,10 @@
 -- What stays of the tasks where the directives that differ, none of which has begun, are left out.
-use Rattle.std.proofs.Common.{◌≡◌, ◌≢◌, ◌⊎◌, inl, inr, ℕ, zero, suc, ◌+◌, ◌≤◌, Bool, true, false, not, List, [], ◌∷◌, length, Option, Some, None, refl, sym, ap, ◌∙◌, subst, arith, if◌then◌else◌}
+use Rattle.std.proofs.Common.{◌≡◌, ℕ, ◌+◌, ◌≤◌, Bool, true, false, not, List, [], ◌∷◌, length, Option, Some, None, refl, sym, ap, ◌∙◌, subst, arith}
 use Rattle.std.proofs.lemmas.Bool.{false≢true}
 use Rattle.aerie_base.specs.Paths.{root, child_path}
 use Rattle.aerie_base.specs.declared.plans.Anchor.{Anchor}
 use Rattle.run_data.specs.declared.tasks.TaskState.{TaskState}
-use Rattle.run_data.specs.Tasks.{TaskPhase, anchored, calling, delayed, Task, Table, task_at}
+use Rattle.run_data.specs.Tasks.{TaskPhase, calling, Task, Table, task_at}
 use Rattle.run_data.specs.laws.LateDifferences.{is_of_differing, is_common, common_tasks}
 use Rattle.run_data.specs.laws.ReadyTasks.{is_ready_phase}
 use Rattle.run_data.specs.laws.TableParts.{order_part, part_at, part_none}
@@ -14,14 +14,13 @@ use Rattle.live_tasks.specs.Conditions.{condition_of_slot}
 use Rattle.live_tasks.specs.Endings.{AreLive, HasCalledChild}
 use Rattle.live_tasks.specs.Exchanging.{IsYetToBegin, HaveNotBegun}
 use Rattle.live_tasks.specs.Followers.{AreFollowers}
-use Rattle.live_tasks.specs.InStep.{table_in, IsInStep}
 use Rattle.live_tasks.specs.Joining.{AreUnderWay}
-use Rattle.live_tasks.specs.LeftOut.{is_slot_of, common_slot, AreCommon, AreIdle}
+use Rattle.live_tasks.specs.LeftOut.{is_slot_of, AreCommon, AreIdle}
 use Rattle.live_tasks.specs.ListedSlots.{ListsAll}
 use Rattle.live_tasks.specs.Listing.{is_ready_slot}
 use Rattle.live_tasks.specs.Phases.{condition_of_wait}
 use Rattle.live_tasks.specs.PlannedTasks.{IsPlannedBy, HasNoTask}
-use Rattle.live_tasks.specs.Slots.{Slots, slot_at, under, child_in, live_children_of, StandsUnder, IsForest, HasSlot, AreTable}
+use Rattle.live_tasks.specs.Slots.{Slots, slot_at, under, child_in, StandsUnder, IsForest, HasSlot, AreTable}
 use Rattle.live_tasks.proofs.Counts.{same_count}
 use Rattle.live_tasks.proofs.Forests.{below_length, long_path}
 use Rattle.live_tasks.proofs.LeftOut.{kept, gone}

@@ -5,7 +5,6 @@ use Rattle.std.specs.BTreeSet.{BTreeSet}
 use Rattle.std.specs.List.{AllZip}
 use Rattle.slab.specs.Slab.{IsSlotClone}
 use Rattle.effect_cells.specs.ReadCells.{reads_cell}
-use Rattle.run_data.specs.Tasks.{Table}
 use Rattle.live_tasks.specs.declared.followers.Follower.{Follower}
 use Rattle.live_tasks.specs.declared.slots.Slot.{Slot}
 use Rattle.live_tasks.specs.declared.tasks.LiveTasks.{LiveTasks}
@@ -14,7 +13,7 @@ use Rattle.live_tasks.specs.declared.wake_times.Watcher.{Watcher}
 use Rattle.live_tasks.specs.declared.waits.Waits.{Waits}
 use Rattle.live_tasks.specs.Endings.{IsNumberAmong, AreLive}
 use Rattle.live_tasks.specs.Followers.{AreFollowers}
-use Rattle.live_tasks.specs.InStep.{slots_in, table_in, IsInStep}
+use Rattle.live_tasks.specs.InStep.{slots_in, IsInStep}
 use Rattle.live_tasks.specs.ListedSlots.{ListsExactly}
 use Rattle.live_tasks.specs.Listing.{DelayEnd, ends_at, HaveAllReady, AreReadyAlone, AreDelays, AreOnlyListed}
 use Rattle.live_tasks.specs.Slots.{Slots, table_of}

@@ -1,15 +1,13 @@
 -- Once all have joined the tasks are in step, where their table is the live part of a reached state's.
-use Rattle.std.proofs.Common.{◌≡◌, ◌⊎◌, inl, inr, ℕ, zero, suc, ◌+◌, ◌<◌, ◌≤◌, ◌&&◌, nat_eq, Bool, true, false, IsTrue, List, ◌∷◌, length, Option, Some, None, refl, sym, ap, ◌∙◌, subst, arith}
+use Rattle.std.proofs.Common.{◌≡◌, ◌⊎◌, inl, inr, ℕ, zero, suc, ◌+◌, ◌<◌, ◌≤◌, nat_eq, Bool, true, false, IsTrue, List, length, Option, Some, None, refl, sym, ap, ◌∙◌, subst, arith}
 use Rattle.std.proofs.lemmas.Bool.{false≢true}
-use Rattle.aerie_base.specs.Paths.{root, daemon_root, child_path, is_prefix}
+use Rattle.aerie_base.specs.Paths.{root, child_path, is_prefix}
 use Rattle.aerie_base.specs.declared.models.model.Parts.{Parts}
-use Rattle.aerie_base.specs.declared.plans.Edge.TheVariants.{Start, End}
 use Rattle.aerie_base.specs.declared.plans.Plan.{Plan}
 use Rattle.aerie_base.specs.models.ValidModel.{valid_model}
 use Rattle.aerie_base.specs.plans.OfModel.{IsPlanOf}
-use Rattle.run_data.specs.declared.tasks.TaskState.{TaskState}
 use Rattle.run_data.specs.Endings.{has_ended}
-use Rattle.run_data.specs.Tasks.{anchored, Table, task_at}
+use Rattle.run_data.specs.Tasks.{Table, task_at}
 use Rattle.run_data.specs.laws.EndedTaskLaws.{ended_by_open_bodies, open_some}
 use Rattle.run_data.specs.laws.GoingOn.{IsQuiet, AllQuiet}
 use Rattle.run_data.specs.laws.LiveAfterFrames.{quiet_at, prefix_child}
@@ -27,7 +25,7 @@ use Rattle.live_tasks.specs.InStep.{slots_in, table_in, IsInStep}
 use Rattle.live_tasks.specs.Joining.{AreUnderWay}
 use Rattle.live_tasks.specs.ListedSlots.{ListsExactly}
 use Rattle.live_tasks.specs.Slots.{Slots, slot_at, IsRoot, StandsUnder, HasSlot, table_of}
-use Rattle.live_tasks.proofs.Forests.{root_length, below_length, long_path}
+use Rattle.live_tasks.proofs.Forests.{below_length, long_path}
 use Rattle.live_tasks.proofs.Resting.{one_table}
 
 pub exchanged_quiet : ReachedIsOfModel → ReachedIsQuiet → (differs : ℕ → Bool) (model : Parts) (plan : Plan) (table : Table) → IsTrue (valid_model model) → IsPlanOf model plan →

@@ -1,7 +1,6 @@
 -- The ends of delays are gathered, number by number.
-use Rattle.std.proofs.Common.{◌≡◌, ◌≢◌, ◌⊎◌, inl, inr, ℕ, zero, suc, ◌+◌, ◌≤◌, nat_eq, nat_lt, Bool, true, false, ◌&&◌, ◌||◌, List, [], ◌∷◌, length, Option, Some, None, refl, sym, ap, ◌∙◌, subst, arith}
+use Rattle.std.proofs.Common.{◌≡◌, ◌≢◌, ◌⊎◌, inl, inr, ℕ, zero, suc, ◌+◌, ◌≤◌, nat_eq, nat_lt, Bool, true, false, ◌&&◌, ◌||◌, List, [], ◌∷◌, length, Option, None, refl, sym, ap, ◌∙◌, arith}
 use Rattle.std.proofs.lemmas.Bool.Decides.{nat_tests}
-use Rattle.live_tasks.specs.declared.slots.Slot.{Slot}
 use Rattle.live_tasks.specs.Listing.{DelayEnd, delay_of_slot, has_delay, ends_at, IsDelayHeap, AreDelays, HasDelayToo, IsNewDelay, StaysHeap}
 use Rattle.live_tasks.specs.Slots.{Slots, slot_at}
 use Rattle.live_tasks.proofs.Forests.{same_or_not}
@@ -12,17 +11,17 @@ past_end (found ∷ rest) zero less = absurd (omega (arith, less))
 past_end (found ∷ rest) (suc number) less = past_end rest number (omega (arith, less))
 
 -- the ends of the delays of all numbers below one
-pub record AreBelow (slots : Slots) (number : ℕ) (ends : List DelayEnd) : Type 0 where
+pub record AreEndsBelow (slots : Slots) (number : ℕ) (ends : List DelayEnd) : Type 0 where
   pub heap : IsDelayHeap ends
   pub exact : (t n : ℕ) → has_delay ends t n ≡ (nat_lt n number && ends_at t (delay_of_slot (slot_at slots n)))
 
-pub none_gathered : (slots : Slots) (ends : List DelayEnd) → ((t n : ℕ) → has_delay ends t n ≡ false) → IsDelayHeap ends → AreBelow slots 0 ends
+pub none_gathered : (slots : Slots) (ends : List DelayEnd) → ((t n : ℕ) → has_delay ends t n ≡ false) → IsDelayHeap ends → AreEndsBelow slots 0 ends
 none_gathered slots ends none heap = record { heap = heap; exact = λ t n. none t n ∙ sym (ap (λ b. b && ends_at t (delay_of_slot (slot_at slots n))) (below n)) }
   where
     below : (n : ℕ) → nat_lt n 0 ≡ false
     below n = grind (arith, nat_tests)
 
-module _ (slots : Slots) (number : ℕ) (before after : List DelayEnd) (delay : Option ℕ) (is : delay ≡ delay_of_slot (slot_at slots number)) (so_far : AreBelow slots number before)
+module _ (slots : Slots) (number : ℕ) (before after : List DelayEnd) (delay : Option ℕ) (is : delay ≡ delay_of_slot (slot_at slots number)) (so_far : AreEndsBelow slots number before)
     (more : HasDelayToo number delay before after) (stays : StaysHeap number delay before after) where
   new : IsNewDelay number delay before
   new t e = so_far.exact t number ∙ ap (λ b. b && ends_at t (delay_of_slot (slot_at slots number))) not_itself
@@ -56,7 +55,7 @@ module _ (slots : Slots) (number : ℕ) (before after : List DelayEnd) (delay : 
       by true e = let k : nat_lt n (number + 1) ≡ true = grind (arith, nat_tests) in k ∙ sym e
       by false e = let k : nat_lt n (number + 1) ≡ false = grind (arith, nat_tests) in k ∙ sym e
 
-  pub one_gathered : AreBelow slots (number + 1) after
+  pub one_gathered : AreEndsBelow slots (number + 1) after
   one_gathered = record {
     heap = stays new so_far.heap;
     exact = λ t n. more t n ∙ ap (λ b. b || (nat_eq number n && ends_at t delay)) (so_far.exact t n) ∙ by t n (same_or_not n number);
@@ -67,7 +66,7 @@ module _ (slots : Slots) (number : ℕ) (before after : List DelayEnd) (delay : 
       by t n (inl e) = here t n e
       by t n (inr apart) = there t n apart
 
-pub all_gathered : (slots : Slots) (number : ℕ) (ends : List DelayEnd) → length slots ≤ number → AreBelow slots number ends → AreDelays slots ends
+pub all_gathered : (slots : Slots) (number : ℕ) (ends : List DelayEnd) → length slots ≤ number → AreEndsBelow slots number ends → AreDelays slots ends
 all_gathered slots number ends long so_far = record { heap = so_far.heap; exact = λ t n. so_far.exact t n ∙ by t n (nat_lt n number) refl }
   where
     by : (t n : ℕ) (b : Bool) → nat_lt n number ≡ b → (nat_lt n number && ends_at t (delay_of_slot (slot_at slots n))) ≡ ends_at t (delay_of_slot (slot_at slots n))

@@ -1,5 +1,5 @@
 -- The directives that differ join, one after another.
-use Rattle.std.proofs.Common.{◌≡◌, ◌⊎◌, inl, inr, ℕ, ◌+◌, ◌<◌, ◌&&◌, nat_lt, Bool, true, false, IsTrue, List, [], ◌∷◌, length, drop, get_or, None, refl, sym, ap, ◌∙◌, subst, arith, if◌then◌else◌}
+use Rattle.std.proofs.Common.{◌≡◌, ◌⊎◌, inl, inr, ℕ, ◌+◌, ◌<◌, nat_lt, Bool, true, false, IsTrue, List, [], ◌∷◌, length, drop, get_or, refl, sym, ap, ◌∙◌, subst, arith, if◌then◌else◌}
 use Rattle.std.proofs.lemmas.Bool.Decides.{nat_tests}
 use Rattle.std.proofs.lemmas.List.{drop_more}
 use Rattle.aerie_base.specs.Paths.{root}
@@ -12,7 +12,7 @@ use Rattle.run_data.specs.laws.PathsUnder.{both_true}
 use Rattle.parting.specs.Exchanges.{differing_directives}
 use Rattle.live_tasks.specs.declared.tasks.LiveTasks.{LiveTasks}
 use Rattle.live_tasks.specs.Exchanging.{HasNoAnchor}
-use Rattle.live_tasks.specs.Joining.{AreUnderWay, Joins}
+use Rattle.live_tasks.specs.Joining.{AreUnderWay, IsJoinedBy}
 use Rattle.live_tasks.specs.PlannedTasks.{directive_task, HasNoTask}
 use Rattle.live_tasks.specs.Slots.{HasSlot}
 
@@ -66,7 +66,7 @@ module _ (differs : ℕ → Bool) (model : Parts) (directives : List Directive) 
   split : (b : Bool) → differs directive.id ≡ b → differing_directives differs (drop index directives) ≡ rest_of b
   split b e = ap (differing_directives differs) here ∙ ap rest_of e
 
-  with_it : (after : LiveTasks) → differs directive.id ≡ true → Joins (root directive.id) (directive_task model directive) before after → HaveJoined differs model directives (index + 1) first after
+  with_it : (after : LiveTasks) → differs directive.id ≡ true → IsJoinedBy (root directive.id) (directive_task model directive) before after → HaveJoined differs model directives (index + 1) first after
   with_it after e joins = record {
     last = directive.id;
     next_id = has.next_id;
@@ -96,7 +96,7 @@ module _ (differs : ℕ → Bool) (model : Parts) (directives : List Directive) 
         let so_far = has.joined table its in (so_far.0, so_far.1, ap (λ l. with_directives model l so_far.0) (sym (split false e)) ∙ so_far.2);
   }
 
-  pub next_joined : (after : LiveTasks) → (differs directive.id ≡ true → Joins (root directive.id) (directive_task model directive) before after) → (differs directive.id ≡ false → after ≡ before) →
+  pub next_joined : (after : LiveTasks) → (differs directive.id ≡ true → IsJoinedBy (root directive.id) (directive_task model directive) before after) → (differs directive.id ≡ false → after ≡ before) →
       HaveJoined differs model directives (index + 1) first after
   next_joined after joins same = by (differs directive.id) refl
     where

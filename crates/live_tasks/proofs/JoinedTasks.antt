@@ -1,5 +1,5 @@
 -- A directive that has not begun joins tasks of which some have.
-use Rattle.std.proofs.Common.{◌≡◌, ◌≢◌, ◌⊎◌, inl, inr, ℕ, ◌+◌, nat_eq, Bool, true, not, ◌&&◌, false, List, ◌∷◌, Option, Some, None, refl, sym, ap, ◌∙◌, subst, arith}
+use Rattle.std.proofs.Common.{◌≡◌, ◌≢◌, ◌⊎◌, inl, inr, ℕ, nat_eq, true, not, ◌&&◌, false, List, Option, Some, None, refl, sym, ap, ◌∙◌, subst, arith}
 use Rattle.aerie_base.specs.declared.plans.Anchor.{Anchor}
 use Rattle.aerie_base.specs.declared.plans.Edge.{Edge}
 use Rattle.run_data.specs.declared.tasks.TaskState.{TaskState}
@@ -11,7 +11,7 @@ use Rattle.live_tasks.specs.declared.slots.Slot.{Slot}
 use Rattle.live_tasks.specs.declared.tasks.LiveTasks.{LiveTasks}
 use Rattle.live_tasks.specs.Endings.{slot_has_ended, HasCalledChild, StaysThere}
 use Rattle.live_tasks.specs.Followers.{Follows, AreFollowers}
-use Rattle.live_tasks.specs.Joining.{AreUnderWay, Joins}
+use Rattle.live_tasks.specs.Joining.{AreUnderWay, IsJoinedBy}
 use Rattle.live_tasks.specs.ListedSlots.{KeepsAll}
 use Rattle.live_tasks.specs.PlannedTasks.{IsPlannedBy, HasNoTask, HasPathToo}
 use Rattle.live_tasks.specs.Slots.{Slots, slot_at, Becomes, under, child_in, live_children_of, IsRoot, StandsUnder, IsForest, HasSlot}
@@ -170,5 +170,5 @@ module _ (before after : LiveTasks) (number : ℕ) (slot : Slot) (root_ : IsRoot
       listed = keeps way.listed;
     }
 
-  pub joins_one : Joins slot.path slot.task before after
+  pub joins_one : IsJoinedBy slot.path slot.task before after
   joins_one = record { more = one_more; joined = one_joined }

@@ -22,10 +22,10 @@ pub record AreUnderWay (table : Table) (tasks : LiveTasks) : Type 0 where
   pub listed : ListsAll tasks.tables
 
 -- a task of a path joins others, of which none has the path
-pub record Joins (path : List ℕ) (task : Task) (before after : LiveTasks) : Type 0 where
+pub record IsJoinedBy (path : List ℕ) (task : Task) (before after : LiveTasks) : Type 0 where
   pub more : HasPathToo path before after
   pub joined : (table : Table) → AreUnderWay table before → HasNoTask before path → AreUnderWay (with_task table path task) after
 
 -- some tasks join others
-abbrev pub JoinsAll : (Table → Table) → LiveTasks → LiveTasks → Type 0
-JoinsAll with_all before after = (table : Table) → AreUnderWay table before → AreUnderWay (with_all table) after
+abbrev pub AreJoinedBy : (Table → Table) → LiveTasks → LiveTasks → Type 0
+AreJoinedBy with_all before after = (table : Table) → AreUnderWay table before → AreUnderWay (with_all table) after

@@ -10,7 +10,7 @@ ghost use Rattle.parting.specs.Exchanges.{differing_directives, exchanged};
 ghost use Rattle.parting.specs.IdRanges.{is_id_between};
 ghost use Rattle.live_tasks.specs.Exchanging.{HaveNotBegun, HasNoAnchor, MayExchange};
 ghost use Rattle.live_tasks.specs.InStep.{table_in, IsInStep};
-ghost use Rattle.live_tasks.specs.Joining.{AreUnderWay, Joins, JoinsAll};
+ghost use Rattle.live_tasks.specs.Joining.{AreUnderWay, IsJoinedBy, AreJoinedBy};
 ghost use Rattle.live_tasks.specs.ListedSlots.{KeepsWaits};
 ghost use Rattle.live_tasks.specs.PlannedTasks.{directive_task, HasNoTask};
 ghost use Rattle.live_tasks.specs.Waking.{KeepsWakes};
@@ -56,7 +56,7 @@ impl LiveTasks {
     ) -> Result<(), OutOfMemory>
         requires { directive.now.anchor ≡ None }
         ensures joined { OnOk result (
-            Joins (root directive.now.id) (directive_task model.now directive.now) self.old self.new) }
+            IsJoinedBy (root directive.now.id) (directive_task model.now directive.now) self.old self.new) }
         ensures waits { OnOk result (KeepsWaits self.old.tables self.new.tables) }
     {
         let slot = directive_slot(alloc, model, directive)?;
@@ -75,7 +75,7 @@ impl LiveTasks {
     ) -> Result<(), OutOfMemory>
         requires { HasNoAnchor (is_id_between first past) directive.now }
         ensures joined { OnOk result (is_id_between first past directive.now.id ≡ true →
-            Joins (root directive.now.id) (directive_task model.now directive.now) self.old self.new) }
+            IsJoinedBy (root directive.now.id) (directive_task model.now directive.now) self.old self.new) }
         ensures same { is_id_between first past directive.now.id ≡ false → self.new ≡ self.old }
         ensures waits { OnOk result (KeepsWaits self.old.tables self.new.tables) }
     {
@@ -98,7 +98,7 @@ impl LiveTasks {
         requires alone { EachOf (HasNoAnchor (is_id_between first past)) directives.now }
         requires none { (id : ℕ) → is_id_between first past id ≡ true → HasNoTask self.old (root id) }
         ensures joined { OnOk result (
-            JoinsAll (with_directives model.now (differing_directives (is_id_between first past) directives.now)) self.old self.new) }
+            AreJoinedBy (with_directives model.now (differing_directives (is_id_between first past) directives.now)) self.old self.new) }
         ensures waits { OnOk result (KeepsWaits self.old.tables self.new.tables) }
     {
         for directive in directives {

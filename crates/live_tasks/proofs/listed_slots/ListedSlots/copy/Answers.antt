@@ -1,5 +1,4 @@
-use Rattle.std.proofs.Common.{ℕ, ◌∙◌, Option, sym, subst}
-use Rattle.aerie_base.specs.declared.conditions.Cond.{Cond}
+use Rattle.std.proofs.Common.{◌∙◌, sym, subst}
 use Rattle.live_tasks.specs.Conditions.{condition_at}
 use Rattle.live_tasks.specs.Slots.{Slots}
 use Rattle.live_tasks.specs.Waits.{IsKept}
