@@ -1,7 +1,6 @@
 -- The next batch of an engine beside old frames: they are its frames, or it differs.
-use Rattle.std.proofs.Common.{◌≡◌, inl, inr, ℕ, zero, suc, ◌+◌, ◌<◌, ◌≤◌, Bool, true, false, IsTrue, List, [], ◌∷◌, length, get_or, drop, map, Option, Some, None, slice_get, option_map, refl, sym, ap, ◌∙◌, subst, arith, lit<}
+use Rattle.std.proofs.Common.{◌≡◌, if◌then◌else◌, inl, inr, ℕ, zero, suc, ◌+◌, ◌<◌, ◌≤◌, Bool, true, false, IsTrue, List, [], ◌∷◌, length, get_or, drop, map, Option, Some, None, slice_get, option_map, refl, sym, ap, ◌∙◌, subst, arith, lit<}
 use Rattle.std.proofs.lemmas.List.{at_drop_all}
-use Rattle.std.specs.Prelude.{IfSome}
 use Rattle.std.specs.declared.cmp.Ordering.{Ordering}
 use Rattle.std.specs.declared.cmp.Ordering.TheVariants.{Less, Equal, Greater}
 use Rattle.aerie_base.specs.Paths.{path_cmp}
@@ -123,16 +122,14 @@ module _ (of_model : ReachedIsOfModel) (engine : EngineState) (stands : IsEngine
         (subst (λ (l : List Frame). AreAmong l fits.fitting) (fits.in_order ∙ sym same)
         (each_by (λ one. Among one (by_path fits.fitting)) fits.fitting (λ one h. among_sorted one fits.fitting h)))
 
-    -- what was found in an old batch, if anything
-    pub found_if : FittingFramesAreMade → {B : Type 0} (items : B → List Frame) (old : List Frame) (found : Option B) → FindsReady engine old (option_map items found) →
-        IfSome found (λ b. AreOfNextBatch engine (items b))
-    found_if made items old None finds = tt
-    found_if made items old (Some b) finds = found_are made (items b) finds
+    -- what was found in an old batch, if all was
+    pub found_if : FittingFramesAreMade → (old found : List Frame) (all : Bool) → FindsReady engine old (if all then Some found else None) → all ≡ true → AreOfNextBatch engine found
+    found_if made old found true finds is = found_are made found finds
+    found_if made old found false finds is = absurd (cc)
 
-    pub none_if : CommittedFramesFit → BatchFrames → {B : Type 0} (items : B → List Frame) (old : List Frame) (found : Option B) → FindsReady engine old (option_map items found) →
-        found ≡ None → BatchDiffers (Some old) engine
-    none_if committed_fit batch_frames_are items old None finds is = none_are committed_fit batch_frames_are old finds
-    none_if committed_fit batch_frames_are items old (Some b) finds is = absurd (cc)
+    pub none_if : CommittedFramesFit → BatchFrames → (old found : List Frame) (all : Bool) → FindsReady engine old (if all then Some found else None) → all ≡ false → BatchDiffers (Some old) engine
+    none_if committed_fit batch_frames_are old found true finds is = absurd (cc)
+    none_if committed_fit batch_frames_are old found false finds is = none_are committed_fit batch_frames_are old finds
 
 -- the same of an old batch where it was found
 pub differs_beside : {C : Type 0} (engine : EngineState) (now : C → List Frame) (beside : Option C) (old : C) → beside ≡ Some old → BatchDiffers (Some (now old)) engine → BatchDiffers (option_map now beside) engine

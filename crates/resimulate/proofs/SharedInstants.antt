@@ -23,8 +23,8 @@ use Rattle.run_data.specs.laws.Iteration.{comes_by_transitions}
 use Rattle.run_data.specs.laws.LateDifferences.{instants_before, instants_of, StartsLate, IsLate, DifferLate, SameInstantsBefore, AffordsNoLess}
 use Rattle.run_data.specs.laws.Orders.{EachOf}
 use Rattle.resimulate.specs.EarlyEnds.{MayBeEnded}
-use Rattle.resimulate.specs.OldBatches.{is_earlier}
-use Rattle.resimulate.specs.Partings.{AreEarly, is_id_between, others_of, StartsLater, IsDueLater, DifferLater, SkipsTo, IsNextToo, SharesFirst}
+use Rattle.resimulate.specs.OldBatches.{AreEarly, is_earlier}
+use Rattle.resimulate.specs.Partings.{is_id_between, others_of, StartsLater, IsDueLater, DifferLater, SkipsTo, IsNextToo, SharesFirst}
 use Rattle.resimulate.proofs.TaskTraces.{drop_next, drop_past}
 
 -- ---- each of a list

@@ -1,12 +1,13 @@
 -- Worked cases: a new run of three instants beside an old one.
-use Rattle.std.specs.Prelude.{◌≡◌, ℕ, nat_eq, true, false, if◌then◌else◌, List, [], ◌∷◌, Some, None, refl}
+use Rattle.std.specs.Prelude.{◌≡◌, ℕ, zero, suc, ◌<◌, ◌≤◌, nat_eq, true, false, if◌then◌else◌, List, [], ◌∷◌, Some, None, refl}
+use Rattle.std.proofs.Common.{subst, arith, lit<, lit≤}
 use Rattle.aerie_base.specs.Paths.{root}
 use Rattle.run_data.specs.TaskFrames.{Frame}
 use Rattle.run_data.specs.declared.frames.Status.TheVariants.{Done}
 use Rattle.run_data.specs.declared.runs.Instant.{Instant}
 use Rattle.run_data.specs.declared.tasks.BodyId.TheVariants.{Activity}
 use Rattle.resimulate.specs.EvenInstants.{frames_of_others}
-use Rattle.resimulate.specs.OldBatches.{instant_at_time, batch_at}
+use Rattle.resimulate.specs.OldBatches.{AreEarly, IsFirstFrom, instant_at_time, batch_at}
 
 -- a step to the end of the body of a directive
 abbrev last_step : ℕ → Frame
@@ -35,6 +36,18 @@ no_third_batch_at_five = refl
 
 pub no_instant_at_six : instant_at_time 6 instants ≡ None
 no_instant_at_six = refl
+
+-- the first instant that is not before 6 is that at 9, and not that at 5
+pub two_are_before_six : IsFirstFrom 6 2 instants
+two_are_before_six = record { early = by; late = λ one there. (let same : instant 9 ((last_step 4 ∷ []) ∷ []) ≡ one = cc in subst (λ (i : Instant). 6 ≤ i.time) same (lit≤ tt)) }
+  where
+    by : AreEarly 6 2 instants
+    by zero one there less = (let same : instant 2 ((last_step 1 ∷ []) ∷ []) ≡ one = cc in subst (λ (i : Instant). i.time < 6) same (lit< tt))
+    by (suc zero) one there less = (let same : instant 5 ((last_step 2 ∷ []) ∷ (last_step 3 ∷ []) ∷ []) ≡ one = cc in subst (λ (i : Instant). i.time < 6) same (lit< tt))
+    by (suc (suc k)) one there less = absurd (omega (arith, less))
+
+pub no_two_are_before_five : AreEarly 5 2 instants → ⊥
+no_two_are_before_five early = (let less = early 1 (instant 5 ((last_step 2 ∷ []) ∷ (last_step 3 ∷ []) ∷ [])) refl (lit< tt) in absurd (omega (arith, less)))
 
 -- where the instant at 5 alone differs, its frames alone may be paid for
 pub frames_of_the_uneven_instant : frames_of_others (λ one. if nat_eq one.time 5 then false else true) instants ≡ last_step 2 ∷ last_step 3 ∷ []

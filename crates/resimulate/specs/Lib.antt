@@ -12,3 +12,4 @@ pub mod Traces
 pub mod Likeness
 pub mod EarlyEnds
 pub mod Partings
+pub mod PartingCases

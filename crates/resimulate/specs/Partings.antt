@@ -51,10 +51,6 @@ IsNextToo first past one others from to =
 
 -- ---- instants
 
--- the instants before an index are before a time
-abbrev pub AreEarly : ℕ → ℕ → List Instant → Type 0
-AreEarly until at instants = (k : ℕ) (instant : Instant) → slice_get instants k ≡ Some instant → k < at → instant.time < until
-
 -- so many of the first instants of an old run are those of the new simulation as well, as far as that came
 abbrev pub SharesFirst : Parts → Plan → ℕ → Run → ℕ → Type 0
 SharesFirst model plan bound old count =

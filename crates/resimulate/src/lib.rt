@@ -4,6 +4,7 @@
 mod alike;
 mod cells;
 mod costs;
+mod cursor;
 mod early_ends;
 pub mod laws;
 mod old_batches;

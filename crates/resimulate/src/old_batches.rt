@@ -1,9 +1,9 @@
-//! The batch of an old run beside that of a new one.
+//! The instants of an old run, and their batches, by time and place.
 
 ghost use Rattle.std.specs.Prelude.{◌≡◌, nat_eq, option_map, slice_get};
 ghost use Rattle.std.specs.Option.{option_copied};
 ghost use Rattle.run_data.specs.laws.Rising.{RiseFromStart};
-ghost use Rattle.resimulate.specs.OldBatches.{instant_at_time, batch_at, is_earlier};
+ghost use Rattle.resimulate.specs.OldBatches.{AreEarly, IsFirstFrom, instant_at_time, is_earlier};
 
 use aerie_base::{Shared, Time};
 use run_data::{Frame, Instant};
@@ -22,12 +22,25 @@ fn is_at(instant: &Instant, time: Time) -> bool
     instant.time == time
 }
 
-/// The instant at a time, found at a cost of as many comparisons as the number of instants has digits.
-fn instant_at(instants: &[Shared<Instant>], time: Time) -> Option<&Instant>
-    requires { RiseFromStart instants.now }
+/// The index of the first instant that is not before a time, where that is this one or a later one.
+pub(crate) fn first_from(instants: &[Shared<Instant>], from: usize, time: Time) -> usize
+    requires { AreEarly time from instants.now }
+    ensures { IsFirstFrom time result instants.now }
+{
+    for at in from..instants.len() {
+        if !is_earlier(&instants[at], time) {
+            return at;
+        }
+    }
+    instants.len()
+}
+
+/// The instant at a time, where the first that is not before it has this index.
+pub(crate) fn instant_at(instants: &[Shared<Instant>], at: usize, time: Time) -> Option<&Instant>
+    requires rise { RiseFromStart instants.now }
+    requires first { IsFirstFrom time at instants.now }
     ensures { option_copied result ≡ instant_at_time time instants.now }
 {
-    let at = instants.partition_point(|instant| is_earlier(instant, time));
     let Some(shared) = instants.get(at) else {
         return None;
     };
@@ -40,22 +53,11 @@ fn instant_at(instants: &[Shared<Instant>], time: Time) -> Option<&Instant>
 }
 
 /// The batch of an instant at a place.
-fn batch_in(instant: &Instant, place: usize) -> Option<&[Frame]>
+pub(crate) fn batch_in(instant: &Instant, place: usize) -> Option<&[Frame]>
     ensures { option_map (λ frames. frames.now) result ≡ slice_get instant.now.batches place }
 {
     match instant.batches.as_slice().get(place) {
         Some(frames) => Some(frames.as_slice()),
-        None => None,
-    }
-}
-
-/// The batch at a time and a place.
-pub(crate) fn old_batch(instants: &[Shared<Instant>], time: Time, place: usize) -> Option<&[Frame]>
-    requires { RiseFromStart instants.now }
-    ensures { option_map (λ frames. frames.now) result ≡ batch_at time place instants.now }
-{
-    match instant_at(instants, time) {
-        Some(instant) => batch_in(instant, place),
         None => None,
     }
 }

@@ -2,10 +2,6 @@
 //! where it may succeed, where enough is left of the old run to gain by it, and as long as all comparisons cost a small part of a
 //! simulation.
 
-use crate::old_batches::is_earlier;
-use aerie_base::{Shared, Time};
-use run_data::Instant;
-
 /// How many batches in a row have to be taken over behind a difference, before the first comparison.
 const FIRST_CALM: u32 = 8;
 
@@ -34,8 +30,6 @@ pub(crate) struct Pace {
     allowed: usize,
     /// The batches that were taken over and have not been counted in `allowed`.
     spare: u32,
-    /// The index of the next instant of the old run.
-    next: usize,
     /// How many directives there are.
     directives: usize,
 }
@@ -49,7 +43,6 @@ impl Pace {
             is_apart: false,
             allowed: olds.saturating_add(directives) / SHARE,
             spare: 0,
-            next: 0,
             directives,
         }
     }
@@ -57,18 +50,6 @@ impl Pace {
     /// How many instants a comparison goes over, behind so many, the later of which may differ.
     fn price(&self, instants: usize, later: usize) -> usize {
         later.saturating_add(instants.saturating_add(self.directives) / LIGHT_IN_ONE)
-    }
-
-    /// At the beginning of an instant. An instant of the old run that was passed over is a difference too.
-    pub(crate) fn begin_instant(&mut self, olds: &[Shared<Instant>], time: Time) {
-        let at = olds.partition_point(|instant| is_earlier(instant, time));
-        if at > self.next {
-            self.part();
-        }
-        self.next = match olds.get(at) {
-            Some(old) if old.get().time == time => at.saturating_add(1),
-            _ => at,
-        };
     }
 
     /// Whether to compare now, behind so many instants, the later of which may differ, where so many are left of the old run.

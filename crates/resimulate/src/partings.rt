@@ -7,7 +7,8 @@ ghost use Rattle.run_data.specs.Fresh.{IsFresh};
 ghost use Rattle.run_data.specs.laws.Orders.{EachOf};
 ghost use Rattle.run_data.specs.laws.Rising.{RiseFromStart};
 ghost use Rattle.resimulate.specs.EarlyEnds.{MayBeEnded};
-ghost use Rattle.resimulate.specs.Partings.{AreEarly, DifferLater, IsDueLater, IsNextToo, MayEndFrom, SharesFirst, SkipsTo, StartsLater, is_id_between, others_of};
+ghost use Rattle.resimulate.specs.OldBatches.{AreEarly};
+ghost use Rattle.resimulate.specs.Partings.{DifferLater, IsDueLater, IsNextToo, MayEndFrom, SharesFirst, SkipsTo, StartsLater, is_id_between, others_of};
 
 use crate::early_ends::may_be_ended;
 use crate::old_batches::is_earlier;

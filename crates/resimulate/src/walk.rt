@@ -1,6 +1,6 @@
 //! The simulation of a plan beside an old run.
 
-ghost use Rattle.std.specs.Prelude.{◌≡◌, ◌≤◌, [], None, IfOk, IfSome, option_map};
+ghost use Rattle.std.specs.Prelude.{◌≡◌, ◌≤◌, [], false, None, Some, IsTrue, IfOk, IfSome, option_map, if◌then◌else◌};
 ghost use Rattle.aerie_base.specs.Ranges.{step_limit};
 ghost use Rattle.aerie_base.specs.plans.OfModel.{IsPlanOf};
 ghost use Rattle.run_data.specs.Fresh.{IsFresh};
@@ -13,8 +13,8 @@ ghost use Rattle.resimulate.specs.EvenInstants.{PaysForUneven, LooksForUneven};
 ghost use Rattle.resimulate.specs.Partings.{MayEndFrom};
 ghost use Rattle.resimulate.specs.Walks.{FindsReady, AreOfNextBatch, BatchDiffers, GoesOn, counts_by};
 
+use crate::cursor::Cursor;
 use crate::early_ends::rest_if_alike;
-use crate::old_batches::old_batch;
 use crate::pace::Pace;
 use crate::partings::may_end_from;
 use aerie_base::{Model, OutOfMemory, Plan, Shared, Steps};
@@ -29,48 +29,50 @@ use run_data::{Frame, Instant, Kept, Run, Stepper};
 use std::alloc::Global;
 use std::sync::ledger::Ledger;
 
-/// Frames of an old batch that fit the ready jobs of an engine, if all are there.
+/// Finds the frames of an old batch that fit the ready jobs of an engine, or tells that one of them is not there.
 fn fitting_frames<'a>(
     alloc: Global,
     model: &Model,
     bound: u64,
     engine: &Engine<'a>,
     old: &[Frame],
-) -> Result<Option<Vec<Frame>>, OutOfMemory>
+    found: &mut Vec<Frame>,
+) -> Result<bool, OutOfMemory>
     requires model { engine.now.model ≡ model.now }
     requires bound { engine.now.bound ≡ bound }
     requires old { IsOldBatch model.now old.now }
-    ensures { IfOk result (λ found. FindsReady engine.now old.now (option_map (λ all. all.items) found)) }
+    ensures { IfOk result (λ all. FindsReady engine.now old.now (if all then Some found.new.items else None)) }
 {
     reached_states_are_of_the_model();
     tasks_stand_by_number();
     let _ = model.cells();
-    let mut found = Vec::with_capacity(alloc, old.len())?;
+    found.clear();
     let jobs = engine.ready();
     for at in 0..jobs.len() {
         let number = engine.made(at);
-        let yes = fit_job(alloc, model, bound, old, &jobs[at], number, &mut found)?;
+        let yes = fit_job(alloc, model, bound, old, &jobs[at], number, found)?;
         if !yes {
-            return Ok(None);
+            return Ok(false);
         }
     }
-    Ok(Some(found))
+    Ok(true)
 }
 
-/// The frames of the next batch of an engine, if they are all among those of the old batch beside it.
+/// Finds the frames of the next batch of an engine, if they are all among those of the old batch beside it.
 fn old_frames<'a>(
     alloc: Global,
     model: &Model,
     bound: u64,
     engine: &Engine<'a>,
     beside: Option<&[Frame]>,
-) -> Result<Option<Vec<Frame>>, OutOfMemory>
+    found: &mut Vec<Frame>,
+) -> Result<bool, OutOfMemory>
     requires model { engine.now.model ≡ model.now }
     requires bound { engine.now.bound ≡ bound }
     requires old { IfSome beside (λ old. IsOldBatch model.now old.now) }
-    ensures found { IfOk result (λ found. IfSome found (λ frames. AreOfNextBatch engine.now frames.items)) }
-    ensures none { IfOk result (λ found.
-        found ≡ None → BatchDiffers (option_map (λ old. old.now) beside.entry) engine.now) }
+    ensures found { IfOk result (λ all. IsTrue all → AreOfNextBatch engine.now found.new.items) }
+    ensures none { IfOk result (λ all.
+        all ≡ false → BatchDiffers (option_map (λ old. old.now) beside.entry) engine.now) }
 {
     frames_of_batches_are_of_tasks();
     reached_states_are_of_the_model();
@@ -79,14 +81,14 @@ fn old_frames<'a>(
     let _ = model.cells();
     let _ = engine.ready();
     let Some(old) = beside else {
-        return Ok(None);
+        return Ok(false);
     };
-    let found = fitting_frames(alloc, model, bound, engine, old)?;
-    Ok(found)
+    let all = fitting_frames(alloc, model, bound, engine, old, found)?;
+    Ok(all)
 }
 
 /// The next batch of an engine: of the old frames, where all of its own are among these, and else by the stepper. The pace is
-/// told which.
+/// told which. What is found lies in room that is kept from batch to batch.
 #[allow(clippy::too_many_arguments)]
 fn next_batch<'a, S: Stepper, L: Ledger, K: Ledger>(
     alloc: Global,
@@ -94,6 +96,7 @@ fn next_batch<'a, S: Stepper, L: Ledger, K: Ledger>(
     bound: u64,
     engine: Engine<'a>,
     beside: Option<&[Frame]>,
+    found: &mut Vec<Frame>,
     pace: &mut Pace,
     stepper: &mut S,
     steps: &mut Steps<L>,
@@ -112,29 +115,32 @@ fn next_batch<'a, S: Stepper, L: Ledger, K: Ledger>(
         (S.address stepper.old) (S.address stepper.new) (S.opened stepper.old) steps.old looks.old
         (S.opened stepper.new) steps.new looks.new }
 {
-    let found = old_frames(alloc, model, bound, &engine, beside)?;
-    match found {
-        Some(frames) => {
-            pace.go_on();
-            let later = engine.take_over(alloc, frames.as_slice())?;
-            Ok(later)
-        }
-        None => {
-            pace.part();
-            let later = engine.step(alloc, stepper, steps, looks)?;
-            Ok(later)
-        }
+    let all = old_frames(alloc, model, bound, &engine, beside, found)?;
+    if all {
+        pace.go_on();
+        let later = engine.take_over(alloc, found.as_slice())?;
+        Ok(later)
+    } else {
+        pace.part();
+        let later = engine.step(alloc, stepper, steps, looks)?;
+        Ok(later)
     }
 }
 
-/// Whether it is time to compare, at the beginning of an instant.
-fn is_due<'a>(engine: &Engine<'a>, old: &Run, shared: usize, pace: &mut Pace) -> bool
-    requires { jobs_in engine.now.point ≡ [] → ⊥ }
-{
-    let olds = old.instants.as_slice();
-    pace.begin_instant(olds, engine.time());
+/// Whether it is time to compare, at the beginning of an instant. An instant of the old run that was passed over is a difference
+/// too.
+fn is_due<'a, 'r>(
+    engine: &Engine<'a>,
+    old: &Run,
+    cursor: &Cursor<'r>,
+    shared: usize,
+    pace: &mut Pace,
+) -> bool {
+    if cursor.has_passed() {
+        pace.part();
+    }
     let instants = engine.instants().len();
-    let left = olds.len().saturating_sub(instants);
+    let left = old.instants.as_slice().len().saturating_sub(instants);
     let later = instants.saturating_sub(shared);
     let yes = pace.is_due(instants, later, left);
     if yes {
@@ -153,6 +159,7 @@ fn rest_if_due<'a, 'r>(
     bound: u64,
     engine: &Engine<'a>,
     old: &'r Run,
+    cursor: &Cursor<'r>,
     may_end: Option<usize>,
     pace: &mut Pace,
 ) -> Result<Option<&'r [Shared<Instant>]>, OutOfMemory>
@@ -172,7 +179,7 @@ fn rest_if_due<'a, 'r>(
     if !engine.batches().is_empty() {
         return Ok(None);
     }
-    if !is_due(engine, old, shared, pace) {
+    if !is_due(engine, old, cursor, shared, pace) {
         return Ok(None);
     }
     let found = rest_if_alike(alloc, model, plan, bound, engine, old, shared)?;
@@ -220,19 +227,22 @@ pub fn resimulate<S: Stepper, L: Ledger, K: Ledger>(
     let instants = run.instants.as_slice();
     let planned = plan.get();
     let may_end = may_end_from(model, planned, bound, run);
+    let mut cursor = Cursor::new(instants);
+    let mut found = Vec::new(alloc);
     let mut pace = Pace::new(instants.len(), planned.directives.as_slice().len());
     let mut engine = Engine::begin(alloc, model, plan, bound)?;
     while !engine.ready().is_empty() {
+        cursor.go_to(engine.time());
         let rest = rest_if_due(
-            alloc, model, planned, bound, &engine, run, may_end, &mut pace,
+            alloc, model, planned, bound, &engine, run, &cursor, may_end, &mut pace,
         )?;
         if let Some(rest) = rest {
             let ended = engine.end_with(rest)?;
             return Ok(ended);
         }
-        let beside = old_batch(instants, engine.time(), engine.batches().len());
+        let beside = cursor.batch(engine.batches().len());
         engine = next_batch(
-            alloc, model, bound, engine, beside, &mut pace, stepper, steps, looks,
+            alloc, model, bound, engine, beside, &mut found, &mut pace, stepper, steps, looks,
         )?;
     }
     Ok(engine.finish())

@@ -1,7 +1,8 @@
 use Rattle.std.proofs.Common.{◌≤◌, List, length, subst, arith}
 use Rattle.aerie_base.specs.declared.plans.Plan.{Plan}
 use Rattle.run_data.specs.declared.runs.Instant.{Instant}
-use Rattle.resimulate.specs.Partings.{AreEarly, DifferLater}
+use Rattle.resimulate.specs.OldBatches.{AreEarly}
+use Rattle.resimulate.specs.Partings.{DifferLater}
 use Rattle.resimulate.proofs.SharedInstants.{shares}
 use Rattle.resimulate.proofs.partings.shared_instants.Goals as goal
 

@@ -23,7 +23,7 @@ here : (jobs : List (ℕ × Job)) (listed : List Job) (at number : ℕ) (job : J
 here jobs listed at number job is less made there = jobs_from jobs at number job (is_below jobs listed at is less) made (there ∙ ap (λ (l : List Job). get_or l at job) is)
 
 pub loop-at-init : goal.loop-at-init
-loop-at-init c = ready_first c.args.engine.now c.args.old.now c.in_ok-found.found.items c.in_ok-found.ensures.items
+loop-at-init c = ready_first c.args.engine.now c.args.old.now c.clear.new.self.items c.clear.ensures.items
 
 pub made-number-requires : goal.made-number-requires
 made-number-requires c = is_below (jobs_in c.args.engine.now.point) c.ready-jobs.result.now c.loop-at.at c.ready-jobs.ensures.jobs c.loop-at-test.true

@@ -4,13 +4,13 @@ use Rattle.aerie_base.specs.declared.models.model.Parts.{Parts}
 use Rattle.aerie_base.specs.declared.plans.Plan.{Plan}
 use Rattle.aerie_base.specs.plans.OfModel.{IsPlanOf}
 use Rattle.run_data.specs.TaskFrames.{Frame}
-use Rattle.run_data.specs.declared.runs.Instant.{Instant}
 use Rattle.run_data.specs.declared.runs.Run.{Run}
 use Rattle.run_data.specs.Counts.{rose_not}
 use Rattle.run_data.specs.Fresh.{IsFresh}
+use Rattle.run_data.specs.laws.Rising.{RiseFromStart}
 use Rattle.engine_core.specs.EngineStates.{batches_in, jobs_in}
 use Rattle.fitting.specs.Fitting.{IsOldBatch}
-use Rattle.resimulate.specs.OldBatches.{batch_at}
+use Rattle.resimulate.specs.OldBatches.{batch_at, batch_of, instant_at_time}
 use Rattle.engine_core.specs.BatchRuns.{ran_on}
 use Rattle.engine_core.specs.EnginePoints.{some_job, ran_not}
 use Rattle.resimulate.specs.EarlyEnds.{IsRest}
@@ -27,21 +27,26 @@ loop-run-init g c = record {
   beside =
       beside_first c.args.model.now c.args.plan.now c.args.bound c.args.old.now.run (g.S.Stepper.records c.args.stepper.now) c.args.steps.now c.args.looks.now c.in_ok-engine.engine
       c.in_ok-engine.ensures.stands c.in_ok-engine.ensures.model c.in_ok-engine.ensures.plan c.in_ok-engine.ensures.bound c.in_ok-engine.ensures.first;
+  cursor = c.new-cursor.ensures ∙ c.as_slice-instants.ensures ∙ ap (λ (r : Run). r.instants) c.run-run.ensures.value;
   ran =
       ran_not (g.S.Stepper.is_of c.args.stepper.now) (g.S.Stepper.records c.args.stepper.now) (g.S.Stepper.address c.args.stepper.now) (g.S.Stepper.opened c.args.stepper.now)
       c.args.steps.now c.args.looks.now (g.S.Stepper.counted c.args.stepper.now);
 }
 
+pub go_to-requires : goal.go_to-requires
+go_to-requires g c =
+    let old = c.args.old.now.run in
+    subst RiseFromStart (sym c.loop-run.invariant.cursor) (c.instants_rise.ensures.rise c.args.old.now.model old.plan old.bound old c.run-run.ensures.fresh)
+
 pub next_batch-requires-clause-old : goal.next_batch-requires-clause-old
 next_batch-requires-clause-old g c =
     let old = c.args.old.now.run in
-    let instants : c.as_slice-instants.result.now ≡ old.instants = c.as_slice-instants.ensures ∙ ap (λ (r : Run). r.instants) c.run-run.ensures.value in
-    beside_is (λ frames. frames.now) (IsOldBatch c.args.model.now) c.old_batch-beside.result
-    (batch_at c.time.result (length c.batches.result.now) c.as_slice-instants.result.now) c.old_batch-beside.ensures
+    let place = length c.batches.result.now in
+    let here = c.go_to.ensures.here ∙ ap (instant_at_time c.time.result) c.loop-run.invariant.cursor in
+    beside_is (λ frames. frames.now) (IsOldBatch c.args.model.now) c.batch-beside.result (batch_at c.time.result place old.instants) (c.batch-beside.ensures ∙ ap (batch_of place) here)
     (λ frames there.
     subst (λ (m : Parts). IsOldBatch m frames) c.requires.old
-    (old_batches_are c.fresh_runs.ensures.frames c.fresh_runs.ensures.batches c.args.old.now.model old.plan old.bound old c.run-run.ensures.fresh c.time.result (length c.batches.result.now) frames
-    (ap (λ (l : List Instant). batch_at c.time.result (length c.batches.result.now) l) (sym instants) ∙ there)))
+    (old_batches_are c.fresh_runs.ensures.frames c.fresh_runs.ensures.batches c.args.old.now.model old.plan old.bound old c.run-run.ensures.fresh c.time.result place frames there))
 
 pub returns-in_err-engine-2-clause-opened : goal.returns-in_err-engine-2-clause-opened
 returns-in_err-engine-2-clause-opened g c = (ran_on c.loop-run.invariant.ran c.next_batch.ensures.ran).rose
@@ -49,7 +54,7 @@ returns-in_err-engine-2-clause-opened g c = (ran_on c.loop-run.invariant.ran c.n
 pub loop-run-preserved : goal.loop-run-preserved
 loop-run-preserved g c =
     let old = c.args.old.now.run in
-    let instants : c.as_slice-instants.result.now ≡ old.instants = c.as_slice-instants.ensures ∙ ap (λ (r : Run). r.instants) c.run-run.ensures.value in
+    let here = c.go_to.ensures.here ∙ ap (instant_at_time c.time.result) c.loop-run.invariant.cursor in
     let rise = c.instants_rise.ensures.rise c.args.old.now.model old.plan old.bound old c.run-run.ensures.fresh in
     let many = ap (λ (l : List (List Frame)). length l) c.batches.ensures in
     let some = some_job (jobs_in c.loop-run.engine.point) c.ready.result.now c.ready.ensures.jobs (eqb-false _ 0 (sym c.is_empty.ensures ∙ c.loop-run-test.true)) in
@@ -57,7 +62,8 @@ loop-run-preserved g c =
       beside =
           beside_on c.args.model.now c.args.plan.now c.args.bound old (g.S.Stepper.records c.args.stepper.now) c.args.steps.now c.args.looks.now c.loop-run.engine c.loop-run.steps c.loop-run.looks
           c.loop-run.invariant.beside some c.in_ok-engine-2.engine _ (g.S.Stepper.records c.loop-run.stepper) c.loop-run.invariant.ran.records c.next_batch.new.steps c.next_batch.new.looks
-          c.in_ok-engine-2.ensures.goes_on rise (c.old_batch-beside.ensures ∙ (λ i. batch_at (c.time.ensures i) (many i) (instants i)));
+          c.in_ok-engine-2.ensures.goes_on rise (c.batch-beside.ensures ∙ ap (batch_of (length c.batches.result.now)) here ∙ (λ i. batch_at (c.time.ensures i) (many i) old.instants));
+      cursor = c.go_to.ensures.instants ∙ c.loop-run.invariant.cursor;
       ran = ran_on c.loop-run.invariant.ran c.next_batch.ensures.ran;
     }
 
