@@ -9,7 +9,7 @@ use crate::telling;
 use aerie_base::{Edge, Model, OutOfMemory, Plan, Shared, Steps};
 use body_code::compile_all;
 use engine_core::simulate;
-use resimulate::resimulate;
+use resimulate::{Marks, resimulate};
 use run_data::laws::fresh_runs;
 use run_data::{Kept, Run};
 use std::alloc::Global;
@@ -33,11 +33,12 @@ model echoed {
 }
 ";
 
-/// How a plan was simulated beside the run of another: its instants, what they are from the start, and how many statements
-/// and tests were run beside.
+/// How a plan was simulated beside the run of another: its instants, what they are once more from the marks of that simulation and
+/// from the start, and how many statements and tests were run beside.
 #[derive(Drop)]
 struct Told {
     beside: String,
+    again: String,
     from_start: String,
     statements: u64,
 }
@@ -72,21 +73,45 @@ fn kept<L: Ledger, K: Ledger>(
     Kept::new(alloc, model.share()?, run)
 }
 
-/// The run of a plan beside an old one, and how many statements and tests were run.
+/// The run of a plan beside an old one, the same from the marks of that simulation, and how many statements and tests were run for
+/// the first.
 fn resimulated<L: Ledger, K: Ledger>(
     alloc: Global,
     old: &Kept,
     plan: &Shared<Plan>,
     steps: &mut Steps<L>,
     looks: &mut Steps<K>,
-) -> Result<(Run, u64), OutOfMemory>
+) -> Result<(Run, Run, u64), OutOfMemory>
     requires plan { IsPlanOf old.now.model plan.now }
 {
     let model = old.model().get();
     let codes = compile_all(alloc, model)?;
     let mut direct = Direct::new(codes.as_slice());
-    let run = resimulate(alloc, model, old, plan, 1000, &mut direct, steps, looks)?;
-    Ok((run, direct.opened()))
+    let mut marks = Marks::new(alloc);
+    let run = resimulate(
+        alloc,
+        model,
+        old,
+        &mut marks,
+        plan,
+        1000,
+        &mut direct,
+        steps,
+        looks,
+    )?;
+    let statements = direct.opened();
+    let again = resimulate(
+        alloc,
+        model,
+        old,
+        &mut marks,
+        plan,
+        1000,
+        &mut direct,
+        steps,
+        looks,
+    )?;
+    Ok((run, again, statements))
 }
 
 /// A plan of a model beside the run of another one.
@@ -103,9 +128,10 @@ fn compared<L: Ledger, K: Ledger>(
 {
     let old = kept(alloc, model, before, steps, looks)?;
     let new = kept(alloc, model, after, steps, looks)?;
-    let (run, statements) = resimulated(alloc, old.get(), after, steps, looks)?;
+    let (run, again, statements) = resimulated(alloc, old.get(), after, steps, looks)?;
     Ok(Told {
         beside: telling::instants(alloc, &run)?,
+        again: telling::instants(alloc, &again)?,
         from_start: telling::instants(alloc, new.get().run())?,
         statements,
     })
@@ -142,6 +168,7 @@ pub(crate) fn runs_alike<R: Abort>(
         rt, "memory",
     );
     assert_eq!(rt; told.beside.as_str(), told.from_start.as_str());
+    assert_eq!(rt; told.again.as_str(), told.from_start.as_str());
     told.statements
 }
 

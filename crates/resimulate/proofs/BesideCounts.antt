@@ -157,11 +157,11 @@ module _ (old : Run) (weight : List Frame → ℕ) (adds : (first rest : List Fr
           (batched engine.model engine.plan engine.bound now after at jobs (λ cells touched frames whole. rises at cells touched frames is whole) so_far))
       by (finished run) is jobs so_far goes = absurd (jobs refl)
 
-  -- ---- at the start, and at the run
+  -- ---- where nothing was counted yet, and at the run
 
-  pub counts_first : (model : Parts) (plan : Plan) (bound : ℕ) (point : Next SimulationState Run) → LeadsTo model plan bound (more (pruned (start model plan))) point → CountsAt old weight before point before
-  counts_first model plan bound point leads =
-      led model plan bound before (more (pruned (start model plan))) point leads (λ test even. inl (omega arith))
+  pub counts_first : (point : Next SimulationState Run) → CountsAt old weight before point before
+  counts_first (more at) = λ test even. inl (omega arith)
+  counts_first (finished run) = λ done test even. omega arith
 
   pub counts_last : (point : Next SimulationState Run) (run : Run) (now : ℕ) → point ≡ finished run → CountsAt old weight before point now → run.outcome ≡ Completed →
       (test : Instant → Bool) → PassesEven old test → now ≤ before + weight (frames_of_others test run.instants)

@@ -20,6 +20,7 @@ use Rattle.run_data.specs.laws.Weights.{WeightFalls}
 use Rattle.engine_core.specs.EngineStates.{EngineState, IsEngineState, LeadsTo, jobs_in, time_in, batches_in}
 use Rattle.engine_core.specs.EnginePoints.{step_smaller, point_weight}
 use Rattle.resimulate.specs.EvenInstants.{PaysForUneven, LooksForUneven}
+use Rattle.resimulate.specs.Marks.{IsEngineOf}
 use Rattle.resimulate.specs.OldBatches.{batch_at}
 use Rattle.resimulate.specs.Walks.{BatchDiffers, WasTakenOver, WasStepped, GoesOn, counts_by}
 use Rattle.resimulate.proofs.BesideCounts.{NoneBegins, CountsAt, RiseWith, stepped, counts_first, counts_last}
@@ -46,15 +47,15 @@ pub record IsBeside (model : Parts) (plan : Plan) (bound : ℕ) (old : Run) (rec
   pub pays : CountsAt old (cost_by records) steps engine.point steps_now
   pub few_looks : CountsAt old looks_by looks engine.point looks_now
 
-pub beside_first : (model : Parts) (plan : Plan) (bound : ℕ) (old : Run) (records : List Record) (steps looks : ℕ) (engine : EngineState) → IsEngineState engine → engine.model ≡ model → engine.plan ≡ plan →
-    engine.bound ≡ bound → LeadsTo model plan bound (more (pruned (start model plan))) engine.point → IsBeside model plan bound old records steps looks engine steps looks
-beside_first model plan bound old records steps looks engine stands same_model same_plan same_bound leads = record {
-  stands = stands;
-  same_model = same_model;
-  same_plan = same_plan;
-  same_bound = same_bound;
-  pays = counts_first old (cost_by records) (cost_adds records) steps model plan bound engine.point leads;
-  few_looks = counts_first old looks_by looks_adds looks model plan bound engine.point leads;
+pub beside_first : (model : Parts) (plan : Plan) (bound : ℕ) (old : Run) (records : List Record) (steps looks : ℕ) (engine : EngineState) → IsEngineOf model plan bound engine →
+    IsBeside model plan bound old records steps looks engine steps looks
+beside_first model plan bound old records steps looks engine begins = record {
+  stands = begins.stands;
+  same_model = begins.same_model;
+  same_plan = begins.same_plan;
+  same_bound = begins.same_bound;
+  pays = counts_first old (cost_by records) (cost_adds records) steps engine.point;
+  few_looks = counts_first old looks_by looks_adds looks engine.point;
 }
 
 module _ (model : Parts) (plan : Plan) (bound : ℕ) (old : Run) (records : List Record) (steps looks : ℕ) (engine : EngineState) (steps_now looks_now : ℕ)

@@ -20,11 +20,12 @@ use Rattle.run_data.specs.Fresh.{SimulationState, start, instant_at, next_state,
 use Rattle.run_data.specs.Tasks.{on_each, woken, ready_jobs}
 use Rattle.run_data.specs.Transitions.{Next, more, finished, and_on, iterate}
 use Rattle.run_data.specs.laws.Iteration.{comes_by_transitions}
-use Rattle.run_data.specs.laws.LateDifferences.{instants_before, instants_of, StartsLate, IsLate, DifferLate, SameInstantsBefore, AffordsNoLess}
+use Rattle.run_data.specs.laws.LateDifferences.{common_directives, instants_before, instants_of, StartsLate, IsLate, DifferLate, SameInstantsBefore, AffordsNoLess}
 use Rattle.run_data.specs.laws.Orders.{EachOf}
 use Rattle.resimulate.specs.EarlyEnds.{MayBeEnded}
 use Rattle.resimulate.specs.OldBatches.{AreEarly, is_earlier}
-use Rattle.resimulate.specs.Partings.{is_id_between, others_of, StartsLater, IsDueLater, DifferLater, SkipsTo, IsNextToo, SharesFirst}
+use Rattle.parting.specs.IdRanges.{is_id_between}
+use Rattle.resimulate.specs.Partings.{others_of, StartsLater, IsDueLater, DifferLater, SkipsTo, IsNextToo, SharesFirst}
 use Rattle.resimulate.proofs.TaskTraces.{drop_next, drop_past}
 
 -- ---- each of a list
@@ -210,6 +211,22 @@ module _ (first past until : ℕ) (model : Parts) (old_plan : Plan) (bound : ℕ
   all_late [] each = tt
   all_late (one ∷ rest) each = ((λ e. late_start one.anchor one.start (each.0 e)), all_late rest each.1)
 
+-- so are plans whose differing directives are late, if the new bound is no less
+pub differ_late : AffordsNoLess → (model : Parts) (plan old_plan : Plan) (bound old_bound : ℕ) → IsTrue (valid_model model) → IsPlanOf model plan → IsPlanOf model old_plan → plan.duration ≡ old_plan.duration →
+    old_bound ≤ bound → (differs : ℕ → Bool) (until : ℕ) → common_directives differs plan.directives ≡ common_directives differs old_plan.directives →
+    EachOf (IsLate differs until model old_plan old_bound) plan.directives → EachOf (IsLate differs until model old_plan old_bound) old_plan.directives →
+    DifferLate differs until model plan old_plan bound old_bound
+differ_late affords model plan old_plan bound old_bound valid is old_is lasts more_bound differs until same late old_late = record {
+  valid = valid;
+  is = is;
+  old_is = old_is;
+  duration = lasts;
+  same = same;
+  late = late;
+  old_late = old_late;
+  affords = λ other reached before. affords model old_plan bound old_bound other valid old_is reached more_bound;
+}
+
 pub shares : SameInstantsBefore → AffordsNoLess → (model : Parts) (plan : Plan) (bound : ℕ) (old : Run) → IsTrue (valid_model model) → IsPlanOf model plan → IsPlanOf model old.plan → MayBeEnded plan old →
     IsFresh model old.plan old.bound old → old.bound ≤ bound → (first past until : ℕ) → DifferLater first past until plan old.plan → (count : ℕ) → count ≤ length old.instants → AreEarly until count old.instants →
     SharesFirst model plan bound old count
@@ -219,16 +236,9 @@ shares same affords model plan bound old valid is old_is may fresh more_bound fi
     ∙ both.0
   where
     late : DifferLate (is_id_between first past) until model plan old.plan bound old.bound
-    late = record {
-      valid = valid;
-      is = is;
-      old_is = old_is;
-      duration = may.lasts;
-      same = differ.same;
-      late = all_late first past until model old.plan old.bound plan.directives differ.late;
-      old_late = all_late first past until model old.plan old.bound old.plan.directives differ.old_late;
-      affords = λ other reached before. affords model old.plan bound old.bound other valid old_is reached more_bound;
-    }
+    late =
+        differ_late affords model plan old.plan bound old.bound valid is old_is may.lasts more_bound (is_id_between first past) until differ.same
+        (all_late first past until model old.plan old.bound plan.directives differ.late) (all_late first past until model old.plan old.bound old.plan.directives differ.old_late)
 
     place : (place : Next SimulationState Run) × IsReached model plan bound place × (instants_of place ≡ instants_before until old.instants)
     place = same (is_id_between first past) until model plan old.plan bound old.bound old late differ.some_time fresh

@@ -5,7 +5,8 @@ use Rattle.aerie_base.specs.declared.plans.Anchor.{Anchor}
 use Rattle.aerie_base.specs.declared.plans.Directive.{Directive}
 use Rattle.aerie_base.specs.declared.plans.Edge.TheVariants.{End}
 use Rattle.aerie_base.specs.declared.plans.Plan.{Plan}
-use Rattle.resimulate.specs.Partings.{is_id_between, others_of, StartsLater, IsDueLater, DifferLater, SkipsTo, IsNextToo}
+use Rattle.parting.specs.IdRanges.{is_id_between}
+use Rattle.resimulate.specs.Partings.{others_of, StartsLater, IsDueLater, DifferLater, SkipsTo, IsNextToo}
 
 abbrev directive : ℕ → Option Anchor → ℕ → Directive
 directive id anchor start = record { id = id; start = start; anchor = anchor; kind = 0; arguments = [] }

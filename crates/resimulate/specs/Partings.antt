@@ -1,5 +1,5 @@
 -- Until when the plans of two runs are known to go alike, and what their runs have in common until then.
-use Rattle.std.specs.Prelude.{◌≡◌, ℕ, ◌<◌, ◌≤◌, Bool, true, false, nat_lt, List, ◌∷◌, length, take, drop, Option, Some, None, slice_get, if◌then◌else◌}
+use Rattle.std.specs.Prelude.{◌≡◌, ℕ, ◌<◌, ◌≤◌, true, List, ◌∷◌, length, take, drop, Option, Some, None, slice_get}
 use Rattle.aerie_base.specs.declared.models.model.Parts.{Parts}
 use Rattle.aerie_base.specs.declared.plans.Anchor.{Anchor}
 use Rattle.aerie_base.specs.declared.plans.Directive.{Directive}
@@ -10,13 +10,10 @@ use Rattle.run_data.specs.Fresh.{SimulationState, IsReached}
 use Rattle.run_data.specs.Transitions.{Next}
 use Rattle.run_data.specs.laws.LateDifferences.{common_directives, instants_of}
 use Rattle.run_data.specs.laws.Orders.{EachOf}
+use Rattle.parting.specs.IdRanges.{is_id_between}
 use Rattle.resimulate.specs.EarlyEnds.{MayBeEnded}
 
 -- ---- directives by their ids
-
--- whether an id is in a range: not below its first, and below its end
-abbrev pub is_id_between : ℕ → ℕ → ℕ → Bool
-is_id_between first past id = if nat_lt id first then false else nat_lt id past
 
 -- those whose ids are not in the range
 abbrev pub others_of : ℕ → ℕ → List Directive → List Directive

@@ -41,13 +41,13 @@ fn start_for(instants: &[Shared<Instant>], at: usize, time: Time) -> usize
 }
 
 impl<'r> Cursor<'r> {
-    /// A cursor before the first instant.
-    pub(crate) fn new(instants: &'r [Shared<Instant>]) -> Cursor<'r>
+    /// A cursor before the instant with an index.
+    pub(crate) fn new(instants: &'r [Shared<Instant>], at: usize) -> Cursor<'r>
         ensures { result.instants.now ≡ instants.now }
     {
         Cursor {
             instants,
-            at: 0,
+            at,
             here: None,
             has_passed: false,
         }

@@ -7,10 +7,12 @@ mod costs;
 mod cursor;
 mod early_ends;
 pub mod laws;
+mod marks;
 mod old_batches;
 mod pace;
 mod partings;
 mod traces;
 mod walk;
 
+pub use marks::Marks;
 pub use walk::resimulate;

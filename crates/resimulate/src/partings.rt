@@ -6,9 +6,10 @@ ghost use Rattle.aerie_base.specs.plans.OfModel.{IsPlanOf};
 ghost use Rattle.run_data.specs.Fresh.{IsFresh};
 ghost use Rattle.run_data.specs.laws.Orders.{EachOf};
 ghost use Rattle.run_data.specs.laws.Rising.{RiseFromStart};
+ghost use Rattle.parting.specs.IdRanges.{is_id_between};
 ghost use Rattle.resimulate.specs.EarlyEnds.{MayBeEnded};
 ghost use Rattle.resimulate.specs.OldBatches.{AreEarly};
-ghost use Rattle.resimulate.specs.Partings.{DifferLater, IsDueLater, IsNextToo, MayEndFrom, SharesFirst, SkipsTo, StartsLater, is_id_between, others_of};
+ghost use Rattle.resimulate.specs.Partings.{DifferLater, IsDueLater, IsNextToo, MayEndFrom, SharesFirst, SkipsTo, StartsLater, others_of};
 
 use crate::early_ends::may_be_ended;
 use crate::old_batches::is_earlier;
@@ -17,7 +18,7 @@ use run_data::laws::{instants_rise, plans_that_differ_late_run_side_by_side};
 use run_data::{Instant, Run};
 
 /// Whether an id is in a range.
-fn is_id_between(first: u32, past: u64, id: u32) -> bool
+pub(crate) fn is_id_between(first: u32, past: u64, id: u32) -> bool
     ensures { result ≡ is_id_between first past id }
 {
     if id < first {
@@ -97,7 +98,12 @@ fn behind_next(
 }
 
 /// Whether plans are the same but for the directives of a range.
-fn are_same_otherwise(first: u32, past: u64, directives: &[Directive], others: &[Directive]) -> bool
+pub(crate) fn are_same_otherwise(
+    first: u32,
+    past: u64,
+    directives: &[Directive],
+    others: &[Directive],
+) -> bool
     ensures { IsTrue result → others_of first past directives.now ≡ others_of first past others.now }
 {
     let mut at = 0;
@@ -193,7 +199,7 @@ fn first_start(range: (u32, u64), directives: &[Directive], until: Time) -> Time
 
 /// Where two plans may part: a range with the ids of the directives in which they differ, and a time at which one of these may be
 /// due.
-fn parting_of(plan: &Plan, old_plan: &Plan) -> (u32, u64, Time) {
+pub(crate) fn parting_of(plan: &Plan, old_plan: &Plan) -> (u32, u64, Time) {
     let directives = plan.directives.as_slice();
     let others = old_plan.directives.as_slice();
     let front = same_in_front(directives, others);

@@ -15,6 +15,7 @@ ghost use Rattle.resimulate.specs.Walks.{FindsReady, AreOfNextBatch, BatchDiffer
 
 use crate::cursor::Cursor;
 use crate::early_ends::rest_if_alike;
+use crate::marks::Marks;
 use crate::pace::Pace;
 use crate::partings::may_end_from;
 use aerie_base::{Model, OutOfMemory, Plan, Shared, Steps};
@@ -196,6 +197,7 @@ pub fn resimulate<S: Stepper, L: Ledger, K: Ledger>(
     alloc: Global,
     model: &Model,
     old: &Kept,
+    marks: &mut Marks,
     plan: &Shared<Plan>,
     bound: u64,
     stepper: &mut S,
@@ -227,11 +229,12 @@ pub fn resimulate<S: Stepper, L: Ledger, K: Ledger>(
     let instants = run.instants.as_slice();
     let planned = plan.get();
     let may_end = may_end_from(model, planned, bound, run);
-    let mut cursor = Cursor::new(instants);
     let mut found = Vec::new(alloc);
     let mut pace = Pace::new(instants.len(), planned.directives.as_slice().len());
-    let mut engine = Engine::begin(alloc, model, plan, bound)?;
+    let mut engine = marks.begin(alloc, model, plan, bound, instants.len())?;
+    let mut cursor = Cursor::new(instants, engine.instants().len());
     while !engine.ready().is_empty() {
+        marks.note(alloc, old.model(), &engine);
         cursor.go_to(engine.time());
         let rest = rest_if_due(
             alloc, model, planned, bound, &engine, run, &cursor, may_end, &mut pace,

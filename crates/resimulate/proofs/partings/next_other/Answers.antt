@@ -1,6 +1,6 @@
 use Rattle.std.proofs.Common.{◌∙◌, ap, sym, arith}
 use Rattle.aerie_base.specs.declared.plans.Directive.{Directive}
-use Rattle.resimulate.specs.Partings.{is_id_between}
+use Rattle.parting.specs.IdRanges.{is_id_between}
 use Rattle.resimulate.proofs.SharedInstants.{skips_next, skips_all}
 use Rattle.resimulate.proofs.partings.next_other.Goals as goal
 

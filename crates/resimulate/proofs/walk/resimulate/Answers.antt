@@ -26,7 +26,7 @@ pub loop-run-init : goal.loop-run-init
 loop-run-init g c = record {
   beside =
       beside_first c.args.model.now c.args.plan.now c.args.bound c.args.old.now.run (g.S.Stepper.records c.args.stepper.now) c.args.steps.now c.args.looks.now c.in_ok-engine.engine
-      c.in_ok-engine.ensures.stands c.in_ok-engine.ensures.model c.in_ok-engine.ensures.plan c.in_ok-engine.ensures.bound c.in_ok-engine.ensures.first;
+      c.in_ok-engine.ensures;
   cursor = c.new-cursor.ensures ∙ c.as_slice-instants.ensures ∙ ap (λ (r : Run). r.instants) c.run-run.ensures.value;
   ran =
       ran_not (g.S.Stepper.is_of c.args.stepper.now) (g.S.Stepper.records c.args.stepper.now) (g.S.Stepper.address c.args.stepper.now) (g.S.Stepper.opened c.args.stepper.now)
