@@ -11,7 +11,7 @@ mod FrameByFrame
 mod GatheredFrames
 mod PassedPoints
 mod PassingTime
-mod ResumedMarks
+mod ResumedBookmarks
 mod RunCounts
 mod SimulationBatches
 mod SimulationMoves

@@ -18,4 +18,4 @@ pub mod BatchRuns
 pub mod ReadyBatches
 pub mod PrunedPoints
 pub mod EnginePoints
-pub mod Marks
+pub mod Bookmarks

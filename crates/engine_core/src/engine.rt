@@ -11,7 +11,7 @@ ghost use Rattle.engine_core.specs.BatchEnds.{batch_frames};
 ghost use Rattle.engine_core.specs.EngineStates.{jobs_in, time_in, batches_in, instants_in, spent_in, IsEngineState, LeadsTo, IsNextOf, PaysForBatch, LooksForBatch, OfSameModels};
 ghost use Rattle.engine_core.specs.Simulations.{engine_state_of, IsBeforeBatch};
 
-use crate::marks::Mark;
+use crate::bookmarks::Bookmark;
 use crate::simulation::Simulation;
 use aerie_base::{List, Model, OutOfMemory, Plan, Shared, Steps, Time};
 use live_tasks::ready_jobs::ReadyJobs;
@@ -136,19 +136,19 @@ impl<'a> Engine<'a> {
     }
 
     /// The simulation as it stands, set aside at the beginning of an instant. What is settled is shared.
-    pub fn mark(&self, alloc: Global, model: &Shared<Model>) -> Result<Mark, OutOfMemory>
+    pub fn bookmark(&self, alloc: Global, model: &Shared<Model>) -> Result<Bookmark, OutOfMemory>
         requires model { model.now ≡ self.now.model }
         requires job { jobs_in self.now.point ≡ [] → ⊥ }
         requires begins { batches_in self.now.point ≡ [] }
-        ensures { IfOk result (λ mark. mark ≡ self.now) }
+        ensures { IfOk result (λ bookmark. bookmark ≡ self.now) }
     {
         instants_begin_untouched();
         let request = &self.simulation.request;
         let simulation = self
             .simulation
             .copy_for(alloc, &request.plan, request.bound)?;
-        let mark = Mark::new(model.share()?, simulation);
-        Ok(mark)
+        let bookmark = Bookmark::new(model.share()?, simulation);
+        Ok(bookmark)
     }
 
     /// The next batch, whose frames the stepper gives by waves, and on to the next batch that has a job, or to the outcome.

@@ -3,14 +3,14 @@
 
 mod batch_ends;
 mod batches;
+mod bookmarks;
 mod engine;
 mod history;
-mod marks;
 mod passing;
 mod present;
 mod simulating;
 mod simulation;
 
+pub use bookmarks::Bookmark;
 pub use engine::Engine;
-pub use marks::Mark;
 pub use simulating::simulate;

@@ -9,7 +9,7 @@ use crate::telling;
 use aerie_base::{Edge, Model, OutOfMemory, Plan, Shared, Steps};
 use body_code::compile_all;
 use engine_core::simulate;
-use resimulate::{Marks, resimulate};
+use resimulate::{Bookmarks, resimulate};
 use run_data::laws::fresh_runs;
 use run_data::{Kept, Run};
 use std::alloc::Global;
@@ -33,7 +33,7 @@ model echoed {
 }
 ";
 
-/// How a plan was simulated beside the run of another: its instants, what they are once more from the marks of that simulation and
+/// How a plan was simulated beside the run of another: its instants, what they are once more from the bookmarks of that simulation and
 /// from the start, and how many statements and tests were run beside.
 #[derive(Drop)]
 struct Told {
@@ -73,7 +73,7 @@ fn kept<L: Ledger, K: Ledger>(
     Kept::new(alloc, model.share()?, run)
 }
 
-/// The run of a plan beside an old one, the same from the marks of that simulation, and how many statements and tests were run for
+/// The run of a plan beside an old one, the same from the bookmarks of that simulation, and how many statements and tests were run for
 /// the first.
 fn resimulated<L: Ledger, K: Ledger>(
     alloc: Global,
@@ -87,12 +87,12 @@ fn resimulated<L: Ledger, K: Ledger>(
     let model = old.model().get();
     let codes = compile_all(alloc, model)?;
     let mut direct = Direct::new(codes.as_slice());
-    let mut marks = Marks::new(alloc);
+    let mut bookmarks = Bookmarks::new(alloc);
     let run = resimulate(
         alloc,
         model,
         old,
-        &mut marks,
+        &mut bookmarks,
         plan,
         1000,
         &mut direct,
@@ -104,7 +104,7 @@ fn resimulated<L: Ledger, K: Ledger>(
         alloc,
         model,
         old,
-        &mut marks,
+        &mut bookmarks,
         plan,
         1000,
         &mut direct,

@@ -42,12 +42,12 @@ not_there one (first ∷ rest) none = (λ i. none.0 i || not_there one rest none
 module _ (ends later : List DelayEnd) (until number : ℕ) (delay : Option ℕ) (is : delay ≡ Some until) (moved : IsPermutation (delay_end until number ∷ ends) later) where
   pub put_in : HasDelayToo number delay ends later
   put_in t n =
-      sym (list_any-IsPermutation (is_same_end (delay_end t n)) (delay_end until number ∷ ends) later moved) ∙ turned t until n number (has_delay ends t n)
+      sym (list_any-IsPermutation (is_same_end (delay_end t n)) (delay_end until number ∷ ends) later moved) ∙ the_other_way t until n number (has_delay ends t n)
       ∙ ap (λ d. has_delay ends t n || (nat_eq number n && ends_at t d)) (sym is)
     where
-      turned : (a b c d : ℕ) (has : Bool) → ((nat_eq a b && nat_eq c d) || has) ≡ (has || (nat_eq d c && nat_eq b a))
-      turned a b c d true = grind (arith, nat_tests)
-      turned a b c d false = grind (arith, nat_tests)
+      the_other_way : (a b c d : ℕ) (has : Bool) → ((nat_eq a b && nat_eq c d) || has) ≡ (has || (nat_eq d c && nat_eq b a))
+      the_other_way a b c d true = grind (arith, nat_tests)
+      the_other_way a b c d false = grind (arith, nat_tests)
 
   pub put_once : IsNewDelay number delay ends → IsDistinct is_same_end ends → IsDistinct is_same_end later
   unfolding IsDistinct
@@ -76,8 +76,8 @@ module _ (ends later : List DelayEnd) (one : DelayEnd) (moved : IsPermutation en
       was : has_delay ends t n ≡ ((nat_eq t one.0.0 && nat_eq n one.0.1) || has_delay later t n)
       was = list_any-IsPermutation (is_same_end (delay_end t n)) ends (one ∷ later) moved
 
-      turned : (nat_eq one.0.1 n && nat_eq one.0.0 t) ≡ (nat_eq t one.0.0 && nat_eq n one.0.1)
-      turned = grind (arith, nat_tests)
+      the_other_way : (nat_eq one.0.1 n && nat_eq one.0.0 t) ≡ (nat_eq t one.0.0 && nat_eq n one.0.1)
+      the_other_way = grind (arith, nat_tests)
 
       kept : (b : Bool) → (b && not false) ≡ b
       kept true = refl
@@ -94,8 +94,8 @@ module _ (ends later : List DelayEnd) (one : DelayEnd) (moved : IsPermutation en
           ap (λ a. has_delay later a n) (sym time) ∙ ap (has_delay later one.0.0) (sym number) ∙ apart
 
       by : (b : Bool) → (nat_eq t one.0.0 && nat_eq n one.0.1) ≡ b → has_delay later t n ≡ (has_delay ends t n && not (nat_eq one.0.1 n && nat_eq one.0.0 t))
-      by true e = here e ∙ none (has_delay ends t n) ∙ ap (λ b. has_delay ends t n && not b) (sym (turned ∙ e))
-      by false e = sym (was ∙ ap (λ b. b || has_delay later t n) e) ∙ sym (kept (has_delay ends t n)) ∙ ap (λ b. has_delay ends t n && not b) (sym (turned ∙ e))
+      by true e = here e ∙ none (has_delay ends t n) ∙ ap (λ b. has_delay ends t n && not b) (sym (the_other_way ∙ e))
+      by false e = sym (was ∙ ap (λ b. b || has_delay later t n) e) ∙ sym (kept (has_delay ends t n)) ∙ ap (λ b. has_delay ends t n && not b) (sym (the_other_way ∙ e))
 
 -- ---- the first
 

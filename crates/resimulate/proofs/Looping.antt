@@ -20,7 +20,7 @@ use Rattle.run_data.specs.laws.Weights.{WeightFalls}
 use Rattle.engine_core.specs.EngineStates.{EngineState, IsEngineState, LeadsTo, jobs_in, time_in, batches_in}
 use Rattle.engine_core.specs.EnginePoints.{step_smaller, point_weight}
 use Rattle.resimulate.specs.EvenInstants.{PaysForUneven, LooksForUneven}
-use Rattle.resimulate.specs.Marks.{IsEngineOf}
+use Rattle.resimulate.specs.Bookmarks.{IsEngineOf}
 use Rattle.resimulate.specs.OldBatches.{batch_at}
 use Rattle.resimulate.specs.Walks.{BatchDiffers, WasTakenOver, WasStepped, GoesOn, counts_by}
 use Rattle.resimulate.proofs.BesideCounts.{NoneBegins, CountsAt, RiseWith, stepped, counts_first, counts_last}

@@ -2,7 +2,7 @@ pub mod EvenInstants
 pub mod Noting
 pub mod OldBatches
 pub mod Walks
-pub mod Marks
+pub mod Bookmarks
 pub mod SettledBefore
 pub mod UnbegunTasks
 pub mod AlikeByFrames

@@ -2,17 +2,17 @@
 #![tactic(auto)]
 
 mod alike;
+mod bookmarks;
 mod cells;
 mod costs;
 mod cursor;
 mod early_ends;
 pub mod laws;
-mod marks;
 mod old_batches;
 mod pace;
 mod partings;
 mod traces;
 mod walk;
 
-pub use marks::Marks;
+pub use bookmarks::Bookmarks;
 pub use walk::resimulate;

@@ -13,9 +13,9 @@ ghost use Rattle.resimulate.specs.EvenInstants.{PaysForUneven, LooksForUneven};
 ghost use Rattle.resimulate.specs.Partings.{MayEndFrom};
 ghost use Rattle.resimulate.specs.Walks.{FindsReady, AreOfNextBatch, BatchDiffers, GoesOn, counts_by};
 
+use crate::bookmarks::Bookmarks;
 use crate::cursor::Cursor;
 use crate::early_ends::rest_if_alike;
-use crate::marks::Marks;
 use crate::pace::Pace;
 use crate::partings::may_end_from;
 use aerie_base::{Model, OutOfMemory, Plan, Shared, Steps};
@@ -197,7 +197,7 @@ pub fn resimulate<S: Stepper, L: Ledger, K: Ledger>(
     alloc: Global,
     model: &Model,
     old: &Kept,
-    marks: &mut Marks,
+    bookmarks: &mut Bookmarks,
     plan: &Shared<Plan>,
     bound: u64,
     stepper: &mut S,
@@ -231,10 +231,10 @@ pub fn resimulate<S: Stepper, L: Ledger, K: Ledger>(
     let may_end = may_end_from(model, planned, bound, run);
     let mut found = Vec::new(alloc);
     let mut pace = Pace::new(instants.len(), planned.directives.as_slice().len());
-    let mut engine = marks.begin(alloc, model, plan, bound, instants.len())?;
+    let mut engine = bookmarks.begin(alloc, model, plan, bound, instants.len())?;
     let mut cursor = Cursor::new(instants, engine.instants().len());
     while !engine.ready().is_empty() {
-        marks.note(alloc, old.model(), &engine);
+        bookmarks.note(alloc, old.model(), &engine);
         cursor.go_to(engine.time());
         let rest = rest_if_due(
             alloc, model, planned, bound, &engine, run, &cursor, may_end, &mut pace,

@@ -1,4 +1,4 @@
--- When the simulation of a plan may begin at a mark of another one.
+-- When the simulation of a plan may begin at a bookmark of another one.
 use Rattle.std.specs.Prelude.{◌≡◌, ℕ, ◌<◌}
 use Rattle.aerie_base.specs.declared.models.model.Parts.{Parts}
 use Rattle.aerie_base.specs.declared.plans.Plan.{Plan}
@@ -8,14 +8,14 @@ use Rattle.parting.specs.IdRanges.{is_id_between}
 use Rattle.parting.specs.PlainLateness.{IsPlainlyLate}
 use Rattle.engine_core.specs.EngineStates.{EngineState, IsEngineState, time_in}
 
--- A mark of the same model, whose plan differs from this one in directives of a range alone: none of them has an anchor, and none
--- is due before a time behind the mark's.
-pub record MayResume (mark : EngineState) (model : Parts) (plan : Plan) (bound first past until : ℕ) : Type 0 where
-  pub same_model : mark.model ≡ model
-  pub ahead : time_in mark.point < until
-  pub late : DifferLate (is_id_between first past) until model plan mark.plan bound mark.bound
+-- A bookmark of the same model, whose plan differs from this one in directives of a range alone: none of them has an anchor, and none
+-- is due before a time behind the bookmark's.
+pub record MayResume (bookmark : EngineState) (model : Parts) (plan : Plan) (bound first past until : ℕ) : Type 0 where
+  pub same_model : bookmark.model ≡ model
+  pub ahead : time_in bookmark.point < until
+  pub late : DifferLate (is_id_between first past) until model plan bookmark.plan bound bookmark.bound
   pub plain : EachOf (IsPlainlyLate (is_id_between first past) until) plan.directives
-  pub old_plain : EachOf (IsPlainlyLate (is_id_between first past) until) mark.plan.directives
+  pub old_plain : EachOf (IsPlainlyLate (is_id_between first past) until) bookmark.plan.directives
 
 -- an engine of a model, a plan and a bound, wherever it stands
 pub record IsEngineOf (model : Parts) (plan : Plan) (bound : ℕ) (engine : EngineState) : Type 0 where

@@ -2,7 +2,7 @@ use Rattle.std.proofs.Common.{arith}
 use Rattle.parting.specs.IdRanges.{is_id_between}
 use Rattle.parting.specs.PlainLateness.{IsPlainlyLate}
 use Rattle.resimulate.proofs.SharedInstants.{each_more, each_whole}
-use Rattle.resimulate.proofs.marks.are_plainly_late.Goals as goal
+use Rattle.resimulate.proofs.bookmarks.are_plainly_late.Goals as goal
 
 pub loop-directive-preserved : goal.loop-directive-preserved
 loop-directive-preserved c =

@@ -30,7 +30,7 @@ use Rattle.live_tasks.specs.InStep.{table_in, IsInStep}
 use Rattle.live_tasks.specs.Waking.{AreKept, KeepsWakes}
 use Rattle.live_tasks.specs.declared.tasks.LiveTasks.{LiveTasks}
 use Rattle.engine_core.specs.EngineStates.{EngineState, IsReachedPruned, HasJob, jobs_in, time_in, batches_in, instants_in, spent_in}
-use Rattle.engine_core.specs.Marks.{IsSetAside, IsCopyOf, IsCopyFor}
+use Rattle.engine_core.specs.Bookmarks.{IsSetAside, IsCopyOf, IsCopyFor}
 use Rattle.engine_core.specs.PrunedPoints.{HasWhole, has_whole, in_whole, jobs_of_whole}
 use Rattle.engine_core.specs.Simulations.{state_of, point_by, point_in, AreTasksAt, AreTasksBefore, IsOnCourse, IsBeforeBatch, StandsAt, engine_state_of}
 use Rattle.engine_core.specs.declared.history.History.{History}
@@ -259,16 +259,16 @@ set_aside_by model simulation engine is course job begins = record {
   begins = ap (λ (s : EngineState). batches_in s.point) is ∙ begins;
 }
 
--- ---- a mark from which another plan goes on
+-- ---- a bookmark from which another plan goes on
 
-pub record MayResume (mark : EngineState) (differs : ℕ → Bool) (until : ℕ) (model : Parts) (plan : Plan) (bound : ℕ) : Type 0 where
-  pub same_model : model ≡ mark.model
-  pub ahead : time_in mark.point < until
-  pub late : DifferLate differs until model plan mark.plan bound mark.bound
+pub record MayResume (bookmark : EngineState) (differs : ℕ → Bool) (until : ℕ) (model : Parts) (plan : Plan) (bound : ℕ) : Type 0 where
+  pub same_model : model ≡ bookmark.model
+  pub ahead : time_in bookmark.point < until
+  pub late : DifferLate differs until model plan bookmark.plan bound bookmark.bound
   pub plain : EachOf (IsPlainlyLate differs until) plan.directives
 
-module _ (held : Parts) (simulation : Simulation) (set_aside : IsSetAside held simulation) (mark : EngineState) (view_is : engine_state_of held simulation ≡ mark)
-    (differs : ℕ → Bool) (until : ℕ) (model : Parts) (plan : Plan) (bound : ℕ) (may : MayResume mark differs until model plan bound) where
+module _ (held : Parts) (simulation : Simulation) (set_aside : IsSetAside held simulation) (bookmark : EngineState) (view_is : engine_state_of held simulation ≡ bookmark)
+    (differs : ℕ → Bool) (until : ℕ) (model : Parts) (plan : Plan) (bound : ℕ) (may : MayResume bookmark differs until model plan bound) where
   aside : IsSetAside model simulation
   aside = subst (λ (m : Parts). IsSetAside m simulation) (ap (λ (s : EngineState). s.model) view_is ∙ sym may.same_model) set_aside
 
@@ -288,7 +288,7 @@ module _ (held : Parts) (simulation : Simulation) (set_aside : IsSetAside held s
   resumed = more (exchanged_state differs model plan (state_of simulation.history simulation.present))
 
   module _ (copy : Simulation) (is : IsCopyFor to_resume simulation copy) where
-    pub has_not_begun : HaveNotStarted → EachOf (IsPlainlyLate differs until) mark.plan.directives → HaveNotBegun differs (table_in copy.present.tasks)
+    pub has_not_begun : HaveNotStarted → EachOf (IsPlainlyLate differs until) bookmark.plan.directives → HaveNotBegun differs (table_in copy.present.tasks)
     has_not_begun not_started old_plain =
         unbegun model simulation aside differs until plan bound ahead late may.plain not_started
         (subst (λ (s : EngineState). EachOf (IsPlainlyLate differs until) s.plan.directives) (sym view_is) old_plain) (table_in copy.present.tasks) is.present.table
@@ -311,22 +311,22 @@ module _ (held : Parts) (simulation : Simulation) (set_aside : IsSetAside held s
               (ready ∙ sym (ap jobs_in still.point))
 
         module _ (engine : EngineState) (engine_is : engine ≡ engine_state_of model next) where
-          carried : {A : Type 0} (part_of : Next SimulationState Run → A) → part_of resumed ≡ part_of (point_in simulation) → part_of engine.point ≡ part_of mark.point
+          carried : {A : Type 0} (part_of : Next SimulationState Run → A) → part_of resumed ≡ part_of (point_in simulation) → part_of engine.point ≡ part_of bookmark.point
           carried part_of same =
               ap (λ (s : EngineState). part_of s.point) engine_is ∙ ap part_of stands.point ∙ same ∙ ap (λ (s : EngineState). part_of s.point) view_is
 
-          pub jobs_carried : Resumes → PrunedIsExchanged → SameJobs → ReachedIsOfModel → jobs_in engine.point ≡ jobs_in mark.point
+          pub jobs_carried : Resumes → PrunedIsExchanged → SameJobs → ReachedIsOfModel → jobs_in engine.point ≡ jobs_in bookmark.point
           jobs_carried resumes is_pruned jobs_stay of_model =
               carried jobs_in (jobs_there model simulation aside differs until plan bound ahead late may.plain resumes is_pruned jobs_stay of_model)
 
           pub none_carried : batches_in engine.point ≡ []
           none_carried = carried batches_in (sym (ap batches_in (point_is model simulation aside))) ∙ sym (ap (λ (s : EngineState). batches_in s.point) view_is) ∙ aside.begins
 
-          pub instants_carried : instants_in engine.point ≡ instants_in mark.point
+          pub instants_carried : instants_in engine.point ≡ instants_in bookmark.point
           instants_carried = carried instants_in (sym (ap instants_in (point_is model simulation aside)))
 
-          pub time_carried : time_in engine.point ≡ time_in mark.point
+          pub time_carried : time_in engine.point ≡ time_in bookmark.point
           time_carried = carried time_in (sym (ap time_in (point_is model simulation aside)))
 
-          pub spent_carried : spent_in engine.point ≡ spent_in mark.point
+          pub spent_carried : spent_in engine.point ≡ spent_in bookmark.point
           spent_carried = carried spent_in (sym (ap spent_in (point_is model simulation aside)))

@@ -9,7 +9,7 @@ ghost use Rattle.live_tasks.specs.InStep.{IsInStep};
 ghost use Rattle.parting.specs.IdRanges.{is_id_between};
 ghost use Rattle.parting.specs.PlainLateness.{IsPlainlyLate};
 ghost use Rattle.engine_core.specs.EngineStates.{jobs_in, time_in, batches_in, instants_in, spent_in, IsEngineState};
-ghost use Rattle.engine_core.specs.Marks.{IsSetAside, IsCopyOf, IsCopyFor};
+ghost use Rattle.engine_core.specs.Bookmarks.{IsSetAside, IsCopyOf, IsCopyFor};
 ghost use Rattle.engine_core.specs.Simulations.{engine_state_of};
 
 use crate::engine::{Engine, engine_at};
@@ -25,27 +25,27 @@ use std::alloc::Global;
 /// A simulation that was set aside at the beginning of an instant, where a job is ready, with its model. Contracts see of it what
 /// they see of an engine.
 #[derive(Drop)]
-pub struct Mark {
+pub struct Bookmark {
     model: Shared<Model>,
     simulation: Simulation,
 }
 
-impl std::marker::Model for Mark {
+impl std::marker::Model for Bookmark {
     ghost use Rattle.std.specs.Coded.{codes};
     ghost use Rattle.aerie_base.specs.contracts.expressions.Expr as expr;
     ghost use Rattle.aerie_base.specs.contracts.conditions.Cond as cond;
     ghost use Rattle.aerie_base.specs.contracts.statements.Stmt as stmt;
     ghost use Rattle.engine_core.specs.EngineStates.{EngineState};
-    ghost use Rattle.engine_core.specs.Marks.{IsSetAside};
+    ghost use Rattle.engine_core.specs.Bookmarks.{IsSetAside};
     ghost use Rattle.engine_core.specs.Simulations.{engine_state_of};
 
     ghost Value = { EngineState };
 
     ghost coded = { Prim.hlevel (codes, expr.the_row.coded, cond.the_row.coded, stmt.the_row.coded) };
 
-    ghost view = { λ mark. engine_state_of mark.model mark.simulation };
+    ghost view = { λ bookmark. engine_state_of bookmark.model bookmark.simulation };
 
-    ghost invariant = { λ mark. IsSetAside mark.model mark.simulation };
+    ghost invariant = { λ bookmark. IsSetAside bookmark.model bookmark.simulation };
 }
 
 impl History {
@@ -107,13 +107,13 @@ impl Simulation {
     }
 }
 
-impl Mark {
+impl Bookmark {
     /// Of a simulation that stands at the beginning of an instant.
-    pub(crate) fn new(model: Shared<Model>, simulation: Simulation) -> Mark
+    pub(crate) fn new(model: Shared<Model>, simulation: Simulation) -> Bookmark
         requires { IsSetAside model simulation }
         ensures { result ≡ engine_state_of model simulation }
     {
-        Mark { model, simulation }
+        Bookmark { model, simulation }
     }
 
     /// The model. It takes no memory.

@@ -1,6 +1,6 @@
 use Rattle.parting.specs.IdRanges.{is_id_between}
-use Rattle.engine_core.proofs.ResumedMarks.{has_no_anchors, has_not_begun, fits_there, stands_exchanged, before_batch, jobs_carried, none_carried, instants_carried, time_carried, spent_carried}
-use Rattle.engine_core.proofs.marks.Mark.resume.Goals as goal
+use Rattle.engine_core.proofs.ResumedBookmarks.{has_no_anchors, has_not_begun, fits_there, stands_exchanged, before_batch, jobs_carried, none_carried, instants_carried, time_carried, spent_carried}
+use Rattle.engine_core.proofs.bookmarks.Bookmark.resume.Goals as goal
 
 pub exchange-requires-clause-unbegun : goal.exchange-requires-clause-unbegun
 exchange-requires-clause-unbegun c =
