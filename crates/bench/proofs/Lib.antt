@@ -4,3 +4,4 @@ pub mod PublishedChapters
 pub mod KnownRuns
 pub mod Paying
 pub mod Making
+pub mod OwnIndexes

@@ -31,7 +31,7 @@ pub struct Bench {
     setting: BenchSetting,
     stock: Stock,
     publisher: Publisher,
-    /// The index in the store from which on its chapters were not yet learnt.
+    /// The index in the store from which on its chapters were not yet learnt, unless the bench itself published them.
     next: usize,
     statements: u64,
 }
@@ -195,7 +195,8 @@ impl Bench {
             PublishesWhatRan made.run self.old.receipts self.new.receipts steps.old steps.new) }
         ensures counted { OnOk result (RoseAlike 0 steps.old self.new.statements steps.new) }
     {
-        let next = self.stock.learn(alloc, store, self.next)?;
+        let from = self.publisher.behind_own(self.next);
+        let next = self.stock.learn(alloc, store, from)?;
         self.next = next;
         let made = run_over(
             rt,

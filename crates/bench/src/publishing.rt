@@ -1,7 +1,7 @@
 //! Noted frames are published in chapters.
 
-ghost use Rattle.std.specs.Prelude.{◌≡◌, ◌<◌, ◌≤◌, ◌↔◌, ◌++◌, ◌∷◌, [], IsTrue, OnOk, OnErr, length, slice_range};
-ghost use Rattle.std.specs.List.{All};
+ghost use Rattle.std.specs.Prelude.{◌≡◌, ℕ, ◌<◌, ◌≤◌, ◌↔◌, ◌++◌, ◌∷◌, [], IsTrue, OnOk, OnErr, length, slice_range};
+ghost use Rattle.std.specs.List.{All, Contains};
 ghost use Rattle.run_data.specs.Records.{IsValid, record_of};
 ghost use Rattle.record_book.specs.StoredSteps.{chapter_limit};
 ghost use Rattle.history_store.specs.Publishing.{most_published, receipt_of};
@@ -19,6 +19,8 @@ use std::sync::Wait;
 pub(crate) struct Publisher {
     shelf: Shelf,
     receipts: Vec<Receipt>,
+    /// At which indexes of the store their chapters stand. They rise.
+    indexes: Vec<usize>,
 }
 
 impl std::marker::Model for Publisher {
@@ -47,6 +49,7 @@ impl Publisher {
         Publisher {
             shelf: Shelf::new(),
             receipts: Vec::new(alloc),
+            indexes: Vec::new(alloc),
         }
     }
 
@@ -57,6 +60,14 @@ impl Publisher {
         &self.receipts
     }
 
+    /// The index from which on there is something to learn, behind the chapters that it published itself, whose steps its bench has.
+    /// It costs a comparison for each of these, which are 16 at most.
+    pub(crate) fn behind_own(&self, from: usize) -> usize
+        ensures { from ≤ result }
+    {
+        first_other(&self.indexes, from)
+    }
+
     /// Whether it may publish no more.
     fn is_full(&self) -> bool
         ensures { IsTrue result ↔ (length self.now ≡ most_published) }
@@ -64,7 +75,7 @@ impl Publisher {
         self.receipts.len() == MOST_PUBLISHED as usize
     }
 
-    /// Publishes a chapter and keeps its receipt. The room for that is made first, so that no receipt is lost.
+    /// Publishes a chapter and keeps its receipt and its index. The room for them is made first, so that no receipt is lost.
     fn publish<R: Wait>(
         &mut self,
         rt: &R,
@@ -75,8 +86,10 @@ impl Publisher {
         ensures unchanged { OnErr result (self.new ≡ self.old) }
     {
         self.receipts.reserve(1)?;
+        self.indexes.reserve(1)?;
         match store.publish(rt, &mut self.shelf, chapter) {
             Ok(receipt) => {
+                self.indexes.push_reserved(receipt.index());
                 self.receipts.push_reserved(receipt);
                 Ok(())
             }
@@ -130,6 +143,20 @@ impl Publisher {
         }
         Ok(())
     }
+}
+
+/// The first index from one on that is not among some that rise.
+fn first_other(own: &[usize], from: usize) -> usize
+    ensures onward { from ≤ result }
+    ensures own { (index : ℕ) → from ≤ index → index < result → Contains own.now index }
+{
+    let mut next = from;
+    for index in own {
+        if *index == next {
+            next = next.saturating_add(1);
+        }
+    }
+    next
 }
 
 /// Some neighbouring frames.

@@ -52,6 +52,14 @@ impl std::marker::Model for Receipt {
     ghost invariant = { λ receipt. Shows receipt.store.value receipt.pushed };
 }
 
+impl Receipt {
+    /// The index at which the chapter stands in the store. It says only what its publisher need not learn, and so no clause speaks of
+    /// it. It takes no memory.
+    pub fn index(&self) -> usize {
+        self.pushed.index()
+    }
+}
+
 /// Why a chapter was not published.
 #[derive(Debug, Drop)]
 pub enum Cause {
