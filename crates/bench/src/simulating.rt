@@ -15,7 +15,7 @@ use crate::stock::Stock;
 use aerie_base::{OutOfMemory, Plan, Shared, Steps};
 use batch_run::{NoProbe, Spread};
 use engine_core::simulate;
-use resimulate::resimulate;
+use resimulate::{Bookmarks, resimulate};
 use run_data::laws::fresh_runs;
 use run_data::{Kept, Run};
 use std::alloc::Global;
