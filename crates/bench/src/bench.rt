@@ -17,6 +17,7 @@ use crate::stock::Stock;
 use crate::taking::run_over;
 use aerie_base::{Model, OutOfMemory, Plan, Shared, Steps};
 use history_store::{Receipt, Store};
+use resimulate::Bookmarks;
 use run_data::Kept;
 use std::alloc::Global;
 use std::sync::Wait;
@@ -33,6 +34,8 @@ pub struct Bench {
     publisher: Publisher,
     /// The index in the store from which on its chapters were not yet learnt, unless the bench itself published them.
     next: usize,
+    /// From where on simulations of edited plans may begin.
+    bookmarks: Bookmarks,
     statements: u64,
 }
 
@@ -91,6 +94,7 @@ impl Bench {
             stock,
             publisher: Publisher::new(alloc),
             next: 0,
+            bookmarks: Bookmarks::new(alloc),
             statements: 0,
         })
     }
@@ -205,6 +209,7 @@ impl Bench {
             &self.setting,
             &mut self.stock,
             &mut self.publisher,
+            &mut self.bookmarks,
             plan,
             kept,
             steps,

@@ -129,6 +129,7 @@ fn simulate_beside<R: Threads + Sync, L: Ledger, K: Ledger>(
     setting: &BenchSetting,
     stock: &Stock,
     old: &Kept,
+    bookmarks: &mut Bookmarks,
     plan: &Shared<Plan>,
     steps: &mut Steps<L>,
     looks: &mut Steps<K>,
@@ -151,7 +152,17 @@ fn simulate_beside<R: Threads + Sync, L: Ledger, K: Ledger>(
     let mut stepper = stepper_over(rt, setting, stock, &probe);
     let model = setting.compiled.model().get();
     let bound = setting.bound;
-    let run = resimulate(alloc, model, old, plan, bound, &mut stepper, steps, looks)?;
+    let run = resimulate(
+        alloc,
+        model,
+        old,
+        bookmarks,
+        plan,
+        bound,
+        &mut stepper,
+        steps,
+        looks,
+    )?;
     let statements = full_count(stepper.opened());
     let made = keep(alloc, setting, plan, run, statements)?;
     Ok(made)
@@ -165,6 +176,7 @@ pub(crate) fn simulate_over<R: Threads + Sync, L: Ledger, K: Ledger>(
     setting: &BenchSetting,
     stock: &Stock,
     old: &Option<Shared<Kept>>,
+    bookmarks: &mut Bookmarks,
     plan: &Shared<Plan>,
     steps: &mut Steps<L>,
     looks: &mut Steps<K>,
@@ -184,7 +196,17 @@ pub(crate) fn simulate_over<R: Threads + Sync, L: Ledger, K: Ledger>(
     ensures looks { looks.old ≤ looks.new }
 {
     match old {
-        Some(old) => simulate_beside(rt, alloc, setting, stock, old.get(), plan, steps, looks),
+        Some(old) => simulate_beside(
+            rt,
+            alloc,
+            setting,
+            stock,
+            old.get(),
+            bookmarks,
+            plan,
+            steps,
+            looks,
+        ),
         None => simulate_alone(rt, alloc, setting, stock, plan, steps, looks),
     }
 }

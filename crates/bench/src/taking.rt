@@ -18,6 +18,7 @@ use crate::simulating::{BenchSetting, CountedRun, simulate_over};
 use crate::stock::Stock;
 use aerie_base::{OutOfMemory, Plan, Shared, Steps};
 use history_store::Store;
+use resimulate::Bookmarks;
 use run_data::Kept;
 use std::alloc::Global;
 use std::sync::Wait;
@@ -61,6 +62,7 @@ pub(crate) fn run_over<R: Threads + Wait + Sync, L: Ledger, K: Ledger>(
     setting: &BenchSetting,
     stock: &mut Stock,
     publisher: &mut Publisher,
+    bookmarks: &mut Bookmarks,
     plan: &Shared<Plan>,
     old: Option<Shared<Kept>>,
     steps: &mut Steps<L>,
@@ -88,7 +90,9 @@ pub(crate) fn run_over<R: Threads + Wait + Sync, L: Ledger, K: Ledger>(
         PublishesWhatRan made.kept.run publisher.old publisher.new steps.old steps.new) }
 {
     stock.hold_old(alloc, &old)?;
-    let made = simulate_over(rt, alloc, setting, stock, &old, plan, steps, looks)?;
+    let made = simulate_over(
+        rt, alloc, setting, stock, &old, bookmarks, plan, steps, looks,
+    )?;
     take_run(rt, alloc, store, stock, publisher, &made.kept, old)?;
     Ok(made)
 }

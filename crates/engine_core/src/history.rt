@@ -21,6 +21,21 @@ pub(crate) struct History {
     pub(crate) touched: List<u16>,
 }
 
+/// Puts a batch behind the others of its time. Most often it stays alone, so the first takes room for one.
+fn put_next(
+    alloc: Global,
+    batches: &mut List<List<Frame>>,
+    frames: List<Frame>,
+) -> Result<(), OutOfMemory>
+    ensures { OnOk result (batches.new ≡ batches.old ++ frames ∷ []) }
+{
+    if batches.is_empty() {
+        *batches = List::with_capacity(alloc, 1)?;
+    }
+    batches.push(frames)?;
+    Ok(())
+}
+
 /// Puts numbers behind others. Where there are none, as at the first batch of a time, they take their place.
 fn put_behind(numbers: &mut List<u16>, others: List<u16>) -> Result<(), OutOfMemory>
     ensures { OnOk result (numbers.new ≡ numbers.old ++ others) }
@@ -120,12 +135,13 @@ impl History {
     /// One more batch, and the cells on which it had an effect.
     pub(crate) fn put_batch(
         &mut self,
+        alloc: Global,
         frames: List<Frame>,
         touched: List<u16>,
     ) -> Result<(), OutOfMemory>
         ensures { OnOk result (self.new ≡ with_batch frames touched self.old) }
     {
-        self.batches.push(frames)?;
+        put_next(alloc, &mut self.batches, frames)?;
         put_behind(&mut self.touched, touched)?;
         Ok(())
     }

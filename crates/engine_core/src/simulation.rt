@@ -191,7 +191,7 @@ impl Simulation {
                     .tasks
                     .after_batch(alloc, time, frames.as_slice(), touched.as_slice())?;
                 self.present.spent = spent;
-                self.history.put_batch(frames, touched)?;
+                self.history.put_batch(alloc, frames, touched)?;
                 Ok(())
             }
         }
