@@ -31,14 +31,14 @@ gather-requires-clause-others g c =
     are_of c.in_ok-mission.mission c.in_ok-lock.lock c.as_slice-clients.result.now c.in_ok-works.works.items c.in_ok-dones.dones.items c.in_ok-works.ensures.works c.in_ok-dones.ensures
 
 -- src/performing.rt:90:24
-pub close-journal-requires-clause-own : goal.close-journal-requires-clause-own
-close-journal-requires-clause-own g c =
+pub close-hangar-requires-clause-own : goal.close-hangar-requires-clause-own
+close-hangar-requires-clause-own g c =
     ap (λ (p : PassView). p.lock) c.in_ok-texts.ensures.joined ∙ joined_lock c.split_works.new.pass (passes_of c.in_ok-dones.dones.items)
     ∙ ap (λ (p : PassView). p.lock) c.in_ok-works.ensures.left
 
 -- src/performing.rt:90:24
-pub close-journal-requires-clause-whole : goal.close-journal-requires-clause-whole
-close-journal-requires-clause-whole g c =
+pub close-hangar-requires-clause-whole : goal.close-hangar-requires-clause-whole
+close-hangar-requires-clause-whole g c =
     let is : c.gather.new.pass ≡ joined_with_all (split_often (length c.args.judged.now.session.clients) (first_pass c.in_ok-lock.lock)) (passes_of c.in_ok-dones.dones.items) =
     c.in_ok-texts.ensures.joined ∙ ap (λ (p : PassView). joined_with_all p (passes_of c.in_ok-dones.dones.items))
     (c.in_ok-works.ensures.left ∙ ap (λ (clients : List Client). split_often (length clients) (first_pass c.in_ok-lock.lock)) c.as_slice-clients.ensures) in
@@ -65,7 +65,7 @@ returns g c =
     (subst (λ (clients : List Client). AreDone c.in_ok-mission.mission clients c.in_ok-works.works.items c.in_ok-dones.dones.items) c.as_slice-clients.ensures c.in_ok-dones.ensures))
     (all_told_of c.in_ok-dones.dones.items c.in_ok-texts.texts.items c.in_ok-texts.ensures.told)
     c.joined_passes_fit.ensures c.joined_passes_are_whole.ensures.all c.told_works_are_done.ensures c.passes_have_their_entries.ensures c.gather.new.pass is
-    c.close-journal.result.1 (string_bytes text) c.close-journal.ensures.right c.close-journal.ensures.all
-    (subst (λ (w : Workspace). IsReplay w c.close-journal.result.1) opened c.close-journal.ensures.past.replayed)
+    c.close-hangar.result.1 (string_bytes text) c.close-hangar.ensures.right c.close-hangar.ensures.all
+    (subst (λ (w : Workspace). IsReplay w c.close-hangar.result.1) opened c.close-hangar.ensures.past.replayed)
     told)
     c.last_text.ensures

@@ -31,10 +31,10 @@ returns-clause-performed g c =
     (subst (λ (clients : List Client). HasDoneRounds c.in_ok-mission.mission clients (stand_at c.in_ok-lock.pass c.args.steps.now) (stand_at c.take_rounds.new.pass c.take_rounds.new.steps) (map string_bytes c.in_ok-texts.texts.items))
     c.as_slice-clients.ensures c.in_ok-texts.ensures.taken) in
     IfOk-weaker c.last_text.result _ _ (λ text whole.
-    finished c.args.judged.now c.args.bound c.args.stats c.commands_are_done.ensures.few (stand_at c.in_ok-lock.pass c.args.steps.now) (stand_at c.take_rounds.new.pass c.take_rounds.new.steps) c.close-journal.result.1
+    finished c.args.judged.now c.args.bound c.args.stats c.commands_are_done.ensures.few (stand_at c.in_ok-lock.pass c.args.steps.now) (stand_at c.take_rounds.new.pass c.take_rounds.new.steps) c.close-hangar.result.1
     (map string_bytes c.in_ok-texts.texts.items) (string_bytes text)
     (ap (λ (p : PassView). p.mine) c.in_ok-lock.ensures.first) (ap (λ (p : PassView). p.seen) c.in_ok-lock.ensures.first)
-    done c.close-journal.ensures.right c.close-journal.ensures.all
-    (subst (λ (w : Workspace). IsReplay w c.close-journal.result.1) opened c.close-journal.ensures.past.replayed)
+    done c.close-hangar.ensures.right c.close-hangar.ensures.all
+    (subst (λ (w : Workspace). IsReplay w c.close-hangar.result.1) opened c.close-hangar.ensures.past.replayed)
     whole)
     c.last_text.ensures
