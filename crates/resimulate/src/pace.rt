@@ -35,13 +35,15 @@ pub(crate) struct Pace {
 }
 
 impl Pace {
-    /// Before any batch, beside an old run of so many instants.
-    pub(crate) fn new(olds: usize, directives: usize) -> Pace {
+    /// Before any batch, beside an old run of so many instants, where so many were settled already when the simulation began. These
+    /// pay for comparisons as if they were taken over.
+    pub(crate) fn new(olds: usize, directives: usize, settled: usize) -> Pace {
+        let spared = settled / BATCHES_FOR_ONE as usize;
         Pace {
             calm: 0,
             wait: 1,
             is_apart: false,
-            allowed: olds.saturating_add(directives) / SHARE,
+            allowed: (olds.saturating_add(directives) / SHARE).saturating_add(spared),
             spare: 0,
             directives,
         }

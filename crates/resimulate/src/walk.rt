@@ -230,9 +230,10 @@ pub fn resimulate<S: Stepper, L: Ledger, K: Ledger>(
     let planned = plan.get();
     let may_end = may_end_from(model, planned, bound, run);
     let mut found = Vec::new(alloc);
-    let mut pace = Pace::new(instants.len(), planned.directives.as_slice().len());
     let mut engine = bookmarks.begin(alloc, model, plan, bound, instants.len())?;
-    let mut cursor = Cursor::new(instants, engine.instants().len());
+    let settled = engine.instants().len();
+    let mut cursor = Cursor::new(instants, settled);
+    let mut pace = Pace::new(instants.len(), planned.directives.as_slice().len(), settled);
     while !engine.ready().is_empty() {
         bookmarks.note(alloc, old.model(), &engine);
         cursor.go_to(engine.time());
