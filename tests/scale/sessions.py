@@ -272,8 +272,24 @@ goals {{
     return ORBITER + orbit_plan(number) + rules + client(["schedule main"])
 
 
+def placed(number, kind):
+    """The plan of so many directives of the orbiter, and a goal that places one of a kind for each twenty-five of them."""
+    every, until = int(12 * spacing(number) * 0.7), WEEK * 12 // 25
+    return ORBITER + orbit_plan(number) + f"goals {{ g: recurrence {kind}() every {every}us in [0us, {until}us); }}\n" + client(["schedule main"])
+
+
+def marks(number):
+    """that plan, and a goal that places what changes nothing"""
+    return placed(number, "Mark")
+
+
+def downlinks(number):
+    """that plan, and a goal that places what changes a volume for good"""
+    return placed(number, "Downlink")
+
+
 ALL = [orbit, judged, same, waits, rising, chain, star, children, calls, daemon, wide, edits, turns, load, merge, series, sequence, branches]
-ALL += [moves, moves_quiet, repeats, alone, together, goals]
+ALL += [moves, moves_quiet, repeats, alone, together, goals, marks, downlinks]
 KINDS = {it.__name__: it for it in ALL}
 
 
