@@ -2,6 +2,7 @@ pub mod Meanings
 pub mod Told
 pub mod Lines
 pub mod Counts
+pub mod CountCases
 pub mod Working
 pub mod Rises
 pub mod Benches
