@@ -1,6 +1,7 @@
 pub mod Begun
 pub mod Conforming
 pub mod Entries
+pub mod Feeds
 pub mod Going
 pub mod Grammars
 pub mod Inside

@@ -1,5 +1,5 @@
 -- What a reader knows of the tokens that are left.
-use Rattle.std.proofs.Common.{◌≡◌, ℕ, ◌+◌, ◌-◌, ◌<◌, add-zero, get_or, Bool, true, false, ◌||◌, ◌∙◌, List, [], ◌∷◌, ◌++◌, take, drop, Ok, IsUtf8, ap, sym, refl, arith, subst, append_assoc}
+use Rattle.std.proofs.Common.{◌≡◌, ℕ, ◌+◌, ◌-◌, ◌<◌, ◌≤◌, add-zero, get_or, Bool, true, false, ◌||◌, ◌∙◌, List, [], ◌∷◌, ◌++◌, take, drop, Ok, IsUtf8, ap, sym, refl, arith, subst, append_assoc}
 use Rattle.std.specs.Str.{IsCharBoundary}
 use Rattle.std.proofs.lemmas.List.{get_or-drop, take-append-drop}
 use Rattle.std.proofs.lemmas.Str.{IsCharBoundary-before_ascii}
@@ -71,6 +71,9 @@ module _ (text : List ℕ) (tokens : List Token) (token : Token) (later : List T
 pub begin_anywhere : (tokens : List Token) → BeginsFrom 0 tokens
 begin_anywhere [] = tt
 begin_anywhere (token ∷ later) = omega arith
+
+pub begins_first : (tokens : List Token) (token : Token) (later : List Token) → tokens ≡ token ∷ later → BeginsFrom token.from tokens
+begins_first tokens token later are = let at : token.from ≤ token.from = omega arith in subst (BeginsFrom token.from) (sym are) at
 
 -- the text of a token of the sort of names is a name
 pub is_named : (text : List ℕ) (token : Token) → IsTokenOf text token → same_sort Name (sort_of text token) ≡ true → is_name (slice_of text token.from token.to) ≡ true

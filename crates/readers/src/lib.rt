@@ -5,6 +5,7 @@
 mod copies;
 pub mod example;
 mod limits;
+mod lines;
 mod lists;
 mod reader;
 mod refusal;

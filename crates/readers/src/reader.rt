@@ -12,6 +12,7 @@ ghost use Rattle.readers.specs.Parsed.{next_place, next_is, next_fits, next_is_o
 ghost use Rattle.readers.specs.States.{AreOfFirst, BeginsFrom};
 ghost use Rattle.readers.specs.Within.{counts_within, is_within, number_within_at};
 
+use crate::lines::place_in_line;
 use crate::refusal::Refusal;
 use aerie_base::{Name, Number, OutOfMemory, Place};
 use aerie_text::{Sort, Token, count_of, place_on, sort_of_kind};
@@ -45,7 +46,7 @@ impl<'a> Model for Reader<'a> {
 }
 
 impl<'a> Reader<'a> {
-    /// A reader of the tokens from the one of this number on. It takes time linear in the text before that token.
+    /// A reader of the tokens from the one of this number on. It counts the line feeds before that token, and reads its line.
     pub fn new(text: &'a str, tokens: &'a [Token], from: usize) -> Reader<'a>
         requires short { length text.now < 4_294_967_295 }
         requires tokens { AreTokensWithin text.now tokens.now }
@@ -53,8 +54,9 @@ impl<'a> Reader<'a> {
         ensures { result ≡ marks_of text.now (drop from tokens.now) }
     {
         let (_, left) = tokens.split_at(from);
-        let start = Place { line: 1, column: 1 };
-        let (sort, at) = first_of(text, left, 0, start);
+        let begin = begin_of(text, left);
+        let place = place_in_line(text, begin);
+        let (sort, at) = first_of(text, left, begin, place);
         Reader {
             text,
             tokens: left,
@@ -252,6 +254,18 @@ fn is_one_of(sort: Sort, sorts: &[Sort]) -> bool
     match sorts.split_first() {
         Some((first, others)) => first.is(sort) || is_one_of(sort, others),
         None => false,
+    }
+}
+
+/// Where the first of the tokens begins; where none is left, the text.
+fn begin_of(text: &str, tokens: &[Token]) -> usize
+    requires { AreTokensWithin text.now tokens.now }
+    ensures edge { IsCharBoundary text.now result }
+    ensures first { BeginsFrom result tokens.now }
+{
+    match tokens.split_first() {
+        Some((token, _)) => token.from,
+        None => 0,
     }
 }
 
