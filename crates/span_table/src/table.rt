@@ -27,8 +27,9 @@ pub fn spans(alloc: Global, model: &Model, run: &Run) -> Result<Vec<Span>, OutOf
     ensures found { IfOk result (λ spans. AreSpansOf model.now run.now spans.items) }
 {
     instants_rise();
-    // most directives have a task
-    let room = run.plan.get().directives.as_slice().len();
+    // most directives have a task, and many of these make others; room that is too small costs a copy of all that was found
+    let directives = run.plan.get().directives.as_slice().len();
+    let room = directives.saturating_mul(2);
     let mut progress = Progress::with_capacity(alloc, room)?;
     progress.note_instants(alloc, model, run.instants.as_slice())?;
     let spans = sorted(progress.into_spans())?;
