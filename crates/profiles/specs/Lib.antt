@@ -2,6 +2,7 @@ pub mod Followed
 pub mod GivenValues
 pub mod InOrder
 pub mod Neighbours
+pub mod OfRuns
 pub mod Profiles
 pub mod Samples
 pub mod Segments

@@ -4,7 +4,8 @@ ghost use Rattle.aerie_base.specs.models.ValidModel.{valid_model};
 ghost use Rattle.run_data.specs.Fresh.{IsFresh};
 ghost use Rattle.profiles.specs.GivenValues.{summed_most, HasSlopes, HasValues, IsShortest, OfResource, StaysWithin};
 ghost use Rattle.profiles.specs.Neighbours.{DivideTime, MayBeCompared, NoneContinues, starts_of};
-ghost use Rattle.profiles.specs.Profiles.{all_profiles, profile_at, profile_of};
+ghost use Rattle.profiles.specs.OfRuns.{AreProfilesOf};
+ghost use Rattle.profiles.specs.Profiles.{profile_at, profile_of};
 ghost use Rattle.profiles.specs.Touches.{AreTouching};
 
 use crate::discrete::value_profile;
@@ -53,9 +54,10 @@ pub fn profile(
 /// resource once over the instants that touch one of its cells: an instant that touches none leaves its segment as it is.
 pub fn profiles(alloc: Global, model: &Model, run: &Run) -> Result<List<Profile>, OutOfMemory>
     requires fresh { IsFresh model.now run.now.plan run.now.bound run.now }
-    ensures exact { IfOk result (λ profiles. profiles ≡ all_profiles model.now run.now) }
+    ensures { IfOk result (AreProfilesOf model.now run.now) }
 {
     let resources = model.resources();
+    can_be_followed(model, run);
     let by_cell = touches(alloc, model, run)?;
     let mut profiles = List::with_capacity(alloc, resources.len())?;
     for named in resources {
