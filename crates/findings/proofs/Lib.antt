@@ -1,0 +1,2 @@
+pub mod ChangedCells
+pub mod SettledStates
