@@ -12,7 +12,7 @@ use Rattle.command_line.specs.Invocations.{are_different, invocation_in, invocat
 use Rattle.command_line.proofs.Parts.{bad_none, judged, judged_with, mode, name_of, or_true, repeated_none, still_different}
 use Rattle.command_line.proofs.Rows.{Pending, none, some, all_different, conflict, held, is_stale, parts_in, row_added, row_there, rows_of, settle_faults, settles, texts_in, top}
 use Rattle.command_line.proofs.Ends.{answer_by, end_fault, ends}
-use Rattle.command_line.proofs.WordSorts.{Flag, Opt, View, a_limit, a_number, dashed, dashes_view, flag_name, flag_view, option_name, option_view, plain_view, serial, short_view, some_pieces, stats, text, unknown_view, valued_of, valued_view, view}
+use Rattle.command_line.proofs.WordSorts.{Flag, Opt, View, a_limit, a_number, dashed, dashes_view, detail, explain, flag_name, flag_view, option_name, option_view, plain_view, serial, short_view, some_pieces, stats, text, unknown_view, valued_of, valued_view, view}
 use Rattle.command_line.proofs.WordByWord.{IsValue, answer_at, at, dashes_iteration, dashes_walk, dead, fails, flag_stale, flag_iteration, flag_walk, goes, last_iteration, last_walk, behind_last, option_iteration, option_walk, plain_is_value, second_iteration, short_idle, short_is_value, short_waits, stays_dead, unknown_idle, unknown_waits, value_iteration, value_walk, valued_stale, valued_iteration, valued_walk, waiting, waits_at, waits_dashes_iteration, waits_dashes_walk, waits_end, waits_flag, waits_option, waits_value_iteration, waits_value_walk, waits_valued}
 
 -- ---- where the walk stands
@@ -96,11 +96,15 @@ unfolding parts_from
 flag_parts serial rest = refl
 flag_parts stats rest = refl
 flag_parts text rest = refl
+flag_parts explain rest = refl
+flag_parts detail rest = refl
 
 flag_no_mode : (f : Flag) → bytes_eq (flag_name f) (codes "mode") ≡ false
 flag_no_mode serial = refl
 flag_no_mode stats = refl
 flag_no_mode text = refl
+flag_no_mode explain = refl
+flag_no_mode detail = refl
 
 flag_step : (f : Flag) (rest : List Word) → Answers rest → (ps : List CommandPart) (pending : Pending) (taken : Bool) → are_different ps ≡ true
     → is_part (codes "mode") (ps ++ parts_in pending) ≡ taken

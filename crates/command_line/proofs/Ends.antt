@@ -1,5 +1,5 @@
 -- What is answered where the words end.
-use Rattle.std.proofs.Common.{◌≡◌, Bool, true, false, cond, ◌&&◌, ◌||◌, List, [], ◌∷◌, ◌++◌, Option, Some, None, codes, find, is_some, option_map, option_and_then, slice_get, bytes_eq, append-nil, refl, sym, ap, ap₂, ◌∙◌}
+use Rattle.std.proofs.Common.{◌≡◌, Bool, true, false, cond, ◌&&◌, ◌||◌, List, [], ◌∷◌, ◌++◌, Option, Some, None, codes, find, is_some, option_map, option_and_then, slice_get, bytes_eq, append-nil, refl, sym, ap, ap₂, subst, ◌∙◌}
 use Rattle.std.specs.List.{fold, list_all}
 use Rattle.std.specs.Option.{option_map_or}
 use Rattle.clap.specs.Facts.{explicit_source}
@@ -11,10 +11,11 @@ use Rattle.clap.specs.declared.builder.value_parser.Reading.TheVariants.{AsWritt
 use Rattle.clap.specs.declared.error.kind.ErrorKind.TheVariants as kind
 use Rattle.clap.specs.declared.parser.matches.ValueSource.TheVariants.{CommandLine, DefaultValue}
 use Rattle.command_line.specs.Commands.{is_no_fault, requested, value_of}
-use Rattle.command_line.specs.Grammar.{CommandPart, Word}
+use Rattle.command_line.specs.Grammar.{CommandPart, Word, flags}
 use Rattle.command_line.specs.Invocations.{Values, are_different, invocation_by, invocation_in, says_true, value_in}
+use Rattle.command_line.specs.WrittenLines.{is_name_in}
 use Rattle.command_line.specs.declared.invocation.Invocation.{Invocation}
-use Rattle.command_line.proofs.Parts.{always, is_itself, name_of, or_none, repeated_none}
+use Rattle.command_line.proofs.Parts.{always, is_itself, name_of, or_none, repeated_none, same_name}
 use Rattle.command_line.proofs.Rows.{Pending, none, some, all_different, conflict, held, is_stale, parts_in, row_missing, rows_of, settle_faults, settles, top}
 
 -- ---- the flags that were not given
@@ -26,8 +27,12 @@ off_row name = record { id = name; values = codes "false" ∷ []; count = None; 
 abbrev pub with_off : Word → List Row → List Row
 with_off name rows = cond (has_row name rows) rows (with_values name AsWritten DefaultValue (codes "false" ∷ []) rows)
 
+abbrev pub with_every_off : List Word → List Row → List Row
+with_every_off [] rows = rows
+with_every_off (flag ∷ more) rows = with_every_off more (with_off flag rows)
+
 abbrev pub with_flags : List Row → List Row
-with_flags rows = with_off (codes "text") (with_off (codes "stats") (with_off (codes "serial") rows))
+with_flags rows = with_every_off flags rows
 
 abbrev same : Word → Row → Bool
 same name row = bytes_eq row.id name
@@ -62,15 +67,25 @@ says_off flag rows = go (has_row flag rows) refl
         ∙ ap (λ (o : Option Row). says_true (option_and_then (λ (r : Row). slice_get r.values 0) o)) (found_last flag rows (off_row flag) has (is_itself flag))
         ∙ sym (ap (λ (o : Option Row). says_true (option_and_then (λ (r : Row). slice_get r.values 0) o)) (none_found flag rows has))
 
-find_name : (name : Word) (rows : List Row) → bytes_eq (codes "text") name ≡ false → bytes_eq (codes "stats") name ≡ false → bytes_eq (codes "serial") name ≡ false
-    → find (same name) (with_flags rows) ≡ find (same name) rows
-find_name name rows text stats serial =
-    find_off name (codes "text") (with_off (codes "stats") (with_off (codes "serial") rows)) text ∙ find_off name (codes "stats") (with_off (codes "serial") rows) stats
-    ∙ find_off name (codes "serial") rows serial
+find_name : (names : List Word) (name : Word) (rows : List Row) → is_name_in names name ≡ false → find (same name) (with_every_off names rows) ≡ find (same name) rows
+find_name [] name rows e = refl
+find_name (flag ∷ more) name rows e =
+    let apart = or_none (bytes_eq flag name) (is_name_in more name) e in find_name more name (with_off flag rows) apart.1 ∙ find_off name flag rows apart.0
 
-first_name : (name : Word) (rows : List Row) → bytes_eq (codes "text") name ≡ false → bytes_eq (codes "stats") name ≡ false → bytes_eq (codes "serial") name ≡ false
-    → first_of name (with_flags rows) ≡ first_of name rows
-first_name name rows text stats serial = ap (option_and_then (λ (r : Row). slice_get r.values 0)) (find_name name rows text stats serial)
+first_name : (name : Word) (rows : List Row) → is_name_in flags name ≡ false → first_of name (with_flags rows) ≡ first_of name rows
+first_name name rows e = ap (option_and_then (λ (r : Row). slice_get r.values 0)) (find_name flags name rows e)
+
+-- a flag that was not given says nothing of any name
+says_same : (name flag : Word) (rows : List Row) → says_true (first_of name (with_off flag rows)) ≡ says_true (first_of name rows)
+says_same name flag rows = go (bytes_eq flag name) refl
+  where
+    go : (t : Bool) → bytes_eq flag name ≡ t → says_true (first_of name (with_off flag rows)) ≡ says_true (first_of name rows)
+    go true is = subst (λ (n : Word). says_true (first_of n (with_off flag rows)) ≡ says_true (first_of n rows)) (same_name flag name is) (says_off flag rows)
+    go false other = ap (λ (o : Option Row). says_true (option_and_then (λ (r : Row). slice_get r.values 0) o)) (find_off name flag rows other)
+
+says_every : (names : List Word) (name : Word) (rows : List Row) → says_true (first_of name (with_every_off names rows)) ≡ says_true (first_of name rows)
+says_every [] name rows = refl
+says_every (flag ∷ more) name rows = says_every more name (with_off flag rows) ∙ says_same name flag rows
 
 -- ---- values
 
@@ -94,30 +109,19 @@ given_part name (p ∷ ps) = go (bytes_eq p.0 name) (given_part name ps)
     go true e = refl
     go false e = e
 
-pub same_by : (f g : Values) → says_true (f (codes "serial")) ≡ says_true (g (codes "serial")) → says_true (f (codes "stats")) ≡ says_true (g (codes "stats"))
-    → says_true (f (codes "text")) ≡ says_true (g (codes "text")) → f (codes "mode") ≡ g (codes "mode") → f (codes "limit") ≡ g (codes "limit")
-    → f (codes "pieces") ≡ g (codes "pieces") → f (codes "number") ≡ g (codes "number") → invocation_by f ≡ invocation_by g
-same_by f g serial stats text m l p n = rw (serial, stats, text, m, l, p, n) refl
+pub same_by : (f g : Values) → ((name : Word) → says_true (f name) ≡ says_true (g name)) → f (codes "mode") ≡ g (codes "mode")
+    → f (codes "limit") ≡ g (codes "limit") → f (codes "pieces") ≡ g (codes "pieces") → f (codes "number") ≡ g (codes "number") → invocation_by f ≡ invocation_by g
+same_by f g said m l p n =
+    rw (said (codes "serial"), said (codes "stats"), said (codes "text"), said (codes "explain"), said (codes "detail"), m, l, p, n) refl
 
 -- what the rows with the flags ask for is what the parts ask for
 same_requested : (ps : List CommandPart) → requested (with_flags (rows_of ps)) ≡ invocation_by (value_in ps)
 same_requested ps = same_by (value_of (with_flags (rows_of ps))) (value_in ps)
-    (ap says_true (first_off_2 (codes "serial") (with_off (codes "serial") (rows_of ps)) refl refl) ∙ says_off (codes "serial") (rows_of ps) ∙ ap says_true (first_part (codes "serial") ps))
-    (ap says_true (first_off (codes "stats") (codes "text") (with_off (codes "stats") (with_off (codes "serial") (rows_of ps))) refl)
-    ∙ says_off (codes "stats") (with_off (codes "serial") (rows_of ps)) ∙ ap says_true (first_off (codes "stats") (codes "serial") (rows_of ps) refl ∙ first_part (codes "stats") ps))
-    (says_off (codes "text") (with_off (codes "stats") (with_off (codes "serial") (rows_of ps)))
-    ∙ ap says_true (first_off (codes "text") (codes "stats") (with_off (codes "serial") (rows_of ps)) refl ∙ first_off (codes "text") (codes "serial") (rows_of ps) refl ∙ first_part (codes "text") ps))
-    (first_name (codes "mode") (rows_of ps) refl refl refl ∙ first_part (codes "mode") ps)
-    (first_name (codes "limit") (rows_of ps) refl refl refl ∙ first_part (codes "limit") ps)
-    (first_name (codes "pieces") (rows_of ps) refl refl refl ∙ first_part (codes "pieces") ps)
-    (first_name (codes "number") (rows_of ps) refl refl refl ∙ first_part (codes "number") ps)
-  where
-    first_off : (name flag : Word) (rows : List Row) → bytes_eq flag name ≡ false → first_of name (with_off flag rows) ≡ first_of name rows
-    first_off name flag rows e = ap (option_and_then (λ (r : Row). slice_get r.values 0)) (find_off name flag rows e)
-
-    first_off_2 : (name : Word) (rows : List Row) → bytes_eq (codes "text") name ≡ false → bytes_eq (codes "stats") name ≡ false
-        → first_of name (with_off (codes "text") (with_off (codes "stats") rows)) ≡ first_of name rows
-    first_off_2 name rows text stats = first_off name (codes "text") (with_off (codes "stats") rows) text ∙ first_off name (codes "stats") rows stats
+    (λ name. says_every flags name (rows_of ps) ∙ ap says_true (first_part name ps))
+    (first_name (codes "mode") (rows_of ps) refl ∙ first_part (codes "mode") ps)
+    (first_name (codes "limit") (rows_of ps) refl ∙ first_part (codes "limit") ps)
+    (first_name (codes "pieces") (rows_of ps) refl ∙ first_part (codes "pieces") ps)
+    (first_name (codes "number") (rows_of ps) refl ∙ first_part (codes "number") ps)
 
 -- ---- the last checks
 
@@ -179,7 +183,7 @@ unfolding answer_by end_fault
 end_of ps = rw (no_default_fault (rows_of ps) top.rules are_harmless, filled (rows_of ps)) (go (is_some (value_in ps (codes "mode"))) refl)
   where
     given : is_given (codes "mode") (with_flags (rows_of ps)) ≡ is_some (value_in ps (codes "mode"))
-    given = ap (λ (o : Option Row). option_map_or (λ (r : Row). explicit_source r.source) o false) (find_name (codes "mode") (rows_of ps) refl refl refl) ∙ given_part (codes "mode") ps
+    given = ap (λ (o : Option Row). option_map_or (λ (r : Row). explicit_source r.source) o false) (find_name flags (codes "mode") (rows_of ps) refl) ∙ given_part (codes "mode") ps
 
     go : (t : Bool) → is_some (value_in ps (codes "mode")) ≡ t
         → cond (is_no_fault (check_fault top (with_flags (rows_of ps)) false)) (requested (with_flags (rows_of ps))) None ≡ invocation_by (value_in ps)

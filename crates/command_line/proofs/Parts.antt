@@ -2,7 +2,7 @@
 use Rattle.std.proofs.Common.{◌≡◌, ℕ, Bool, true, false, cond, not, ◌&&◌, ◌||◌, List, [], ◌∷◌, ◌++◌, Option, Some, None, codes, bytes_eq, append_assoc, length, nat_lt, refl, sym, ap, ◌∙◌}
 use Rattle.std.proofs.lemmas.Slice.Eq.{bytes_eq-Decides}
 use Rattle.command_line.specs.Grammar.{CommandPart, Word, with_part}
-use Rattle.command_line.specs.Invocations.{Values, are_different, invocation_by, invocation_in, invocation_with, is_part, make_mode, mode_of, number_up_to, plain_mode, says_true, value_in}
+use Rattle.command_line.specs.Invocations.{GivenFlags, Values, are_different, invocation_by, invocation_in, invocation_with, is_part, make_mode, mode_of, number_up_to, plain_mode, says_true, value_in}
 use Rattle.command_line.specs.declared.invocation.Invocation.{Invocation}
 use Rattle.command_line.specs.declared.invocation.Mode.{Mode}
 use Rattle.command_line.specs.declared.invocation.Mode.TheVariants.{Run, Check}
@@ -115,14 +115,14 @@ no_number most rest = go (nat_lt 0 (length (45 ∷ rest))) _ _ _
     go true a b n = refl
     go false a b n = refl
 
-no_limit : (serial stats : Bool) (m : Option Mode) (p : Option ℕ) → invocation_with serial stats m None p ≡ None
-no_limit serial stats None p = refl
-no_limit serial stats (Some m) p = refl
+no_limit : (flags : GivenFlags) (m : Option Mode) (p : Option ℕ) → invocation_with flags m None p ≡ None
+no_limit flags None p = refl
+no_limit flags (Some m) p = refl
 
-no_pieces : (serial stats : Bool) (m : Option Mode) (l : Option ℕ) → invocation_with serial stats m l None ≡ None
-no_pieces serial stats None l = refl
-no_pieces serial stats (Some m) None = refl
-no_pieces serial stats (Some m) (Some l) = refl
+no_pieces : (flags : GivenFlags) (m : Option Mode) (l : Option ℕ) → invocation_with flags m l None ≡ None
+no_pieces flags None l = refl
+no_pieces flags (Some m) None = refl
+no_pieces flags (Some m) (Some l) = refl
 
 no_mode : (m : Option Word) (rest : Word) (text : Bool) → mode_of m (Some (45 ∷ rest)) text ≡ None
 no_mode None rest text = refl
@@ -136,8 +136,8 @@ no_mode (Some word) rest text = go (bytes_eq word (codes "run")) (bytes_eq word 
 
 bad_by : (v : Valued) (values : Values) (rest : Word) → values (name_of v) ≡ Some (45 ∷ rest) → invocation_by values ≡ None
 bad_by mode values rest e = rw e refl
-bad_by limit values rest e = rw (e, no_number 100000000 rest) (no_limit _ _ _ _)
-bad_by pieces values rest e = rw (e, no_number 64 rest) (no_pieces _ _ _ _)
+bad_by limit values rest e = rw (e, no_number 100000000 rest) (no_limit _ _ _)
+bad_by pieces values rest e = rw (e, no_number 64 rest) (no_pieces _ _ _)
 bad_by number values rest e =
     rw (e, no_mode (values (codes "mode")) rest (says_true (values (codes "text")))) refl
 

@@ -14,7 +14,7 @@ use Rattle.command_line.specs.declared.invocation.Invocation.{Invocation}
 use Rattle.command_line.proofs.Parts.{and_false}
 use Rattle.command_line.proofs.Rows.{conflict, rows_of, top}
 use Rattle.command_line.proofs.Ends.{answer_by, end_fault}
-use Rattle.command_line.proofs.WordSorts.{Flag, IsPlain, IsRefused, Opt, a_limit, a_number, dashed, flag_name, option_name, serial, some_pieces, stats, text}
+use Rattle.command_line.proofs.WordSorts.{Flag, IsPlain, IsRefused, Opt, a_limit, a_number, dashed, detail, explain, flag_name, option_name, serial, some_pieces, stats, text}
 
 -- ---- one iteration
 
@@ -74,18 +74,26 @@ flag_iteration stats h taken true s e = rw (s, e) refl
 flag_iteration stats h taken false s e = rw (s, e) refl
 flag_iteration text h taken true s e = rw (s, e) refl
 flag_iteration text h taken false s e = rw (s, e) refl
+flag_iteration explain h taken true s e = rw (s, e) refl
+flag_iteration explain h taken false s e = rw (s, e) refl
+flag_iteration detail h taken true s e = rw (s, e) refl
+flag_iteration detail h taken false s e = rw (s, e) refl
 
 pub flag_stale : (f : Flag) (h : Held) (taken : Bool) → Settles h true → is_no_fault (turn_fault top [] (at h taken false) (dashed (flag_name f))) ≡ false
 unfolding top
 flag_stale serial h taken s = rw s refl
 flag_stale stats h taken s = rw s refl
 flag_stale text h taken s = rw s refl
+flag_stale explain h taken s = rw s refl
+flag_stale detail h taken s = rw s refl
 
 pub flag_walk : (f : Flag) (h : Held) (taken : Bool) → walked top.rules [] (at h taken false) (dashed (flag_name f)) ≡ at (used_flag f h) taken false
 unfolding top walked
 flag_walk serial h taken = refl
 flag_walk stats h taken = refl
 flag_walk text h taken = refl
+flag_walk explain h taken = refl
+flag_walk detail h taken = refl
 
 -- an option that waits for its value, behind these rows
 abbrev pub waiting : List CommandPart → Opt → Held
@@ -248,6 +256,12 @@ waits_flag stats ps a_number taken = refl
 waits_flag text ps a_limit taken = refl
 waits_flag text ps some_pieces taken = refl
 waits_flag text ps a_number taken = refl
+waits_flag explain ps a_limit taken = refl
+waits_flag explain ps some_pieces taken = refl
+waits_flag explain ps a_number taken = refl
+waits_flag detail ps a_limit taken = refl
+waits_flag detail ps some_pieces taken = refl
+waits_flag detail ps a_number taken = refl
 
 pub waits_option : (p : Opt) (ps : List CommandPart) (o : Opt) (taken : Bool) → is_no_fault (turn_fault top [] (waits_at (waiting ps o) o taken) (dashed (option_name p))) ≡ false
 unfolding top

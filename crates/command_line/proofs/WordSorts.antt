@@ -24,12 +24,14 @@ abbrev pub option_name : Opt → Word
 option_name o = name_of (valued_of o)
 
 pub data Flag : Type 0 where
-  serial stats text : Flag
+  serial stats text explain detail : Flag
 
 abbrev pub flag_name : Flag → Word
 flag_name serial = codes "serial"
 flag_name stats = codes "stats"
 flag_name text = codes "text"
+flag_name explain = codes "explain"
+flag_name detail = codes "detail"
 
 abbrev pub dashed : Word → Word
 dashed name = 45 ∷ 45 ∷ name
@@ -42,6 +44,8 @@ pub record IsUnnamed (n : Word) : Type 0 where
   pub serial : bytes_eq (codes "serial") n ≡ false
   pub stats : bytes_eq (codes "stats") n ≡ false
   pub text : bytes_eq (codes "text") n ≡ false
+  pub explain : bytes_eq (codes "explain") n ≡ false
+  pub detail : bytes_eq (codes "detail") n ≡ false
 
 pub data Naming (n : Word) : Type 0 where
   is_option : (o : Opt) → option_name o ≡ n → Naming n
@@ -49,18 +53,26 @@ pub data Naming (n : Word) : Type 0 where
   is_unnamed : IsUnnamed n → Naming n
 
 pub naming : (n : Word) → Naming n
-naming n = go (bytes_eq (codes "limit") n) (bytes_eq (codes "pieces") n) (bytes_eq (codes "number") n) (bytes_eq (codes "serial") n) (bytes_eq (codes "stats") n)
-    (bytes_eq (codes "text") n) refl refl refl refl refl refl
+naming n = by_option (bytes_eq (codes "limit") n) (bytes_eq (codes "pieces") n) (bytes_eq (codes "number") n) refl refl refl
   where
-    go : (a b c d e f : Bool) → bytes_eq (codes "limit") n ≡ a → bytes_eq (codes "pieces") n ≡ b → bytes_eq (codes "number") n ≡ c → bytes_eq (codes "serial") n ≡ d
-        → bytes_eq (codes "stats") n ≡ e → bytes_eq (codes "text") n ≡ f → Naming n
-    go true b c d e f l p m s t x = is_option a_limit (same_name (codes "limit") n l)
-    go false true c d e f l p m s t x = is_option some_pieces (same_name (codes "pieces") n p)
-    go false false true d e f l p m s t x = is_option a_number (same_name (codes "number") n m)
-    go false false false true e f l p m s t x = is_flag serial (same_name (codes "serial") n s)
-    go false false false false true f l p m s t x = is_flag stats (same_name (codes "stats") n t)
-    go false false false false false true l p m s t x = is_flag text (same_name (codes "text") n x)
-    go false false false false false false l p m s t x = is_unnamed (record { limit = l; pieces = p; number = m; serial = s; stats = t; text = x })
+    by_flag : (a b c d e : Bool) → bytes_eq (codes "limit") n ≡ false → bytes_eq (codes "pieces") n ≡ false → bytes_eq (codes "number") n ≡ false
+        → bytes_eq (codes "serial") n ≡ a → bytes_eq (codes "stats") n ≡ b → bytes_eq (codes "text") n ≡ c → bytes_eq (codes "explain") n ≡ d
+        → bytes_eq (codes "detail") n ≡ e → Naming n
+    by_flag true b c d e l p m s t x w y = is_flag serial (same_name (codes "serial") n s)
+    by_flag false true c d e l p m s t x w y = is_flag stats (same_name (codes "stats") n t)
+    by_flag false false true d e l p m s t x w y = is_flag text (same_name (codes "text") n x)
+    by_flag false false false true e l p m s t x w y = is_flag explain (same_name (codes "explain") n w)
+    by_flag false false false false true l p m s t x w y = is_flag detail (same_name (codes "detail") n y)
+    by_flag false false false false false l p m s t x w y =
+        is_unnamed (record { limit = l; pieces = p; number = m; serial = s; stats = t; text = x; explain = w; detail = y })
+
+    by_option : (a b c : Bool) → bytes_eq (codes "limit") n ≡ a → bytes_eq (codes "pieces") n ≡ b → bytes_eq (codes "number") n ≡ c → Naming n
+    by_option true b c l p m = is_option a_limit (same_name (codes "limit") n l)
+    by_option false true c l p m = is_option some_pieces (same_name (codes "pieces") n p)
+    by_option false false true l p m = is_option a_number (same_name (codes "number") n m)
+    by_option false false false l p m =
+        by_flag (bytes_eq (codes "serial") n) (bytes_eq (codes "stats") n) (bytes_eq (codes "text") n) (bytes_eq (codes "explain") n) (bytes_eq (codes "detail") n)
+        l p m refl refl refl refl refl
 
 -- ---- cutting a word at its first `=`
 
@@ -109,24 +121,28 @@ cut (b ∷ word) e = go (b == 61) refl e (λ rest. cut word rest)
 
 unnamed_argument : (n : Word) → IsUnnamed n → arg_by_long top.rules n ≡ None
 unfolding top
-unnamed_argument n is = rw (is.limit, is.pieces, is.number, is.serial, is.stats, is.text) refl
+unnamed_argument n is = rw (is.limit, is.pieces, is.number, is.serial, is.stats, is.text, is.explain, is.detail) refl
 
 flag_with_value : (f : Flag) (value : Word) (h : Held) → is_no_fault (long_fault top.rules false (arg_by_long top.rules (flag_name f)) (Some value) h) ≡ false
 unfolding top
 flag_with_value serial value h = refl
 flag_with_value stats value h = refl
 flag_with_value text value h = refl
+flag_with_value explain value h = refl
+flag_with_value detail value h = refl
 
 unnamed_with_value : (n value : Word) → IsUnnamed n → sort_by (dashed n) (Some value) ≡ plain
 unnamed_with_value n value is = rw (is.limit, is.pieces, is.number) refl
 
 unnamed_alone : (b : ℕ) (n : Word) → IsUnnamed (b ∷ n) → sort_by (dashed (b ∷ n)) None ≡ plain
-unnamed_alone b n is = rw (is.limit, is.pieces, is.number, is.serial, is.stats, is.text) refl
+unnamed_alone b n is = rw (is.limit, is.pieces, is.number, is.serial, is.stats, is.text, is.explain, is.detail) refl
 
 flag_sort : (f : Flag) (value : Word) → sort_by (dashed (flag_name f)) (Some value) ≡ plain
 flag_sort serial value = refl
 flag_sort stats value = refl
 flag_sort text value = refl
+flag_sort explain value = refl
+flag_sort detail value = refl
 
 -- ---- all words
 

@@ -6,7 +6,7 @@ use Rattle.command_line.specs.WrittenLines.{CommandLine, CutWordsAreLines, Lines
 use Rattle.command_line.proofs.Ends.{same_by}
 use Rattle.command_line.proofs.Parts.{and_both, is_itself, or_none, other_name, same_name}
 use Rattle.command_line.proofs.AsWritten.{dashes_parts, flag_parts, option_parts, plain_parts, valued_parts, waits_parts}
-use Rattle.command_line.proofs.WordSorts.{Flag, Naming, Opt, View, a_limit, a_number, dashed, dashes_view, flag_name, flag_view, is_flag, is_option, is_unnamed, naming, option_name, option_view, plain_view, serial, short_view, some_pieces, stats, text, unknown_view, valued_view, view}
+use Rattle.command_line.proofs.WordSorts.{Flag, Naming, Opt, View, a_limit, a_number, dashed, dashes_view, detail, explain, flag_name, flag_view, is_flag, is_option, is_unnamed, naming, option_name, option_view, plain_view, serial, short_view, some_pieces, stats, text, unknown_view, valued_view, view}
 
 -- ---- names of flags and options
 
@@ -19,11 +19,15 @@ no_option : (f : Flag) → is_name_in options (flag_name f) ≡ true → ⊥
 no_option serial e = absurd cc
 no_option stats e = absurd cc
 no_option text e = absurd cc
+no_option explain e = absurd cc
+no_option detail e = absurd cc
 
 flag_known : (f : Flag) → is_name_in flags (flag_name f) ≡ true
 flag_known serial = refl
 flag_known stats = refl
 flag_known text = refl
+flag_known explain = refl
+flag_known detail = refl
 
 option_known : (o : Opt) → is_name_in options (option_name o) ≡ true
 option_known a_limit = refl
@@ -36,7 +40,7 @@ known_flag name known = go (naming name)
     go : Naming name → (f : Flag) × (flag_name f ≡ name)
     go (is_flag f e) = (f, e)
     go (is_option o e) = absurd (no_flag o (subst (λ (n : Word). is_name_in flags n ≡ true) (sym e) known))
-    go (is_unnamed is) = let none : is_name_in flags name ≡ false = rw (is.serial, is.stats, is.text) refl in absurd cc
+    go (is_unnamed is) = let none : is_name_in flags name ≡ false = rw (is.serial, is.stats, is.text, is.explain, is.detail) refl in absurd cc
 
 known_option : (name : Word) → is_name_in options name ≡ true → (o : Opt) × (option_name o ≡ name)
 known_option name known = go (naming name)
@@ -241,8 +245,7 @@ order_makes_no_difference front behind one other = go (are_different (front ++ o
   where
     values : bytes_eq other.0 one.0 ≡ false → invocation_by (value_in (front ++ one ∷ other ∷ behind)) ≡ invocation_by (value_in (front ++ other ∷ one ∷ behind))
     values e = same_by (value_in (front ++ one ∷ other ∷ behind)) (value_in (front ++ other ∷ one ∷ behind))
-        (ap says_true (value_swapped front behind one other (codes "serial") e)) (ap says_true (value_swapped front behind one other (codes "stats") e))
-        (ap says_true (value_swapped front behind one other (codes "text") e)) (value_swapped front behind one other (codes "mode") e)
+        (λ name. ap says_true (value_swapped front behind one other name e)) (value_swapped front behind one other (codes "mode") e)
         (value_swapped front behind one other (codes "limit") e) (value_swapped front behind one other (codes "pieces") e) (value_swapped front behind one other (codes "number") e)
 
     go : (t : Bool) → are_different (front ++ one ∷ other ∷ behind) ≡ t

@@ -8,7 +8,7 @@ use Rattle.command_line.specs.declared.invocation.Mode.TheVariants.{Run, Check, 
 
 -- a mode alone
 abbrev alone : Mode → Invocation
-alone mode = record { mode = mode; limit = 1_000_000; pieces = 4; serial = false; stats = false }
+alone mode = record { mode = mode; limit = 1_000_000; pieces = 4; serial = false; stats = false; explain = false; detail = false }
 
 pub a_mode : invocation_of (codes "run" ∷ []) ≡ Some (alone Run)
 unfolding invocation_of parts_from
@@ -24,6 +24,15 @@ pub a_session_is_made : invocation_of (codes "--text" ∷ codes "--number=300" �
     Some (record (alone (Make 300 true)) { stats = true })
 unfolding invocation_of parts_from
 a_session_is_made = refl
+
+pub a_refusal_is_explained : invocation_of (codes "check" ∷ codes "--explain" ∷ []) ≡ Some (record (alone Check) { explain = true })
+unfolding invocation_of parts_from
+a_refusal_is_explained = refl
+
+pub reports_in_detail : invocation_of (codes "--detail" ∷ codes "run" ∷ codes "--explain" ∷ []) ≡
+    Some (record (alone Run) { explain = true; detail = true })
+unfolding invocation_of parts_from
+reports_in_detail = refl
 
 pub the_mode_behind_hyphens : invocation_of (codes "--limit" ∷ codes "9" ∷ codes "--" ∷ codes "run" ∷ []) ≡
     Some (record (alone Run) { limit = 9 })
@@ -121,6 +130,14 @@ make_without_a_number = refl
 pub a_text_without_make : invocation_of (codes "run" ∷ codes "--text" ∷ []) ≡ None
 unfolding invocation_of parts_from
 a_text_without_make = refl
+
+pub no_detail_without_a_run : invocation_of (codes "check" ∷ codes "--detail" ∷ []) ≡ None
+unfolding invocation_of parts_from
+no_detail_without_a_run = refl
+
+pub nothing_is_explained_with_make : invocation_of (codes "make" ∷ codes "--number=9" ∷ codes "--explain" ∷ []) ≡ None
+unfolding invocation_of parts_from
+nothing_is_explained_with_make = refl
 
 pub a_number_with_a_letter : invocation_of (codes "run" ∷ codes "--limit" ∷ codes "1x" ∷ []) ≡ None
 unfolding invocation_of parts_from

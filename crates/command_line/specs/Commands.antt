@@ -32,9 +32,14 @@ abbrev pub with_every_option : App → App
 with_every_option command =
     with_rule (with_rule (with_rule command (option_rule (codes "limit"))) (option_rule (codes "pieces"))) (option_rule (codes "number"))
 
+-- the flags that say more, of a refusal and of runs
+abbrev pub with_flags_for_more : App → App
+with_flags_for_more command = with_rule (with_rule command (flag_rule (codes "explain"))) (flag_rule (codes "detail"))
+
 abbrev pub with_every_flag : App → App
 with_every_flag command =
-    with_rule (with_rule (with_rule command (flag_rule (codes "serial"))) (flag_rule (codes "stats"))) (flag_rule (codes "text"))
+    with_flags_for_more
+    (with_rule (with_rule (with_rule command (flag_rule (codes "serial"))) (flag_rule (codes "stats"))) (flag_rule (codes "text")))
 
 abbrev pub command : App
 command = with_every_flag (with_every_option (with_rule plain_command mode_rule))

@@ -7,6 +7,8 @@
 --     --serial
 --     --stats
 --     --text         only with make
+--     --explain      only with run and check
+--     --detail       only with run
 --
 -- These parts stand in any order. MODE is given once, and each other part once at most. `--NAME N` may be written
 -- `--NAME=N`. Behind `--` nothing may stand but MODE. This file cuts words into parts; what they ask for, with how often
@@ -32,7 +34,7 @@ abbrev pub options : List Word
 options = codes "limit" ∷ codes "pieces" ∷ codes "number" ∷ []
 
 abbrev pub flags : List Word
-flags = codes "serial" ∷ codes "stats" ∷ codes "text" ∷ []
+flags = codes "serial" ∷ codes "stats" ∷ codes "text" ∷ codes "explain" ∷ codes "detail" ∷ []
 
 -- What a word is by itself: `--`, a flag, an option whose value is the next word, an option with its value, or any other
 -- word, which stands for MODE.

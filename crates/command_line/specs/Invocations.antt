@@ -60,6 +60,16 @@ abbrev pub mode_of : Option (List ℕ) → Option (List ℕ) → Bool → Option
 mode_of None number text = None
 mode_of (Some word) number text = mode_named word number text
 
+-- `--explain` does not go with make, and `--detail` goes with run alone
+abbrev pub is_allowed : Bool → Bool → Mode → Bool
+is_allowed explain detail Run = true
+is_allowed explain detail Check = not detail
+is_allowed explain detail (Make number text) = not explain && not detail
+
+abbrev pub allowed : Bool → Bool → Option Mode → Option Mode
+allowed explain detail None = None
+allowed explain detail (Some mode) = if is_allowed explain detail mode then Some mode else None
+
 -- ---- values by name
 
 -- the values that were given, each by the name of what it is for
@@ -70,18 +80,47 @@ abbrev pub says_true : Option Word → Bool
 says_true None = false
 says_true (Some text) = bytes_eq text (codes "true")
 
-abbrev pub invocation_with : Bool → Bool → Option Mode → Option ℕ → Option ℕ → Option Invocation
-invocation_with serial stats None limit pieces = None
-invocation_with serial stats (Some mode) None pieces = None
-invocation_with serial stats (Some mode) (Some limit) None = None
-invocation_with serial stats (Some mode) (Some limit) (Some pieces) =
-    Some (record { mode = mode; limit = limit; pieces = pieces; serial = serial; stats = stats })
+-- the flags of an invocation, each with whether it was given
+pub record GivenFlags : Type 0 where
+  pub serial : Bool
+  pub stats : Bool
+  pub explain : Bool
+  pub detail : Bool
+
+abbrev pub given_flags : Values → GivenFlags
+given_flags values =
+    record {
+      serial = says_true (values (codes "serial"));
+      stats = says_true (values (codes "stats"));
+      explain = says_true (values (codes "explain"));
+      detail = says_true (values (codes "detail"));
+    }
+
+-- the mode that values name, where it goes with their flags
+abbrev pub mode_by : Values → Option Mode
+mode_by values =
+    allowed (says_true (values (codes "explain"))) (says_true (values (codes "detail")))
+    (mode_of (values (codes "mode")) (values (codes "number")) (says_true (values (codes "text"))))
+
+abbrev pub invocation_with : GivenFlags → Option Mode → Option ℕ → Option ℕ → Option Invocation
+invocation_with flags None limit pieces = None
+invocation_with flags (Some mode) None pieces = None
+invocation_with flags (Some mode) (Some limit) None = None
+invocation_with flags (Some mode) (Some limit) (Some pieces) =
+    Some (record {
+      mode = mode;
+      limit = limit;
+      pieces = pieces;
+      serial = flags.serial;
+      stats = flags.stats;
+      explain = flags.explain;
+      detail = flags.detail;
+    })
 
 -- what values ask for
 abbrev pub invocation_by : Values → Option Invocation
 invocation_by values =
-    invocation_with (says_true (values (codes "serial"))) (says_true (values (codes "stats")))
-    (mode_of (values (codes "mode")) (values (codes "number")) (says_true (values (codes "text"))))
+    invocation_with (given_flags values) (mode_by values)
     (number_or 1_000_000 100_000_000 (values (codes "limit")))
     (number_or 4 64 (values (codes "pieces")))
 

@@ -29,4 +29,8 @@ pub struct Invocation {
     pub serial: bool,
     /// Whether replies tell how many statements a simulation ran.
     pub stats: bool,
+    /// Whether the refusal of a session is told as a text, with its cause: never with [`Mode::Make`].
+    pub explain: bool,
+    /// Whether replies tell more of each run: only with [`Mode::Run`].
+    pub detail: bool,
 }

@@ -3,7 +3,7 @@
 ghost use Rattle.std.specs.Option.{option_copied};
 ghost use Rattle.std.specs.Prelude.{◌≡◌, IfOk, IfErr, true, false};
 ghost use Rattle.clap.specs.Words.{app_of, found_of, kind_of, rows_of, rule_of, with_rule};
-ghost use Rattle.command_line.specs.Commands.{are_taken, command as command_by, flag_rule, given, is_set as is_set_by, mode_rule, option_rule, plain_command, value_of as value_of_by, with_every_flag as with_every_flag_by, with_every_option as with_every_option_by};
+ghost use Rattle.command_line.specs.Commands.{are_taken, command as command_by, flag_rule, given, is_set as is_set_by, mode_rule, option_rule, plain_command, value_of as value_of_by, with_every_flag as with_every_flag_by, with_every_option as with_every_option_by, with_flags_for_more as with_flags_for_more_by};
 ghost use Rattle.command_line.specs.Grammar.{texts_of};
 
 use clap::error::ErrorKind;
@@ -62,13 +62,22 @@ fn with_every_option<'a>(alloc: Global, command: Command<'a>) -> Result<Command<
     add(command, option(alloc, "number"))
 }
 
+/// The command with the flags besides that say more, of a refusal and of runs.
+fn with_flags_for_more<'a>(alloc: Global, command: Command<'a>) -> Result<Command<'a>, AllocError>
+    ensures { IfOk result (λ more. app_of more ≡ with_flags_for_more_by (app_of command.entry)) }
+{
+    let command = add(command, flag(alloc, "explain"))?;
+    add(command, flag(alloc, "detail"))
+}
+
 /// The command with the flags besides.
 fn with_every_flag<'a>(alloc: Global, command: Command<'a>) -> Result<Command<'a>, AllocError>
     ensures { IfOk result (λ more. app_of more ≡ with_every_flag_by (app_of command.entry)) }
 {
     let command = add(command, flag(alloc, "serial"))?;
     let command = add(command, flag(alloc, "stats"))?;
-    add(command, flag(alloc, "text"))
+    let command = add(command, flag(alloc, "text"))?;
+    with_flags_for_more(alloc, command)
 }
 
 /// The whole command.

@@ -3,9 +3,9 @@
 ghost use Rattle.std.specs.Option.{option_copied};
 ghost use Rattle.std.specs.Prelude.{◌≡◌, IfOk, IfSome};
 ghost use Rattle.clap.specs.Words.{found_of, rows_of};
-ghost use Rattle.command_line.specs.Commands.{requested};
+ghost use Rattle.command_line.specs.Commands.{requested, value_of as value_in};
 ghost use Rattle.command_line.specs.Grammar.{texts_of};
-ghost use Rattle.command_line.specs.Invocations.{IsModeWithin, HasNumbersWithin, make_mode as make_mode_by, mode_named as mode_named_by, mode_of as mode_of_by, plain_mode as plain_mode_by, invocation_of};
+ghost use Rattle.command_line.specs.Invocations.{IsModeWithin, HasNumbersWithin, allowed as allowed_by, is_allowed as is_allowed_by, make_mode as make_mode_by, mode_by as mode_by_values, mode_named as mode_named_by, mode_of as mode_of_by, plain_mode as plain_mode_by, invocation_of};
 
 use crate::invocation::{Invocation, Mode};
 use crate::numbers::{number_or, number_up_to};
@@ -73,13 +73,45 @@ fn mode_of(word: Option<&str>, number: Option<&str>, text: bool) -> Option<Mode>
     mode_named(word?, number, text)
 }
 
+/// Whether the mode goes with these flags.
+fn is_allowed(mode: Mode, explain: bool, detail: bool) -> bool
+    ensures { result ≡ is_allowed_by explain detail mode }
+{
+    match mode {
+        Mode::Run => true,
+        Mode::Check => !detail,
+        Mode::Make { .. } => !explain && !detail,
+    }
+}
+
+/// The mode, where it goes with these flags.
+fn allowed(mode: Option<Mode>, explain: bool, detail: bool) -> Option<Mode>
+    requires within { IfSome mode IsModeWithin }
+    ensures exact { result ≡ allowed_by explain detail mode }
+    ensures within { IfSome result IsModeWithin }
+{
+    match mode {
+        Some(mode) if is_allowed(mode, explain, detail) => Some(mode),
+        _ => None,
+    }
+}
+
+/// The mode that the values name, where it goes with their flags.
+fn mode_by(matches: &ArgMatches<'_>) -> Option<Mode>
+    ensures exact { result ≡ mode_by_values (λ name. value_in (rows_of (found_of matches.now)) name) }
+    ensures within { IfSome result IsModeWithin }
+{
+    let number = value_of(matches, "number");
+    let mode = mode_of(value_of(matches, "mode"), number, is_set(matches, "text"));
+    allowed(mode, is_set(matches, "explain"), is_set(matches, "detail"))
+}
+
 /// What the values ask for.
 fn invocation(matches: &ArgMatches<'_>) -> Option<Invocation>
     ensures exact { result ≡ requested (rows_of (found_of matches.now)) }
     ensures within { IfSome result HasNumbersWithin }
 {
-    let number = value_of(matches, "number");
-    let mode = mode_of(value_of(matches, "mode"), number, is_set(matches, "text"))?;
+    let mode = mode_by(matches)?;
     let limit = number_or(value_of(matches, "limit"), USUAL_LIMIT, MOST_LIMIT)?;
     let pieces = number_or(value_of(matches, "pieces"), USUAL_PIECES, MOST_PIECES)?;
     Some(Invocation {
@@ -88,6 +120,8 @@ fn invocation(matches: &ArgMatches<'_>) -> Option<Invocation>
         pieces: pieces as u32,
         serial: is_set(matches, "serial"),
         stats: is_set(matches, "stats"),
+        explain: is_set(matches, "explain"),
+        detail: is_set(matches, "detail"),
     })
 }
 
