@@ -1,5 +1,5 @@
 -- A step that is found is that of the job, and a step that is run is one that no stored step fits.
-use Rattle.std.proofs.Common.{◌≡◌, ◌≤◌, ◌<◌, ℕ, Bool, true, false, ◌&&◌, List, [], ◌∷◌, Some, None, arith, refl, sym, ap, ◌∙◌, subst, nat_lt}
+use Rattle.std.proofs.Common.{◌≡◌, ◌≤◌, ◌<◌, ℕ, Bool, true, false, ◌&&◌, List, [], ◌∷◌, ◌++◌, Some, None, length, arith, refl, sym, ap, ◌∙◌, subst, nat_lt}
 use Rattle.std.proofs.lemmas.List.Elements.{All-head, All-tail}
 use Rattle.aerie_base.specs.declared.models.model.Parts.{Parts}
 use Rattle.record_book.specs.StoredSteps.{FitsView}
@@ -63,3 +63,11 @@ module _ (states : SameTasksAreEqual) (reads : SameReadsAreEqual) (job : Job) wh
   fits_none (of ∷ records) frame before agrees none =
       let first = unlike of frame before agrees (All-head IsUnfit of records none) (same_task of.before frame.before && same_reads of.reads frame.reads) refl in
       rw first (fits_none records frame before agrees (All-tail IsUnfit of records none))
+
+-- ---- nothing stored
+
+-- two books without a step have none together
+pub none_stored : (book kept : List Record) → length book ≡ 0 → length kept ≡ 0 → book ++ kept ≡ []
+none_stored [] [] none none_kept = refl
+none_stored [] (of ∷ kept) none none_kept = absurd (omega (arith, none_kept))
+none_stored (of ∷ book) kept none none_kept = absurd (omega (arith, none))

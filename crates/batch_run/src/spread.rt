@@ -1,6 +1,6 @@
 //! A stepper over two books of stored steps.
 
-ghost use Rattle.std.specs.Prelude.{◌≡◌, ◌<◌, ◌≤◌, ◌+◌, ◌*◌, [], IfOk, length};
+ghost use Rattle.std.specs.Prelude.{◌≡◌, ◌<◌, ◌≤◌, ◌+◌, ◌*◌, [], IfOk, IsTrue, length};
 ghost use Rattle.std.specs.List.{All};
 ghost use Rattle.aerie_base.specs.Ranges.{step_limit};
 ghost use Rattle.body_code.specs.ModelCodes.{AreCodesOf};
@@ -178,6 +178,41 @@ impl<'a, R: Threads + Sync, P: Probe> Spread<'a, R, P> {
     /// fuel, which is at most 100,000,000: whatever the books have, and into however many pieces the rest is cut. `looks` rises before
     /// the rest is run, by at most two a job, and `steps` after all pieces have ended, both on this thread.
     pub fn run_wave<L: Ledger, K: Ledger>(
+        &mut self,
+        alloc: Global,
+        model: &Model,
+        jobs: &[Job],
+        fuel: u64,
+        steps: &mut Steps<L>,
+        looks: &mut Steps<K>,
+    ) -> Result<Wave, OutOfMemory>
+        requires of { IsSpreadOf self.old model.now }
+        requires jobs { All (IsJobOf model.now) jobs.now }
+        requires fuel { fuel ≤ step_limit }
+        ensures wave { IfOk result (λ wave. wave ≡ wave_of model.now fuel jobs.now) }
+        ensures frugal { IfOk result (λ wave. IsFrugal wave (stored_in self.old) steps.old steps.new) }
+        ensures looks { looks.old ≤ looks.new }
+        ensures few_looks { looks.new ≤ looks.old + 2 * length jobs.now }
+        ensures opened { RoseAlike self.old.opened steps.old self.new.opened steps.new }
+        ensures same { IsSameSpread self.old self.new }
+    {
+        let _opened = self.opened;
+        if self.has_no_step() {
+            return self.run(alloc, model, jobs, fuel, steps);
+        }
+        self.look_up_and_run(alloc, model, jobs, fuel, steps, looks)
+    }
+
+    /// Whether neither book has a step, as in the first simulation of a model: then there is nothing to look up.
+    #[tactic(auto, using(crate::proofs::Stored::none_stored))]
+    fn has_no_step(&self) -> bool
+        ensures { IsTrue result → stored_in self.now ≡ [] }
+    {
+        self.book.len() == 0 && self.kept.len() == 0
+    }
+
+    /// The wave of jobs, of which those are run whose steps neither book has.
+    fn look_up_and_run<L: Ledger, K: Ledger>(
         &mut self,
         alloc: Global,
         model: &Model,

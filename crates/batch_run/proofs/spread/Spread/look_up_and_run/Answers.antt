@@ -11,7 +11,7 @@ use Rattle.batch_run.specs.Answers.{AreAnswers, missed, woven}
 use Rattle.batch_run.specs.Spreads.{SpreadStepper, stored_in}
 use Rattle.batch_run.proofs.Opening.{if_both, if_ok}
 use Rattle.batch_run.proofs.Weaving.{IsNothing, alone_frugal, as_many, missed_are, spent_is, wave_frugal, wave_is}
-use Rattle.batch_run.proofs.spread.Spread.run_wave.Goals as goal
+use Rattle.batch_run.proofs.spread.Spread.look_up_and_run.Goals as goal
 
 pub returns-then-is_none_found-clause-frugal : goal.returns-then-is_none_found-clause-frugal
 returns-then-is_none_found-clause-frugal g c =
