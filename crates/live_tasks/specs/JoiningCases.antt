@@ -3,7 +3,7 @@ use Rattle.std.specs.Prelude.{◌≡◌, ℕ, zero, suc, true, List, [], ◌∷�
 use Rattle.std.proofs.Common.{ap, subst}
 use Rattle.aerie_base.specs.Paths.{root}
 use Rattle.run_data.specs.declared.tasks.TaskState.{TaskState}
-use Rattle.run_data.specs.Tasks.{TaskPhase, ready, over, Task, Table}
+use Rattle.run_data.specs.Tasks.{TaskPhase, ready, over, Table}
 use Rattle.live_tasks.specs.declared.slots.Slot.{Slot}
 use Rattle.live_tasks.specs.declared.tasks.LiveTasks.{LiveTasks}
 use Rattle.live_tasks.specs.Endings.{IsNumberAmong}
