@@ -25,8 +25,8 @@ settled_until t states (instant ∷ rest) =
     if nat_le instant.time t then settled_until t (with_settled instant.time states instant.changed) rest else states
 
 -- the states at time t
-abbrev pub states_at : ℕ → List SettledState → List CellState
-states_at t states = map (λ settled. state_after (t - settled.0) settled.1) states
+abbrev pub states_then : ℕ → List SettledState → List CellState
+states_then t states = map (λ settled. state_after (t - settled.0) settled.1) states
 
 abbrev pub AreAllInRange : List SettledState → Type 0
 AreAllInRange states = All (λ settled. is_in_range settled.1 ≡ true) states

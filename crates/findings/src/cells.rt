@@ -7,7 +7,7 @@ ghost use Rattle.effect_cells.specs.Cells.{first_state, initial};
 ghost use Rattle.effect_cells.specs.States.{is_in_range, state_after};
 ghost use Rattle.run_data.specs.Fresh.{IsFresh};
 ghost use Rattle.run_data.specs.Values.{cells_at};
-ghost use Rattle.findings.specs.SettledStates.{AreAllInRange, settled_at_start, settled_until, states_at, with_settled};
+ghost use Rattle.findings.specs.SettledStates.{AreAllInRange, settled_at_start, settled_until, states_then, with_settled};
 
 use aerie_base::{CellStart, List, Model, OutOfMemory, Shared, Time};
 use effect_cells::{Accumulator, CellKind, CellState};
@@ -16,7 +16,7 @@ use run_data::{Instant, Run};
 use std::alloc::Global;
 
 /// When a cell was settled, and its state then.
-type SettledState = (Time, CellState);
+type Settled = (Time, CellState);
 
 /// A cell as it is declared.
 fn first_state(start: &CellStart) -> CellState
@@ -36,7 +36,7 @@ fn first_state(start: &CellStart) -> CellState
 }
 
 /// The cells as they are declared, at time 0.
-fn settled_at_start(alloc: Global, model: &Model) -> Result<Vec<SettledState>, OutOfMemory>
+fn settled_at_start(alloc: Global, model: &Model) -> Result<Vec<Settled>, OutOfMemory>
     ensures { IfOk result (λ states. states.items ≡ settled_at_start (initial model.now)) }
 {
     let cells = model.cells();
@@ -48,7 +48,7 @@ fn settled_at_start(alloc: Global, model: &Model) -> Result<Vec<SettledState>, O
 }
 
 /// A cell is settled, if it is one of these.
-fn settle(states: &mut Vec<SettledState>, time: Time, cell: u16, state: CellState)
+fn settle(states: &mut Vec<Settled>, time: Time, cell: u16, state: CellState)
     ensures { states.new.items ≡ slice_set states.old.items cell (time, state) }
 {
     let at = usize::from(cell);
@@ -58,7 +58,7 @@ fn settle(states: &mut Vec<SettledState>, time: Time, cell: u16, state: CellStat
 }
 
 /// The cells that changed at a time are settled.
-fn settle_changed(states: &mut Vec<SettledState>, time: Time, changed: &[(u16, CellState)])
+fn settle_changed(states: &mut Vec<Settled>, time: Time, changed: &[(u16, CellState)])
     ensures { states.new.items ≡ with_settled time states.old.items changed.now }
 {
     for one in changed {
@@ -67,7 +67,7 @@ fn settle_changed(states: &mut Vec<SettledState>, time: Time, changed: &[(u16, C
 }
 
 /// What the instants until a time changed is settled.
-fn settle_until(states: &mut Vec<SettledState>, instants: &[Shared<Instant>], t: Time)
+fn settle_until(states: &mut Vec<Settled>, instants: &[Shared<Instant>], t: Time)
     ensures { states.new.items ≡ settled_until t states.old.items instants.now }
 {
     for instant in instants {
@@ -95,13 +95,13 @@ fn later(state: CellState, dt: Time) -> CellState
 }
 
 /// The states at a time that is not before any of them was settled.
-fn states_at(
+fn states_then(
     alloc: Global,
-    states: &[SettledState],
+    states: &[Settled],
     t: Time,
 ) -> Result<List<CellState>, OutOfMemory>
     requires { AreAllInRange states.now }
-    ensures { IfOk result (λ cells. cells ≡ states_at t states.now) }
+    ensures { IfOk result (λ cells. cells ≡ states_then t states.now) }
 {
     let mut cells = List::with_capacity(alloc, states.len())?;
     for settled in states {
@@ -127,5 +127,5 @@ pub fn cells_at(
     let _cells = model.cells();
     let mut states = settled_at_start(alloc, model)?;
     settle_until(&mut states, run.instants.as_slice(), t);
-    states_at(alloc, states.as_slice(), t)
+    states_then(alloc, states.as_slice(), t)
 }
