@@ -25,5 +25,3 @@ pub mod Exchanging
 pub mod Joining
 pub mod WaitCases
 pub mod Cases
-pub mod ExchangingCases
-pub mod JoiningCases

@@ -14,3 +14,5 @@ pub mod Likeness
 pub mod EarlyEnds
 pub mod Partings
 pub mod PartingCases
+pub mod ExchangingCases
+pub mod JoiningCases
