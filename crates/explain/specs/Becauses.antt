@@ -1,5 +1,5 @@
 -- What the sentence of a cause names.
-use Rattle.std.specs.Prelude.{◌≡◌, ℕ, ◌+◌, Bool, List}
+use Rattle.std.specs.Prelude.{ℕ, ◌+◌, Bool, List}
 use Rattle.std.specs.List.{list_any}
 use Rattle.aerie_text.specs.Bytes.{begins_with, is_letter}
 use Rattle.aerie_text.specs.Sorts.{same_sort}

@@ -1,5 +1,5 @@
 -- Why a directive of the plan is not added, and why a text is no dataset.
-use Rattle.std.specs.Prelude.{◌≡◌, ℕ, ◌+◌, List, [], ◌∷◌, ◌++◌, drop, Option, Some, None, if◌then◌else◌}
+use Rattle.std.specs.Prelude.{ℕ, ◌+◌, List, [], ◌∷◌, drop, None, if◌then◌else◌}
 use Rattle.aerie_text.specs.Sorts.{same_sort}
 use Rattle.aerie_text.specs.declared.sorts.Sort.TheVariants as sort
 use Rattle.dataset_in.specs.declared.dataset_error.DatasetError.{DatasetError}

@@ -1,5 +1,5 @@
 -- The text that explains a refusal.
-use Rattle.std.specs.Prelude.{◌≡◌, ℕ, ◌+◌, ◌-◌, ◌==◌, List, [], ◌∷◌, ◌++◌, codes, Option, Some, None, option_map, if◌then◌else◌, refl}
+use Rattle.std.specs.Prelude.{ℕ, ◌+◌, ◌-◌, ◌==◌, List, [], ◌∷◌, ◌++◌, codes, Option, Some, None, option_map, if◌then◌else◌}
 use Rattle.std.specs.Str.{bytes_eq}
 use Rattle.aerie_base.specs.declared.places.Place.{Place}
 use Rattle.aerie_text.specs.Sorts.{same_sort}
@@ -21,7 +21,6 @@ use Rattle.explain.specs.SyntaxCauses.{syntax_because}
 use Rattle.explain.specs.TypeCauses.{range_because, wrong_because}
 use Rattle.explain.specs.WordsOfTokens.{sorted_tokens, token_at_number, token_before, tokens_before}
 use Rattle.explain.specs.declared.causes.Because.{Because}
-use Rattle.explain.specs.declared.causes.Cause.{Cause}
 use Rattle.explain.specs.declared.causes.Cause.TheVariants as cause
 use Rattle.explain.specs.declared.hint.Hint.{Hint}
 use Rattle.explain.specs.declared.sorted.SortedToken.{SortedToken}

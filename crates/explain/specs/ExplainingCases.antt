@@ -1,7 +1,6 @@
 -- Explanations of short texts, written out.
-use Rattle.std.specs.Prelude.{◌≡◌, ℕ, List, [], ◌∷◌, ◌++◌, codes, Option, Some, None, refl}
+use Rattle.std.specs.Prelude.{◌≡◌, ℕ, List, [], ◌++◌, codes, Some, None, refl}
 use Rattle.std.specs.Fmt.{digits}
-use Rattle.aerie_base.specs.declared.places.Place.{Place}
 use Rattle.aerie_text.specs.Numerals.{digits_at}
 use Rattle.aerie_text.specs.Sorts.{symbol_sort, word_sort}
 use Rattle.aerie_text.specs.Symbols.{symbol_len}

@@ -1,5 +1,5 @@
 -- Which limit is passed, by the word that names it.
-use Rattle.std.specs.Prelude.{◌≡◌, ℕ, List, [], ◌∷◌, Option, Some, None, codes, if◌then◌else◌, refl}
+use Rattle.std.specs.Prelude.{◌≡◌, ℕ, List, [], ◌∷◌, codes, if◌then◌else◌, refl}
 use Rattle.std.specs.Str.{bytes_eq}
 use Rattle.explain.specs.declared.causes.Cause.{Cause}
 use Rattle.explain.specs.declared.causes.Cause.TheVariants as cause

@@ -1,11 +1,11 @@
 -- Why a name is refused: what it names, where it stands, and what was declared before.
-use Rattle.std.specs.Prelude.{◌≡◌, ℕ, ◌+◌, ◌-◌, ◌==◌, ◌&&◌, ◌||◌, Bool, not, List, [], ◌∷◌, take, Option, Some, None, if◌then◌else◌}
+use Rattle.std.specs.Prelude.{ℕ, ◌-◌, ◌==◌, ◌&&◌, ◌||◌, Bool, not, List, [], ◌∷◌, take, Option, Some, None, if◌then◌else◌}
 use Rattle.std.specs.List.{list_any}
 use Rattle.std.specs.Str.{bytes_eq}
 use Rattle.aerie_text.specs.Sorts.{same_sort}
 use Rattle.aerie_text.specs.declared.sorts.Sort.{Sort}
 use Rattle.aerie_text.specs.declared.sorts.Sort.TheVariants as sort
-use Rattle.explain.specs.Becauses.{about, about_line, is_among_sorts, spot_line, plain, token_behind}
+use Rattle.explain.specs.Becauses.{about, about_line, is_among_sorts, spot_line, token_behind}
 use Rattle.explain.specs.WordsOfTokens.{or_none, token_at_number, token_before, word_of_token}
 use Rattle.explain.specs.declared.causes.Because.{Because}
 use Rattle.explain.specs.declared.causes.Cause.{Cause}

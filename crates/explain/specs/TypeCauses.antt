@@ -1,5 +1,5 @@
 -- Why a value, a name or a statement is of another type or kind than its place wants, and why a number is out of its range.
-use Rattle.std.specs.Prelude.{◌≡◌, ℕ, ◌+◌, ◌&&◌, ◌||◌, Bool, true, false, List, [], ◌∷◌, drop, Option, Some, None, if◌then◌else◌}
+use Rattle.std.specs.Prelude.{ℕ, ◌&&◌, Bool, true, false, List, [], ◌∷◌, drop, Option, Some, None, if◌then◌else◌}
 use Rattle.std.specs.Str.{bytes_eq}
 use Rattle.aerie_text.specs.Sorts.{same_sort}
 use Rattle.aerie_text.specs.declared.sorts.Sort.{Sort}
