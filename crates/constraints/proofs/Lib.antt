@@ -1,3 +1,4 @@
+pub mod AlikeRuns
 pub mod Differences
 pub mod FlatPieces
 pub mod Folds

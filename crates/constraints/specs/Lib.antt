@@ -1,3 +1,4 @@
+pub mod Alike
 pub mod Evaluating
 pub mod Following
 pub mod GivenSeries
