@@ -13,6 +13,8 @@ pub mod Traces
 pub mod Likeness
 pub mod EarlyEnds
 pub mod Partings
+pub mod SharedEnds
 pub mod PartingCases
 pub mod ExchangingCases
 pub mod JoiningCases
+pub mod BookmarkCases
