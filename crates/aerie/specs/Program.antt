@@ -1,5 +1,6 @@
 -- What the program answers to the words and to the input.
 use Rattle.std.specs.Prelude.{◌≡◌, ℕ, ◌==◌, Bool, true, false, ◌||◌, List, length, Option, Some, None, Ok, Err, codes}
+use Rattle.client_work.specs.declared.missions.ReportForm.{ReportForm}
 use Rattle.json_line.specs.Json.{line_of}
 use Rattle.command_line.specs.declared.invocation.Invocation.{Invocation}
 use Rattle.command_line.specs.declared.invocation.Mode.{Mode}
@@ -74,14 +75,18 @@ abbrev pub counted_from : ℕ → ℕ → StatementCounts
 counted_from before after = record { before = before; after = after }
 
 -- the text of a session that is performed: along the journal of clients in rounds where that is asked for, or else along a journal that fits
-abbrev pub IsRunText : Bool → JudgedSession → ℕ → Bool → StatementCounts → List ℕ → Type 0
-IsRunText true judged limit stats count text = IsPerformedInTurn judged limit stats text count.before count.after
-IsRunText false judged limit stats count text = IsPerformed judged limit stats text
+abbrev pub IsRunText : Bool → JudgedSession → ℕ → ReportForm → StatementCounts → List ℕ → Type 0
+IsRunText true judged limit form count text = IsPerformedInTurn judged limit form text count.before count.after
+IsRunText false judged limit form count text = IsPerformed judged limit form text
+
+-- what reports tell besides
+abbrev pub report_form : Invocation → ReportForm
+report_form invocation = record { stats = invocation.stats; detail = invocation.detail }
 
 -- a good session is performed
 pub record HasRun (invocation : Invocation) (judged : JudgedSession) (count : StatementCounts) (answer : ProgramAnswer) : Type 0 where
   pub done : answer.status ≡ status.Done
-  pub text : IsRunText invocation.serial judged invocation.limit invocation.stats count answer.text
+  pub text : IsRunText invocation.serial judged invocation.limit (report_form invocation) count answer.text
 
 -- a session is judged, and performed where it is good
 abbrev pub IsRunAnswer : Invocation → Judgement JudgedSession → StatementCounts → ProgramAnswer → Type 0

@@ -5,12 +5,13 @@ ghost use Rattle.aerie_base.specs.Ranges.{step_limit};
 ghost use Rattle.command_line.specs.Invocations.{HasNumbersWithin};
 ghost use Rattle.session_judge.specs.Judging.{judged_session};
 ghost use Rattle.session_run.specs.Ruled.{CanBePerformed};
-ghost use Rattle.aerie.specs.Program.{HasRun, IsMadeAnswer, IsRunAnswer, answer_with, check_answer, counted_from, named_answer, refused_answer, summary_text};
+ghost use Rattle.aerie.specs.Program.{HasRun, IsMadeAnswer, IsRunAnswer, answer_with, check_answer, counted_from, report_form, named_answer, refused_answer, summary_text};
 ghost use Rattle.aerie.specs.declared.exit_status.ExitStatus.TheVariants.{Done};
 
 use crate::exit_status::ExitStatus;
 use aerie_base::{OutOfMemory, Steps};
 use aerie_edge::Gate;
+use client_work::ReportForm;
 use command_line::Invocation;
 use refusal_text::{Refusal, refusal_line};
 use session_judge::{JudgeError, JudgedSession, accepted_line, judge, named_refusal};
@@ -153,6 +154,16 @@ pub fn made<R: Threads + Wait + Sync, G: Gate, L: Ledger>(
     }
 }
 
+/// What reports tell besides.
+fn report_form(invocation: &Invocation) -> ReportForm
+    ensures { result ≡ report_form invocation.now }
+{
+    ReportForm {
+        stats: invocation.stats,
+        detail: invocation.detail,
+    }
+}
+
 /// A good session is performed: its clients in turn where that is asked for, or else each on a thread of its own.
 fn performed_good<R: Threads + Wait + Sync, G: Gate, L: Ledger, K: Ledger>(
     alloc: Global,
@@ -171,18 +182,18 @@ fn performed_good<R: Threads + Wait + Sync, G: Gate, L: Ledger, K: Ledger>(
     ensures performed { IfOk result (HasRun invocation.now judged.now (counted_from steps.old steps.new)) }
     ensures steps { steps.old ≤ steps.new }
 {
-    let (limit, pieces, stats) = (invocation.limit, invocation.pieces, invocation.stats);
+    let (limit, pieces, form) = (invocation.limit, invocation.pieces, report_form(invocation));
     if invocation.serial {
         let mut looks = Steps::<K>::open(blank);
         let text = perform_in_turn(
-            alloc, rt, gate, judged, limit, pieces, stats, steps, &mut looks,
+            alloc, rt, gate, judged, limit, pieces, form, steps, &mut looks,
         )?;
         return Ok(Output {
             status: ExitStatus::Done,
             text,
         });
     }
-    let text = perform(alloc, rt, gate, judged, limit, pieces, stats)?;
+    let text = perform(alloc, rt, gate, judged, limit, pieces, form)?;
     Ok(Output {
         status: ExitStatus::Done,
         text,

@@ -31,7 +31,7 @@ is_attached other = false
 
 -- how many statements a simulation ran, where that is told
 abbrev pub count_told : Mission → ℕ → Option ℕ
-count_told mission statements = if mission.stats then Some statements else None
+count_told mission statements = if mission.form.stats then Some statements else None
 
 -- the report of a fetched plan, by the reply to the Attach, with the count of statements where one is told
 abbrev pub report_of : Mission → Option ℕ → ℕ → Plan → Reply → Answer
@@ -42,6 +42,7 @@ report_of mission count revision plan attach = answer.Report (record {
   revision = revision;
   attached = is_attached attach;
   statements = count;
+  detail = mission.form.detail;
 })
 
 -- the commands that the run of a fetched plan gives

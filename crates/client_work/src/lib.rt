@@ -17,5 +17,5 @@ mod workplace;
 pub use benches::Benches;
 pub use carrying_out::carry_out;
 pub use client_commands::{work, work_on};
-pub use missions::{Mission, RuledModel};
+pub use missions::{Mission, ReportForm, RuledModel};
 pub use workplace::{Assignment, ClientCommand, NumberedClient, Worker, Workplace};

@@ -24,6 +24,15 @@ pub struct RuledModel {
     pub sequence: Shared<Sequencing>,
 }
 
+/// What reports tell besides.
+#[derive(Clone, Copy, Debug, PartialEq, Eq, Drop)]
+pub struct ReportForm {
+    /// Whether they tell how many statements their simulations ran.
+    pub stats: bool,
+    /// Whether they tell the plan's start and duration, the cells at the end and what the constraints name.
+    pub detail: bool,
+}
+
 /// What all clients of a session work on.
 #[derive(Drop)]
 pub struct Mission {
@@ -33,8 +42,8 @@ pub struct Mission {
     pub start: Start,
     /// What the cost of a simulation may come to, at most 100,000,000.
     pub bound: u64,
-    /// Whether reports tell how many statements their simulations ran.
-    pub stats: bool,
+    /// What reports tell besides.
+    pub form: ReportForm,
 }
 
 impl Mission {
@@ -58,6 +67,10 @@ impl Mission {
     pub(crate) fn count(&self, statements: u64) -> Option<u64>
         ensures { result ≡ count_told self.now statements }
     {
-        if self.stats { Some(statements) } else { None }
+        if self.form.stats {
+            Some(statements)
+        } else {
+            None
+        }
     }
 }

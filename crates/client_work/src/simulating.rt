@@ -130,6 +130,7 @@ fn report_of<R: Threads + Wait + Sync, G: Gate, L: Ledger, K: Ledger>(
         revision: found.revision,
         attached: is_attached(&reply),
         statements: mission.count(made.statements),
+        detail: mission.form.detail,
     };
     Ok(Answer::Report(report))
 }

@@ -4,6 +4,7 @@ pub mod Arrays
 mod FirstPositions
 mod FoundAt
 mod NewIds
+pub mod Noting
 pub mod Numbers
 pub mod Placing
 mod RawArguments
@@ -12,3 +13,4 @@ mod ShownLoads
 pub mod Violated
 mod WrittenDirectives
 mod WrittenValues
+pub mod Zipped

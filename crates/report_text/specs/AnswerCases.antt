@@ -8,6 +8,7 @@ use Rattle.aerie_base.specs.declared.plans.Plan.{Plan}
 use Rattle.aerie_base.specs.declared.values.Value.TheVariants.{Int, Variant}
 use Rattle.json_line.specs.Json.{line_of}
 use Rattle.epoch_text.specs.DayTexts.{day_in_year}
+use Rattle.constraints.specs.declared.types.Rule.TheVariants.{Forbid}
 use Rattle.hangar_core.specs.declared.actions.Action.TheVariants.{New, Fetch}
 use Rattle.hangar_core.specs.declared.replies.Reply.{Reply}
 use Rattle.hangar_core.specs.declared.replies.Reply.TheVariants as reply
@@ -99,16 +100,22 @@ a_merge = refl
 
 -- ---- reports
 
-pub a_report : told false (answer.Report (record { start = pos 1_861_920_000_000_000; run = quiet; constraints = []; revision = 11; attached = true; statements = None }))
+pub a_report : told false (answer.Report (record { start = pos 1_861_920_000_000_000; run = quiet; constraints = []; revision = 11; attached = true; statements = None; detail = false }))
     ≡ codes "{\"client\":\"ops\",\"command\":2,\"ok\":{\"attached\":true,\"branch\":\"main\",\"outcome\":\"completed\",\"profiles\":[],\"reach\":100,\"revision\":11,\"spans\":[],\"violations\":[]}}\n"
 unfolding member_if digits escape_byte
 a_report = refl
 
 -- where there is more than one model, the statements are told, and the branch is gone
-pub a_longer_report : told true (answer.Report (record { start = pos 1_861_920_000_000_000; run = quiet; constraints = []; revision = 11; attached = false; statements = Some 12 }))
+pub a_longer_report : told true (answer.Report (record { start = pos 1_861_920_000_000_000; run = quiet; constraints = []; revision = 11; attached = false; statements = Some 12; detail = false }))
     ≡ codes "{\"client\":\"ops\",\"command\":2,\"ok\":{\"attached\":false,\"branch\":\"main\",\"model\":\"camera\",\"outcome\":\"completed\",\"profiles\":[],\"reach\":100,\"revision\":11,\"spans\":[],\"statements\":12,\"violations\":[]}}\n"
 unfolding member_if digits escape_byte
 a_longer_report = refl
+
+-- with details: no directive of the type lasts beside another
+pub a_detailed_report : told false (answer.Report (record { start = pos 1_861_920_000_000_000; run = quiet; constraints = record { name = codes "alone"; rule = Forbid 0 0 } ∷ []; revision = 11; attached = true; statements = None; detail = true }))
+    ≡ codes "{\"client\":\"ops\",\"command\":2,\"ok\":{\"attached\":true,\"branch\":\"main\",\"cells\":[{\"kind\":\"counter\",\"name\":\"taken\",\"value\":\"0\"}],\"constraints\":[{\"name\":\"alone\",\"resources\":[],\"types\":[\"Take\"]}],\"duration\":100,\"outcome\":\"completed\",\"profiles\":[],\"reach\":100,\"revision\":11,\"spans\":[],\"start\":\"2029-001T00:00:00.000000\",\"violations\":[]}}\n"
+unfolding member_if digits day_in_year escape_byte
+a_detailed_report = refl
 
 -- commands in the plan are told in the calendar too, those outside are not
 pub an_expansion : told true (answer.Expanded (record {

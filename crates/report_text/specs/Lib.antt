@@ -1,8 +1,10 @@
 pub mod AnswerCases
 pub mod ArgumentOrder
+pub mod Details
 pub mod GoalLines
 pub mod JournalLines
 pub mod LoadedAgain
+pub mod NamedByConstraints
 pub mod Outcomes
 pub mod ProfileLines
 pub mod Replies

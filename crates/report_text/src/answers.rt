@@ -55,6 +55,8 @@ pub struct Report {
     pub attached: bool,
     /// How many statements were simulated, where that was asked for.
     pub statements: Option<u64>,
+    /// Whether the plan's start and duration, the cells at the run's reach and what the constraints name are told.
+    pub detail: bool,
 }
 
 /// An expansion of a branch.

@@ -6,10 +6,13 @@
 mod alone;
 mod answers;
 mod arguments;
+mod cell_lines;
+mod details;
 mod goal_lines;
 mod journal_lines;
 pub mod laws;
 mod lines;
+mod named;
 mod order;
 mod outcomes;
 mod plans;

@@ -46,7 +46,8 @@ fn write_report_member<'a>(
     report: &Report,
     findings: &Findings,
 ) -> Result<(), OutOfMemory>
-    requires { AreFindings heading.now.model.now report.now.run.run report.now.constraints findings.now }
+    requires model { report.now.run.model ≡ heading.now.model.now }
+    requires found { AreFindings heading.now.model.now report.now.run.run report.now.constraints findings.now }
     ensures { OnOk result (line.new ≡ line.old ++ member_tokens (codes "ok") (report_data heading.now.branch.now heading.now.model.now heading.now.named report.now)) }
 {
     let calendar = Calendar {
@@ -147,7 +148,8 @@ pub fn report_line<'a>(
     report: &Report,
     findings: &Findings,
 ) -> Result<String, OutOfMemory>
-    requires { AreFindings heading.now.model.now report.now.run.run report.now.constraints findings.now }
+    requires model { report.now.run.model ≡ heading.now.model.now }
+    requires found { AreFindings heading.now.model.now report.now.run.run report.now.constraints findings.now }
     ensures { IfOk result (λ line. string_bytes line ≡ line_of (reply_data heading.now.client.now heading.now.command heading.now.branch.now heading.now.model.now heading.now.named (answer_by.Report report.now))) }
 {
     let mut line = JsonLine::new(alloc);
@@ -180,7 +182,8 @@ fn write_report_value<'a>(
     report: &Report,
     findings: &Findings,
 ) -> Result<(), OutOfMemory>
-    requires { AreFindings heading.now.model.now report.now.run.run report.now.constraints findings.now }
+    requires model { report.now.run.model ≡ heading.now.model.now }
+    requires found { AreFindings heading.now.model.now report.now.run.run report.now.constraints findings.now }
     ensures { OnOk result (line.new ≡ line.old ++ data_tokens (reply_data heading.now.client.now heading.now.command heading.now.branch.now heading.now.model.now heading.now.named (answer_by.Report report.now))) }
 {
     line.begin_object()?;

@@ -2,6 +2,8 @@
 
 ghost use Rattle.std.specs.Prelude.{◌≡◌, ◌++◌, OnOk, codes, option_map};
 ghost use Rattle.serde_json.specs.Data.{string};
+ghost use Rattle.aerie_base.specs.plans.OfModel.{IsPlanOf};
+ghost use Rattle.run_data.specs.Fresh.{IsFresh};
 ghost use Rattle.findings.specs.Found.{AreFindings, all_profiles, all_violations};
 ghost use Rattle.json_line.specs.Parts.{data_tokens, member_if_tokens, member_tokens};
 ghost use Rattle.span_table.specs.SpanLaws.{AreSpansOf};
@@ -11,6 +13,9 @@ ghost use Rattle.report_text.specs.SpanLines.{spans_data};
 ghost use Rattle.report_text.specs.Violations.{violations_data};
 
 use crate::answers::Report;
+use crate::details::{
+    write_cells_told, write_constraints_told, write_duration_told, write_start_told,
+};
 use crate::profile_lines::write_profiles;
 use crate::span_lines::{Calendar, write_spans};
 use crate::violation_lines::write_violations;
@@ -93,6 +98,7 @@ pub(crate) fn write_report<'a>(
     report: &Report,
     findings: &Findings,
 ) -> Result<(), OutOfMemory>
+    requires model { report.now.run.model ≡ calendar.now.wording }
     requires start { calendar.now.start ≡ report.now.start }
     requires found { AreFindings calendar.now.wording report.now.run.run report.now.constraints findings.now }
     ensures { OnOk result (line.new ≡ line.old ++ data_tokens (report_data branch.now calendar.now.wording named report.now)) }
@@ -124,6 +130,8 @@ fn write_found<'a>(
 ) -> Result<(), OutOfMemory>
     requires start { calendar.now.start ≡ report.now.start }
     requires run { run.now ≡ report.now.run.run }
+    requires fresh { IsFresh calendar.now.wording run.now.plan run.now.bound run.now }
+    requires plan { IsPlanOf calendar.now.wording run.now.plan }
     requires constraints { constraints.now ≡ report.now.constraints }
     requires found { AreFindings calendar.now.wording run.now constraints.now findings.now }
     ensures { OnOk result (line.new ≡ line.old ++ data_tokens (report_data branch.now calendar.now.wording named report.now)) }
@@ -132,12 +140,16 @@ fn write_found<'a>(
     line.begin_object()?;
     line.member("attached", &report.attached)?;
     line.member("branch", branch)?;
+    write_cells_told(line, report.detail, wording, run)?;
+    write_constraints_told(line, report.detail, wording, constraints)?;
+    write_duration_told(line, report.detail, run.plan.get().duration)?;
     write_name_told(line, named, wording.model())?;
     line.member_in("outcome", wording, &run.outcome)?;
     write_profiles_member(line, wording, run, findings.profiles.as_slice())?;
     line.member("reach", &run.reach)?;
     line.member("revision", &report.revision)?;
     write_spans_member(line, calendar, run, findings.spans.as_slice())?;
+    write_start_told(line, report.detail, &report.start)?;
     line.member_if("statements", &report.statements)?;
     let found = findings.violations.as_slice();
     write_violations_member(line, wording, run, constraints, found)?;

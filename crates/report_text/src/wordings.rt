@@ -3,6 +3,7 @@
 ghost use Rattle.std.specs.Prelude.{◌≡◌, ◌++◌, ◌∷◌, [], IfOk, map, slice_get, unwrap_or};
 ghost use Rattle.plan_edit.specs.Arguments.{written_variant};
 ghost use Rattle.plan_edit.specs.ShownPlan.{word_of_variant};
+ghost use Rattle.report_text.specs.Details.{name_of_resource};
 ghost use Rattle.report_text.specs.Outcomes.{cell_name};
 ghost use Rattle.report_text.specs.SpanLines.{type_name};
 ghost use Rattle.report_text.specs.Wordings.{order_of_type, parameter_order, variant_words};
@@ -92,6 +93,16 @@ impl<'a> Wording<'a> {
     {
         match self.model.activities().get(usize::from(kind)) {
             Some(activity) => activity.name.as_str(),
+            None => "",
+        }
+    }
+
+    /// The name of a resource.
+    pub(crate) fn name_of_resource(&self, number: u16) -> &str
+        ensures { result.now ≡ name_of_resource self.now number }
+    {
+        match self.model.resources().get(usize::from(number)) {
+            Some(named) => named.0.as_str(),
             None => "",
         }
     }

@@ -19,7 +19,7 @@ use Rattle.client_work.specs.Meanings.{meanings_of}
 use Rattle.client_work.specs.Told.{command_told}
 use Rattle.client_work.specs.Working.{IsAtWork, own_entries}
 use Rattle.session_run.specs.Answers.{answers_along, AreAnswered, CountsRound, CountsCommand, HasCounted, HasCountedUntil, serial_answers}
-use Rattle.session_run.specs.Missions.{all_commands, mission_of, opening_of, session_meanings}
+use Rattle.session_run.specs.Missions.{all_commands, mission_of, opening_of, session_meanings, without_stats}
 use Rattle.session_run.specs.Performed.{serial_journal}
 use Rattle.session_run.specs.Rounds.{in_rounds_until}
 use Rattle.session_run.proofs.Along.{told_along, answers_of_commands}
@@ -155,7 +155,7 @@ nothing_counted mission clients first summary none = record {
 
 module _ (judged : JudgedSession) (bound : ℕ) (few : CommandsHaveFewParts) where
   abbrev mission : Mission
-  mission = mission_of judged bound false
+  mission = mission_of judged bound (without_stats false)
 
   abbrev commands : List (List Command)
   commands = all_commands judged.session.clients

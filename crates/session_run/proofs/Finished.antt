@@ -13,6 +13,7 @@ use Rattle.report_text.specs.JournalLines.{journal_data}
 use Rattle.session_reader.specs.declared.session.Client.{Client}
 use Rattle.session_judge.specs.declared.judged.JudgedSession.{JudgedSession}
 use Rattle.client_work.specs.declared.missions.Mission.{Mission}
+use Rattle.client_work.specs.declared.missions.ReportForm.{ReportForm}
 use Rattle.client_work.specs.Lines.{told_text}
 use Rattle.client_work.specs.Working.{own_entries, IsWorkTold}
 use Rattle.session_run.specs.Joined.{joined_texts}
@@ -119,9 +120,9 @@ pub serial_is : (judged : JudgedSession) (bound : ℕ) → one_by_one (session_m
 unfolding serial
 serial_is judged bound = refl
 
-module _ (judged : JudgedSession) (bound : ℕ) (stats : Rattle.std.specs.Prelude.Bool) (few : CommandsHaveFewParts) where
+module _ (judged : JudgedSession) (bound : ℕ) (form : ReportForm) (few : CommandsHaveFewParts) where
   abbrev mission : Mission
-  mission = mission_of judged bound stats
+  mission = mission_of judged bound form
 
   abbrev clients : List Client
   clients = judged.session.clients
@@ -138,7 +139,7 @@ module _ (judged : JudgedSession) (bound : ℕ) (stats : Rattle.std.specs.Prelud
 
   pub finished : (first last : Stand) (journal : Entries) (texts : List (List ℕ)) (text : List ℕ) → first.pass.mine ≡ [] → first.pass.seen ≡ [] →
       HasDoneRounds mission clients first last texts → StandIn last.pass.mine journal → HaveAllOf last.pass.mine journal → IsReplay (opening_of judged.session) journal →
-      text ≡ line_of (journal_data journal) ++ joined_texts texts → IsPerformedInTurn judged bound stats text first.steps last.steps
+      text ≡ line_of (journal_data journal) ++ joined_texts texts → IsPerformedInTurn judged bound form text first.steps last.steps
   finished first last journal texts text none unseen done right all replayed whole =
       let mine : last.pass.mine ≡ done.gained = done.gains.mine ∙ ap (λ (l : Places). l ++ done.gained) none in
       let rises = subst (λ (l : Entries). Rattle.hangar_lock.specs.ClientEntries.RisesTo (length l) (length last.pass.seen) done.gained) unseen done.gains.rises in

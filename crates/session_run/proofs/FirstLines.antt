@@ -22,7 +22,7 @@ use Rattle.client_work.specs.declared.missions.Mission.{Mission}
 use Rattle.client_work.specs.Lines.{ClientOf, replies_to, told_line, told_text}
 use Rattle.client_work.specs.Told.{command_told}
 use Rattle.session_run.specs.laws.FirstLines.{FirstLinesTellJournals, FirstLinesTellTexts, first_line}
-use Rattle.session_run.specs.Missions.{all_commands, mission_of, opening_of, session_meanings}
+use Rattle.session_run.specs.Missions.{all_commands, mission_of, opening_of, session_meanings, without_stats}
 use Rattle.session_run.specs.Performed.{FitsSession}
 use Rattle.session_run.specs.Texts.{client_numbered, clients_text, session_text}
 
@@ -244,16 +244,16 @@ module _ (few : CommandsHaveFewParts) (tell : TriplesTellAll) (judged : JudgedSe
       (entries_same journal another (10 ∷ []) (10 ∷ []) (fitting_small journal fits) (fitting_small another other_fits) cc)
 
 pub journals_told : CommandsHaveFewParts → TriplesTellAll → FirstLinesTellJournals
-journals_told few tell judged bound stats other_stats text other one two few_clients e =
+journals_told few tell judged bound form other_form text other one two few_clients e =
     same_journal few tell judged bound few_clients one.journal two.journal
-    (clients_text (mission_of judged bound stats) one.counts one.journal 0 judged.session.clients)
-    (clients_text (mission_of judged bound other_stats) two.counts two.journal 0 judged.session.clients)
+    (clients_text (mission_of judged bound form) one.counts one.journal 0 judged.session.clients)
+    (clients_text (mission_of judged bound other_form) two.counts two.journal 0 judged.session.clients)
     one.fits two.fits (ap first_line (sym one.told) ∙ e ∙ ap first_line two.told)
 
 -- what is told without counts is the same whatever was counted
-module _ (judged : JudgedSession) (bound : ℕ) where
+module _ (judged : JudgedSession) (bound : ℕ) (detail : Bool) where
   abbrev mission : Mission
-  mission = mission_of judged bound false
+  mission = mission_of judged bound (without_stats detail)
 
   told_alike : (client : ClientOf) (counts others : ℕ → ℕ) (entries : Entries) (number : ℕ) (commands : List Command)
       → told_text mission client counts entries number commands ≡ told_text mission client others entries number commands
@@ -271,7 +271,7 @@ module _ (judged : JudgedSession) (bound : ℕ) where
       (texts_alike (λ later. counts (suc later)) (λ later. others (suc later)) journal (number + 1) clients)
 
 pub texts_told : CommandsHaveFewParts → TriplesTellAll → FirstLinesTellTexts
-texts_told few tell judged bound text other one two few_clients e =
-    one.told ∙ ap (session_text judged bound false one.counts) (journals_told few tell judged bound false false text other one two few_clients e)
-    ∙ ap (λ (texts : List ℕ). line_of (journal_data two.journal) ++ texts) (texts_alike judged bound one.counts two.counts two.journal 0 judged.session.clients)
+texts_told few tell judged bound detail text other one two few_clients e =
+    one.told ∙ ap (session_text judged bound (without_stats detail) one.counts) (journals_told few tell judged bound (without_stats detail) (without_stats detail) text other one two few_clients e)
+    ∙ ap (λ (texts : List ℕ). line_of (journal_data two.journal) ++ texts) (texts_alike judged bound detail one.counts two.counts two.journal 0 judged.session.clients)
     ∙ sym two.told

@@ -125,7 +125,7 @@ told_has mission ruled count (Expand branch) replies =
     fetched_has (reply_to replies 0) (λ revision plan. sequence_told mission revision plan) (λ revision plan. tt)
 
 -- where statements are not told, no count is
-pub none_told : (mission : Mission) (statements : ℕ) → mission.stats ≡ false → count_told mission statements ≡ None
+pub none_told : (mission : Mission) (statements : ℕ) → mission.form.stats ≡ false → count_told mission statements ≡ None
 none_told mission statements uncounted = rw uncounted refl
 
 pub counted_if : {A E : Type 0} (result : Result A E) (P Q : Type 0) → (P → Q) → OnOk result P → IfOk result (λ _. Q)

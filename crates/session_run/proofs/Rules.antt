@@ -12,6 +12,7 @@ use Rattle.session_reader.specs.declared.session.ModelPart.{ModelPart}
 use Rattle.client_work.specs.Working.{IsAtWork, IsRuled, ruled_models}
 use Rattle.session_judge.specs.declared.judged.JudgedSession.{JudgedSession}
 use Rattle.session_judge.specs.OfModels.{are_constraints, are_goals, are_sendable, AreEach}
+use Rattle.client_work.specs.declared.missions.ReportForm.{ReportForm}
 use Rattle.session_run.specs.Missions.{mission_of, opening_of, ruled_parts}
 use Rattle.session_run.specs.Ruled.{CanBePerformed, HasAllRules}
 
@@ -105,9 +106,9 @@ module _ (judged : JudgedSession) where
   parts_many at [] = refl
   parts_many at (part ∷ parts) = ap suc (parts_many (at + 1) parts)
 
-  pub at_work : (bound : ℕ) (stats : Bool) (lock : LockView) (pass : PassView) → CanBePerformed judged → bound ≤ step_limit → lock.opened.workspace ≡ opening_of judged.session →
-      pass ≡ first_pass lock → IsAtWork (mission_of judged bound stats) lock pass
-  at_work bound stats lock pass can within opened is = record {
+  pub at_work : (bound : ℕ) (form : ReportForm) (lock : LockView) (pass : PassView) → CanBePerformed judged → bound ≤ step_limit → lock.opened.workspace ≡ opening_of judged.session →
+      pass ≡ first_pass lock → IsAtWork (mission_of judged bound form) lock pass
+  at_work bound form lock pass can within opened is = record {
     own = ap (λ (p : PassView). p.lock) is;
     some_model = (let many = parts_many 0 judged.session.models in let some = can.session.among.some_model in omega (arith, many, some));
     models = ap (λ (w : Workspace). w.models) opened ∙ sym (parts_models 0 judged.session.models);

@@ -1,5 +1,5 @@
 -- When all works are done and all passes are taken back, the text is that of the session along a journal that fits.
-use Rattle.std.proofs.Common.{String, Global, get_or, ◌≡◌, ℕ, zero, suc, ◌+◌, ◌<◌, Bool, List, [], ◌∷◌, ◌++◌, length, map, Option, Some, None, IfSome, refl, sym, ap, ◌∙◌, subst, arith, slice_get}
+use Rattle.std.proofs.Common.{String, Global, get_or, ◌≡◌, ℕ, zero, suc, ◌+◌, ◌<◌, List, [], ◌∷◌, ◌++◌, length, map, Option, Some, None, IfSome, refl, sym, ap, ◌∙◌, subst, arith, slice_get}
 use Rattle.std.specs.List.{AllByRecursion, filter}
 use Rattle.std.specs.String.{string_bytes}
 use Rattle.std.proofs.lemmas.Option.{slice_get_within}
@@ -14,6 +14,7 @@ use Rattle.report_text.specs.JournalLines.{journal_data}
 use Rattle.session_reader.specs.declared.session.Client.{Client}
 use Rattle.session_judge.specs.declared.judged.JudgedSession.{JudgedSession}
 use Rattle.client_work.specs.declared.missions.Mission.{Mission}
+use Rattle.client_work.specs.declared.missions.ReportForm.{ReportForm}
 use Rattle.client_work.specs.laws.ClientsWork.{ToldWorksAreDone}
 use Rattle.session_reader.specs.FewClients.{AreFewClients}
 use Rattle.client_work.specs.Working.{IsAtWork, IsWorkDone, IsWorkTold, own_entries, work_of}
@@ -119,12 +120,12 @@ all_told_of dones texts e = record {
 
 -- ---- all works
 
-module _ (judged : JudgedSession) (bound : ℕ) (stats : Bool) (lock : LockView) (works : List Work) (dones : List Done) (texts : List (List ℕ))
+module _ (judged : JudgedSession) (bound : ℕ) (form : ReportForm) (lock : LockView) (works : List Work) (dones : List Done) (texts : List (List ℕ))
     (of : AreWorksOf lock (length judged.session.clients) works)
-    (done : AreDone (mission_of judged bound stats) judged.session.clients works dones)
+    (done : AreDone (mission_of judged bound form) judged.session.clients works dones)
     (told : HaveToldAll dones texts) where
   abbrev mission : Mission
-  mission = mission_of judged bound stats
+  mission = mission_of judged bound form
 
   abbrev clients : List Client
   clients = judged.session.clients
@@ -208,7 +209,7 @@ module _ (judged : JudgedSession) (bound : ℕ) (stats : Bool) (lock : LockView)
 
   pub performed : JoinedPassesFit → JoinedPassesHaveAll → ToldWorksAreDone → PassesHaveTheirEntries → (pass : PassView) → pass ≡ joined_with_all first (passes_of dones) → (journal : Entries) (text : List ℕ) →
       StandIn pass.mine journal → HaveAllOf pass.mine journal → IsReplay (opening_of judged.session) journal →
-      text ≡ line_of (journal_data journal) ++ joined_texts texts → IsPerformed judged bound stats text
+      text ≡ line_of (journal_data journal) ++ joined_texts texts → IsPerformed judged bound form text
   performed fit have law entries pass is journal text right all replayed whole_text =
       let mine : pass.mine ≡ all_mine (passes_of dones) = ap (λ (p : PassView). p.mine) is ∙ have first (passes_of dones) in
       let right_all = subst (λ (l : Places). StandIn l journal) mine right in

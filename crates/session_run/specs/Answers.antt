@@ -19,7 +19,7 @@ use Rattle.client_work.specs.Lines.{replies_to}
 use Rattle.client_work.specs.Meanings.{meanings_of}
 use Rattle.client_work.specs.Told.{command_told}
 use Rattle.client_work.specs.Working.{HasGained, own_entries, replies_of}
-use Rattle.session_run.specs.Missions.{all_commands, mission_of}
+use Rattle.session_run.specs.Missions.{all_commands, mission_of, without_stats}
 use Rattle.session_run.specs.Performed.{serial_journal}
 use Rattle.session_run.specs.Rounds.{in_rounds_until}
 
@@ -34,7 +34,7 @@ answers_along mission journal (numbered ∷ later) =
 -- each, and so on
 abbrev pub serial_answers : JudgedSession → ℕ → List Answer
 serial_answers judged bound =
-    answers_along (mission_of judged bound false) (serial_journal judged bound)
+    answers_along (mission_of judged bound (without_stats false)) (serial_journal judged bound)
     (in_rounds (longest (all_commands judged.session.clients)) 0 (all_commands judged.session.clients))
 
 -- ---- command by command

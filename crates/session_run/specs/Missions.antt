@@ -1,5 +1,5 @@
 -- What the clients of a session work on, and what they do with it.
-use Rattle.std.specs.Prelude.{◌≡◌, ℕ, ◌+◌, Bool, List, [], ◌∷◌, get_or, length, map, replicate}
+use Rattle.std.specs.Prelude.{◌≡◌, ℕ, ◌+◌, Bool, false, List, [], ◌∷◌, get_or, length, map, replicate}
 use Rattle.commands.specs.declared.commands.Command.{Command}
 use Rattle.hangar_core.specs.declared.workspaces.Workspace.{Workspace}
 use Rattle.hangar_core.specs.Fits.{Meanings}
@@ -10,6 +10,7 @@ use Rattle.session_reader.specs.declared.session.Session.{Session}
 use Rattle.session_reader.specs.WellFormed.{models_in}
 use Rattle.session_judge.specs.declared.judged.JudgedSession.{JudgedSession}
 use Rattle.client_work.specs.declared.missions.Mission.{Mission}
+use Rattle.client_work.specs.declared.missions.ReportForm.{ReportForm}
 use Rattle.client_work.specs.declared.missions.RuledModel.{RuledModel}
 use Rattle.client_work.specs.Meanings.{meanings_of}
 
@@ -27,13 +28,17 @@ abbrev pub ruled_parts : JudgedSession → ℕ → List ModelPart → List Ruled
 ruled_parts judged number [] = []
 ruled_parts judged number (part ∷ parts) = ruled_part judged number part ∷ ruled_parts judged (number + 1) parts
 
--- what the clients work on: the models with their rules, the start, the bound of simulations and whether their statements are counted
-abbrev pub mission_of : JudgedSession → ℕ → Bool → Mission
-mission_of judged bound stats = record {
+-- reports that do not tell how many statements were run, with details or without
+abbrev pub without_stats : Bool → ReportForm
+without_stats detail = record { stats = false; detail = detail }
+
+-- what the clients work on: the models with their rules, the start, the bound of simulations and what reports tell besides
+abbrev pub mission_of : JudgedSession → ℕ → ReportForm → Mission
+mission_of judged bound form = record {
   models = ruled_parts judged 0 judged.session.models;
   start = judged.session.start;
   bound = bound;
-  stats = stats;
+  form = form;
 }
 
 -- the benches of all clients, each under the bound

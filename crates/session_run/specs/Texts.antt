@@ -1,5 +1,5 @@
 -- The text that is printed along a journal.
-use Rattle.std.specs.Prelude.{ℕ, suc, ◌+◌, Bool, List, [], ◌∷◌, ◌++◌}
+use Rattle.std.specs.Prelude.{ℕ, suc, ◌+◌, List, [], ◌∷◌, ◌++◌}
 use Rattle.std.specs.List.{filter}
 use Rattle.json_line.specs.Json.{line_of}
 use Rattle.hangar_core.specs.Fits.{is_of_client}
@@ -8,6 +8,7 @@ use Rattle.report_text.specs.JournalLines.{journal_data}
 use Rattle.session_reader.specs.declared.session.Client.{Client}
 use Rattle.session_judge.specs.declared.judged.JudgedSession.{JudgedSession}
 use Rattle.client_work.specs.declared.missions.Mission.{Mission}
+use Rattle.client_work.specs.declared.missions.ReportForm.{ReportForm}
 use Rattle.client_work.specs.Lines.{ArePaidFor, ClientOf, told_text}
 use Rattle.session_run.specs.Missions.{mission_of}
 
@@ -31,6 +32,6 @@ AreAllPaidFor mission counts journal number (client ∷ clients) =
     × AreAllPaidFor mission (λ later. counts (suc later)) journal (number + 1) clients
 
 -- the text of a session along a journal: whose part of which command each entry is, and what is told of all commands
-abbrev pub session_text : JudgedSession → ℕ → Bool → (ℕ → ℕ → ℕ) → Entries → List ℕ
-session_text judged bound stats counts journal =
-    line_of (journal_data journal) ++ clients_text (mission_of judged bound stats) counts journal 0 judged.session.clients
+abbrev pub session_text : JudgedSession → ℕ → ReportForm → (ℕ → ℕ → ℕ) → Entries → List ℕ
+session_text judged bound form counts journal =
+    line_of (journal_data journal) ++ clients_text (mission_of judged bound form) counts journal 0 judged.session.clients

@@ -34,7 +34,7 @@ fn count_command<R: Threads + Wait + Sync, G: Gate, L: Ledger, K: Ledger>(
 ) -> Result<(), OutOfMemory>
     requires workplace { IsAtWork workplace.now.mission.now workplace.now.lock.now pass.old }
     requires benches { benches.old ≡ workplace.now.mission.now.bound }
-    requires uncounted { workplace.now.mission.now.stats ≡ false }
+    requires uncounted { workplace.now.mission.now.form.stats ≡ false }
     ensures counted { IfOk result (λ _.
         CountsCommand workplace.now.mission.now whose command.now pass.old pass.new summary.old summary.new) }
     ensures benches { benches.new ≡ benches.old }
@@ -65,7 +65,7 @@ fn count_round<R: Threads + Wait + Sync, G: Gate, L: Ledger, K: Ledger>(
 ) -> Result<(), OutOfMemory>
     requires workplace { IsAtWork workplace.now.mission.now workplace.now.lock.now pass.old }
     requires benches { AreBenchesOf workplace.now.mission.now clients.now benches.old.items }
-    requires uncounted { workplace.now.mission.now.stats ≡ false }
+    requires uncounted { workplace.now.mission.now.form.stats ≡ false }
     requires few { AreFewClients clients.now }
     ensures counted { IfOk result (λ _.
         CountsRound workplace.now.mission.now clients.now number pass.old pass.new summary.old summary.new) }
@@ -99,7 +99,7 @@ pub(crate) fn count_rounds<R: Threads + Wait + Sync, G: Gate, L: Ledger, K: Ledg
     looks: &mut Steps<K>,
 ) -> Result<Summary, OutOfMemory>
     requires workplace { IsAtWork workplace.now.mission.now workplace.now.lock.now pass.old }
-    requires uncounted { workplace.now.mission.now.stats ≡ false }
+    requires uncounted { workplace.now.mission.now.form.stats ≡ false }
     requires few { AreFewClients clients.now }
     ensures counted { IfOk result (HasCounted workplace.now.mission.now clients.now pass.old pass.new) }
     ensures steps { steps.old ≤ steps.new }

@@ -6,7 +6,7 @@ ghost use Rattle.session_run.specs.Missions.{mission_of, opening_of, ruled_part,
 ghost use Rattle.session_run.specs.Ruled.{HasAllRules};
 
 use aerie_base::{List, Model, OutOfMemory, Shared};
-use client_work::{Mission, RuledModel};
+use client_work::{Mission, ReportForm, RuledModel};
 use hangar_core::Hangar;
 use plan_edit::{Mapping, copy_plan};
 use session_judge::JudgedSession;
@@ -50,16 +50,16 @@ pub(crate) fn mission(
     alloc: Global,
     judged: &JudgedSession,
     bound: u64,
-    stats: bool,
+    form: ReportForm,
 ) -> Result<Mission, OutOfMemory>
     requires rules { HasAllRules judged.now }
-    ensures { IfOk result (λ mission. mission ≡ mission_of judged.now bound stats) }
+    ensures { IfOk result (λ mission. mission ≡ mission_of judged.now bound form) }
 {
     Ok(Mission {
         models: ruled_models(alloc, judged)?,
         start: judged.session.start,
         bound,
-        stats,
+        form,
     })
 }
 

@@ -12,8 +12,8 @@ use crate::on_threads::{do_works, gather, split_works};
 use crate::texts::last_text;
 use aerie_base::{OutOfMemory, Steps};
 use aerie_edge::Gate;
-use client_work::Workplace;
 use client_work::laws::told_works_are_done;
+use client_work::{ReportForm, Workplace};
 use hangar_lock::HangarLock;
 use hangar_lock::laws::{
     commands_are_done, joined_passes_are_whole, joined_passes_fit, passes_have_their_entries,
@@ -27,8 +27,8 @@ use std::thread::Threads;
 
 /// Performs a session, its clients in turn: the first command of each, then the second of each, and so on, each whole. Answers
 /// the text that is printed: the line of the journal, and what is told of each client's commands, client by client. A
-/// simulation ends where its cost would pass the bound, at most 100,000,000; with `stats`, reports tell how many statements
-/// their simulations ran. A wave of a simulation is cut into 1 to 64 pieces, and into no more than are said. The gate is told when each command's simulation starts and ends; statements and looks are counted.
+/// simulation ends where its cost would pass the bound, at most 100,000,000; `form` says what reports tell
+/// besides. A wave of a simulation is cut into 1 to 64 pieces, and into no more than are said. The gate is told when each command's simulation starts and ends; statements and looks are counted.
 pub fn perform_in_turn<R: Threads + Wait + Sync, G: Gate, L: Ledger, K: Ledger>(
     alloc: Global,
     rt: &R,
@@ -36,18 +36,18 @@ pub fn perform_in_turn<R: Threads + Wait + Sync, G: Gate, L: Ledger, K: Ledger>(
     judged: &JudgedSession,
     bound: u64,
     pieces: u32,
-    stats: bool,
+    form: ReportForm,
     steps: &mut Steps<L>,
     looks: &mut Steps<K>,
 ) -> Result<String, OutOfMemory>
     requires session { CanBePerformed judged.now }
     requires bound { bound ≤ step_limit }
     ensures performed { IfOk result (λ text.
-        IsPerformedInTurn judged.now bound stats (string_bytes text) steps.old steps.new) }
+        IsPerformedInTurn judged.now bound form (string_bytes text) steps.old steps.new) }
     ensures steps { steps.old ≤ steps.new }
 {
     commands_are_done();
-    let mission = mission(alloc, judged, bound, stats)?;
+    let mission = mission(alloc, judged, bound, form)?;
     let store = Store::new(alloc)?;
     let (lock, mut pass) = HangarLock::open(alloc, hangar(alloc, &judged.session)?)?;
     let workplace = Workplace {
@@ -74,17 +74,17 @@ pub fn perform<R: Threads + Wait + Sync, G: Gate>(
     judged: &JudgedSession,
     bound: u64,
     pieces: u32,
-    stats: bool,
+    form: ReportForm,
 ) -> Result<String, OutOfMemory>
     requires session { CanBePerformed judged.now }
     requires bound { bound ≤ step_limit }
-    ensures { IfOk result (λ text. IsPerformed judged.now bound stats (string_bytes text)) }
+    ensures { IfOk result (λ text. IsPerformed judged.now bound form (string_bytes text)) }
 {
     told_works_are_done();
     passes_have_their_entries();
     joined_passes_fit();
     joined_passes_are_whole();
-    let mission = mission(alloc, judged, bound, stats)?;
+    let mission = mission(alloc, judged, bound, form)?;
     let store = Store::new(alloc)?;
     let (lock, mut pass) = HangarLock::open(alloc, hangar(alloc, &judged.session)?)?;
     let workplace = Workplace {

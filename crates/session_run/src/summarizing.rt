@@ -11,7 +11,7 @@ use crate::missions::{hangar, mission};
 use crate::summary::Summary;
 use aerie_base::{OutOfMemory, Steps};
 use aerie_edge::Gate;
-use client_work::Workplace;
+use client_work::{ReportForm, Workplace};
 use hangar_lock::HangarLock;
 use hangar_lock::laws::commands_are_done;
 use history_store::Store;
@@ -39,7 +39,11 @@ pub fn summarize_in_turn<R: Threads + Wait + Sync, G: Gate, L: Ledger, K: Ledger
     ensures steps { steps.old ≤ steps.new }
 {
     commands_are_done();
-    let mission = mission(alloc, judged, bound, false)?;
+    let form = ReportForm {
+        stats: false,
+        detail: false,
+    };
+    let mission = mission(alloc, judged, bound, form)?;
     let store = Store::new(alloc)?;
     let (lock, mut pass) = HangarLock::open(alloc, hangar(alloc, &judged.session)?)?;
     let workplace = Workplace {

@@ -3,7 +3,7 @@ use Rattle.session_run.specs.Performed.{serial_journal}
 use Rattle.session_run.proofs.laws.in_turn_fits.Goals as goal
 
 pub returns : goal.returns
-returns c = λ judged bound stats text before after performed. record {
+returns c = λ judged bound form text before after performed. record {
   journal = serial_journal judged bound;
   fits = c.serial_journals_fit.ensures (session_meanings judged bound) (opening_of judged.session) (all_commands judged.session.clients);
   counts = performed.counts;

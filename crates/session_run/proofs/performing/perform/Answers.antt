@@ -22,7 +22,7 @@ do_works-requires-clause-works g c κs within =
     can_work c.in_ok-mission.mission c.in_ok-lock.lock c.as_slice-clients.result.now c.in_ok-works.works.items c.in_ok-works.ensures.works
     (subst AreFewClients (sym c.as_slice-clients.ensures) c.requires.session.few)
     (subst (λ (mission : Mission). IsAtWork mission c.in_ok-lock.lock (first_pass c.in_ok-lock.lock)) (sym c.in_ok-mission.ensures)
-    (at_work c.args.judged.now c.args.bound c.args.stats c.in_ok-lock.lock (first_pass c.in_ok-lock.lock) c.requires.session c.requires.bound
+    (at_work c.args.judged.now c.args.bound c.args.form c.in_ok-lock.lock (first_pass c.in_ok-lock.lock) c.requires.session c.requires.bound
     (ap (λ (h : CountedWorkspace). h.workspace) c.in_ok-lock.ensures.opened ∙ c.in_ok-hangar.ensures.workspace) refl))
 
 -- src/performing.rt:89:17
@@ -43,7 +43,7 @@ close-hangar-requires-clause-whole g c =
     c.in_ok-texts.ensures.joined ∙ ap (λ (p : PassView). joined_with_all p (passes_of c.in_ok-dones.dones.items))
     (c.in_ok-works.ensures.left ∙ ap (λ (clients : List Client). split_often (length clients) (first_pass c.in_ok-lock.lock)) c.as_slice-clients.ensures) in
     subst IsWhole (sym is)
-    (whole c.args.judged.now c.args.bound c.args.stats c.in_ok-lock.lock c.in_ok-works.works.items c.in_ok-dones.dones.items (map string_bytes c.in_ok-texts.texts.items)
+    (whole c.args.judged.now c.args.bound c.args.form c.in_ok-lock.lock c.in_ok-works.works.items c.in_ok-dones.dones.items (map string_bytes c.in_ok-texts.texts.items)
     (subst (λ (clients : List Client). AreWorksOf c.in_ok-lock.lock (length clients) c.in_ok-works.works.items) c.as_slice-clients.ensures c.in_ok-works.ensures.works)
     (subst (λ (mission : Mission). AreDone mission c.args.judged.now.session.clients c.in_ok-works.works.items c.in_ok-dones.dones.items) c.in_ok-mission.ensures
     (subst (λ (clients : List Client). AreDone c.in_ok-mission.mission clients c.in_ok-works.works.items c.in_ok-dones.dones.items) c.as_slice-clients.ensures c.in_ok-dones.ensures))
@@ -59,7 +59,7 @@ returns g c =
     c.in_ok-texts.ensures.joined ∙ ap (λ (p : PassView). joined_with_all p (passes_of c.in_ok-dones.dones.items))
     (c.in_ok-works.ensures.left ∙ ap (λ (clients : List Client). split_often (length clients) (first_pass c.in_ok-lock.lock)) c.as_slice-clients.ensures) in
     IfOk-weaker c.last_text.result _ _ (λ text told.
-    performed c.args.judged.now c.args.bound c.args.stats c.in_ok-lock.lock c.in_ok-works.works.items c.in_ok-dones.dones.items (map string_bytes c.in_ok-texts.texts.items)
+    performed c.args.judged.now c.args.bound c.args.form c.in_ok-lock.lock c.in_ok-works.works.items c.in_ok-dones.dones.items (map string_bytes c.in_ok-texts.texts.items)
     (subst (λ (clients : List Client). AreWorksOf c.in_ok-lock.lock (length clients) c.in_ok-works.works.items) c.as_slice-clients.ensures c.in_ok-works.ensures.works)
     (subst (λ (mission : Mission). AreDone mission c.args.judged.now.session.clients c.in_ok-works.works.items c.in_ok-dones.dones.items) c.in_ok-mission.ensures
     (subst (λ (clients : List Client). AreDone c.in_ok-mission.mission clients c.in_ok-works.works.items c.in_ok-dones.dones.items) c.as_slice-clients.ensures c.in_ok-dones.ensures))

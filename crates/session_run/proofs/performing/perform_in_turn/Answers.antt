@@ -18,7 +18,7 @@ use Rattle.session_run.proofs.performing.perform_in_turn.Goals as goal
 pub take_rounds-requires-clause-workplace : goal.take_rounds-requires-clause-workplace
 take_rounds-requires-clause-workplace g c κs within =
     subst (λ (mission : Mission). IsAtWork mission c.in_ok-lock.lock c.in_ok-lock.pass) (sym c.in_ok-mission.ensures)
-    (at_work c.args.judged.now c.args.bound c.args.stats c.in_ok-lock.lock c.in_ok-lock.pass c.requires.session c.requires.bound
+    (at_work c.args.judged.now c.args.bound c.args.form c.in_ok-lock.lock c.in_ok-lock.pass c.requires.session c.requires.bound
     (ap (λ (h : CountedWorkspace). h.workspace) c.in_ok-lock.ensures.opened ∙ c.in_ok-hangar.ensures.workspace) c.in_ok-lock.ensures.first)
 
 -- src/performing.rt:26:1
@@ -31,7 +31,7 @@ returns-clause-performed g c =
     (subst (λ (clients : List Client). HasDoneRounds c.in_ok-mission.mission clients (stand_at c.in_ok-lock.pass c.args.steps.now) (stand_at c.take_rounds.new.pass c.take_rounds.new.steps) (map string_bytes c.in_ok-texts.texts.items))
     c.as_slice-clients.ensures c.in_ok-texts.ensures.taken) in
     IfOk-weaker c.last_text.result _ _ (λ text whole.
-    finished c.args.judged.now c.args.bound c.args.stats c.commands_are_done.ensures.few (stand_at c.in_ok-lock.pass c.args.steps.now) (stand_at c.take_rounds.new.pass c.take_rounds.new.steps) c.close-hangar.result.1
+    finished c.args.judged.now c.args.bound c.args.form c.commands_are_done.ensures.few (stand_at c.in_ok-lock.pass c.args.steps.now) (stand_at c.take_rounds.new.pass c.take_rounds.new.steps) c.close-hangar.result.1
     (map string_bytes c.in_ok-texts.texts.items) (string_bytes text)
     (ap (λ (p : PassView). p.mine) c.in_ok-lock.ensures.first) (ap (λ (p : PassView). p.seen) c.in_ok-lock.ensures.first)
     done c.close-hangar.ensures.right c.close-hangar.ensures.all

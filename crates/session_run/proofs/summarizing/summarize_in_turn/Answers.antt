@@ -7,7 +7,7 @@ use Rattle.client_work.specs.declared.missions.Mission.{Mission}
 use Rattle.client_work.specs.Working.{IsAtWork}
 use Rattle.session_reader.specs.declared.session.Client.{Client}
 use Rattle.session_run.specs.Answers.{HasCounted}
-use Rattle.session_run.specs.Missions.{opening_of}
+use Rattle.session_run.specs.Missions.{opening_of, without_stats}
 use Rattle.session_run.proofs.Counted.{summarized}
 use Rattle.session_run.proofs.Rules.{at_work}
 use Rattle.session_run.proofs.summarizing.summarize_in_turn.Goals as goal
@@ -15,7 +15,7 @@ use Rattle.session_run.proofs.summarizing.summarize_in_turn.Goals as goal
 pub count_rounds-requires-clause-workplace : goal.count_rounds-requires-clause-workplace
 count_rounds-requires-clause-workplace g c κs within =
     subst (λ (mission : Mission). IsAtWork mission c.in_ok-lock.lock c.in_ok-lock.pass) (sym c.in_ok-mission.ensures)
-    (at_work c.args.judged.now c.args.bound false c.in_ok-lock.lock c.in_ok-lock.pass c.requires.session c.requires.bound
+    (at_work c.args.judged.now c.args.bound (without_stats false) c.in_ok-lock.lock c.in_ok-lock.pass c.requires.session c.requires.bound
     (ap (λ (h : CountedWorkspace). h.workspace) c.in_ok-lock.ensures.opened ∙ c.in_ok-hangar.ensures.workspace) c.in_ok-lock.ensures.first)
 
 pub returns-clause-summarized : goal.returns-clause-summarized
