@@ -3,6 +3,7 @@ pub mod FlatPieces
 pub mod Folds
 pub mod Forbidding
 pub mod IntervalsKept
+pub mod Known
 pub mod Listing
 pub mod Mapping
 pub mod Meetings

@@ -2,6 +2,7 @@
 
 ghost use Rattle.std.specs.Prelude.{◌≡◌, ◌≤◌, ◌++◌, IsTrue, true, None, Some, IfOk, OnOk};
 ghost use Rattle.std.specs.List.{All};
+ghost use Rattle.profiles.specs.OfRuns.{AreByNumber, AreProfilesOf};
 ghost use Rattle.run_data.specs.Fresh.{IsFresh};
 ghost use Rattle.span_table.specs.SpanLaws.{AreSpansOf, IsInTime};
 ghost use Rattle.constraints.specs.Judging.{times_held};
@@ -20,6 +21,7 @@ use crate::span_times::{is_of_type, times_of};
 use crate::types::{Constraint, Rule, Window};
 use crate::violation::Violation;
 use aerie_base::{List, Model, OutOfMemory, Path, Time};
+use profiles::Profile;
 use run_data::Run;
 use span_table::Span;
 use std::alloc::Global;
@@ -29,6 +31,7 @@ use windows::Windows;
 /// hold, as maximal intervals; of a rule for each span of a type those of each span by itself, in the order of the spans,
 /// with the path of the span. A span for which there is no such time is not listed. The caller has found the spans of the run,
 /// once for all constraints.
+#[tactic(auto, using(crate::proofs::Known::none_known))]
 pub fn violations(
     alloc: Global,
     model: &Model,
@@ -41,9 +44,45 @@ pub fn violations(
     requires constraint { IsTrue (is_constraint model.now constraint.now) }
     ensures { IfOk result (λ found. found ≡ violations_of model.now run.now constraint.now) }
 {
+    judged(alloc, model, run, spans, &[], constraint)
+}
+
+/// The same where the caller has the profiles of the run too: what a rule names of them is not made again.
+pub fn violations_beside(
+    alloc: Global,
+    model: &Model,
+    run: &Run,
+    spans: &[Span],
+    profiles: &[Profile],
+    constraint: &Constraint,
+) -> Result<List<Violation>, OutOfMemory>
+    requires fresh { IsFresh model.now run.now.plan run.now.bound run.now }
+    requires spans { AreSpansOf model.now run.now spans.now }
+    requires profiles { AreProfilesOf model.now run.now profiles.now }
+    requires constraint { IsTrue (is_constraint model.now constraint.now) }
+    ensures { IfOk result (λ found. found ≡ violations_of model.now run.now constraint.now) }
+{
+    judged(alloc, model, run, spans, profiles, constraint)
+}
+
+/// The violations of a constraint, where the profiles of all resources are known or none is.
+fn judged(
+    alloc: Global,
+    model: &Model,
+    run: &Run,
+    spans: &[Span],
+    known: &[Profile],
+    constraint: &Constraint,
+) -> Result<List<Violation>, OutOfMemory>
+    requires fresh { IsFresh model.now run.now.plan run.now.bound run.now }
+    requires spans { AreSpansOf model.now run.now spans.now }
+    requires known { AreByNumber model.now run.now known.now }
+    requires constraint { IsTrue (is_constraint model.now constraint.now) }
+    ensures { IfOk result (λ found. found ≡ violations_of model.now run.now constraint.now) }
+{
     match &constraint.rule {
-        Rule::Plain(window) => plain(alloc, model, run, spans, window),
-        Rule::Each { kind, window } => each(alloc, model, run, spans, *kind, window),
+        Rule::Plain(window) => plain(alloc, model, run, spans, known, window),
+        Rule::Each { kind, window } => each(alloc, model, run, spans, known, *kind, window),
         Rule::Forbid(one, other) => forbid(alloc, model, run, spans, *one, *other),
     }
 }
@@ -121,14 +160,16 @@ fn plain(
     model: &Model,
     run: &Run,
     spans: &[Span],
+    known: &[Profile],
     window: &Window,
 ) -> Result<List<Violation>, OutOfMemory>
     requires fresh { IsFresh model.now run.now.plan run.now.bound run.now }
     requires spans { AreSpansOf model.now run.now spans.now }
+    requires known { AreByNumber model.now run.now known.now }
     requires window { IsTrue (is_window model.now window.now) }
     ensures { IfOk result (AreOfRule model.now run.now (rule.Plain window.now)) }
 {
-    let sources = Sources::over(alloc, model, run, spans, window)?;
+    let sources = Sources::over(alloc, model, run, spans, known, window)?;
     let times = not_held(alloc, &sources, window, &None)?;
     let found = one_violation(alloc, times)?;
     Ok(found)
@@ -306,15 +347,17 @@ fn each(
     model: &Model,
     run: &Run,
     spans: &[Span],
+    known: &[Profile],
     kind: u16,
     window: &Window,
 ) -> Result<List<Violation>, OutOfMemory>
     requires fresh { IsFresh model.now run.now.plan run.now.bound run.now }
     requires spans { AreSpansOf model.now run.now spans.now }
+    requires known { AreByNumber model.now run.now known.now }
     requires window { IsTrue (is_window model.now window.now) }
     ensures { IfOk result (AreOfRule model.now run.now (rule.Each kind window.now)) }
 {
-    let sources = Sources::over(alloc, model, run, spans, window)?;
+    let sources = Sources::over(alloc, model, run, spans, known, window)?;
     let found = each_evaluated(alloc, &sources, spans, kind, window)?;
     Ok(found)
 }

@@ -17,6 +17,6 @@ mod sums;
 mod types;
 mod violation;
 
-pub use judging::{violations, window_times};
+pub use judging::{violations, violations_beside, window_times};
 pub use types::{Constraint, Reading, Rule, RuleSum, RuleTerm, Window};
 pub use violation::Violation;

@@ -1,6 +1,7 @@
 //! What the windows of a rule are evaluated over. What they read is made once for a rule.
 
 ghost use Rattle.std.specs.Prelude.{◌≡◌, ◌<◌, length, map, IfOk, IfSome};
+ghost use Rattle.profiles.specs.OfRuns.{AreByNumber};
 ghost use Rattle.run_data.specs.Fresh.{IsFresh};
 ghost use Rattle.constraints.specs.Sources.{AreProfiles, AreSources, AreTimes, AreTimesIn, IsProfile, IsTimesIn, IsTimesOf};
 ghost use Rattle.span_table.specs.AsDefined.{defined_span};
@@ -31,6 +32,7 @@ pub(crate) struct Sources<'a> {
 
 impl<'a> Sources<'a> {
     /// What a window reads of a run: a profile for each resource that it names, and the spans of each type that it names.
+    #[tactic(auto, using(crate::proofs::Known::none_known))]
     pub(crate) fn of(
         alloc: Global,
         model: &'a Model,
@@ -42,7 +44,7 @@ impl<'a> Sources<'a> {
         ensures run { IfOk result (λ sources. sources.run.now ≡ run.now) }
         ensures sources { IfOk result AreSources }
     {
-        let profiles = profiles_read(alloc, model, run, window)?;
+        let profiles = profiles_read(alloc, model, run, &[], window)?;
         let times = times_read(alloc, model, run, window)?;
         Ok(Sources {
             model,
@@ -52,21 +54,23 @@ impl<'a> Sources<'a> {
         })
     }
 
-    /// The same where the spans of the run are known.
+    /// The same where the spans of the run are known, and the profiles of all its resources, or none.
     pub(crate) fn over(
         alloc: Global,
         model: &'a Model,
         run: &'a Run,
         spans: &[Span],
+        known: &[Profile],
         window: &Window,
     ) -> Result<Sources<'a>, OutOfMemory>
         requires fresh { IsFresh model.now run.now.plan run.now.bound run.now }
         requires spans { AreSpansOf model.now run.now spans.now }
+        requires known { AreByNumber model.now run.now known.now }
         ensures model { IfOk result (λ sources. sources.model.now ≡ model.now) }
         ensures run { IfOk result (λ sources. sources.run.now ≡ run.now) }
         ensures sources { IfOk result AreSources }
     {
-        let profiles = profiles_read(alloc, model, run, window)?;
+        let profiles = profiles_read(alloc, model, run, known, window)?;
         let times = times_among(alloc, spans, window, run.reach)?;
         Ok(Sources {
             model,
@@ -109,37 +113,66 @@ fn made_times(alloc: Global, model: &Model, run: &Run, kind: u16) -> Result<Wind
     Ok(made)
 }
 
+/// The profile of a resource: a copy of the one that is known, or a new one.
+fn profile_beside(
+    alloc: Global,
+    model: &Model,
+    run: &Run,
+    known: &[Profile],
+    number: u16,
+) -> Result<Profile, OutOfMemory>
+    requires fresh { IsFresh model.now run.now.plan run.now.bound run.now }
+    requires known { AreByNumber model.now run.now known.now }
+    requires number { number < length model.now.resources }
+    ensures { IfOk result (IsProfile model.now run.now number) }
+{
+    match known.get(usize::from(number)) {
+        Some(made) => {
+            let copy = made.copy(alloc)?;
+            Ok(copy)
+        }
+        None => {
+            let made = profile(alloc, model, run, number)?;
+            Ok(made)
+        }
+    }
+}
+
 /// The profile of a resource, if the window names it.
 fn profile_read(
     alloc: Global,
     model: &Model,
     run: &Run,
+    known: &[Profile],
     window: &Window,
     number: u16,
 ) -> Result<Option<Profile>, OutOfMemory>
     requires fresh { IsFresh model.now run.now.plan run.now.bound run.now }
+    requires known { AreByNumber model.now run.now known.now }
     ensures { IfOk result (λ made. IfSome made (IsProfile model.now run.now number)) }
 {
     if usize::from(number) >= model.resources().len() || !names_resource(window, number) {
         return Ok(None);
     }
-    let made = profile(alloc, model, run, number)?;
+    let made = profile_beside(alloc, model, run, known, number)?;
     Ok(Some(made))
 }
 
-/// The profiles of the resources that the window names, by number.
+/// The profiles of the resources that the window names, by number: copies of those that are known, or new ones.
 fn profiles_read(
     alloc: Global,
     model: &Model,
     run: &Run,
+    known: &[Profile],
     window: &Window,
 ) -> Result<List<Option<Profile>>, OutOfMemory>
     requires fresh { IsFresh model.now run.now.plan run.now.bound run.now }
+    requires known { AreByNumber model.now run.now known.now }
     ensures { IfOk result (AreProfiles model.now run.now) }
 {
     let mut made = List::new(alloc);
     for number in 0..256u16 {
-        let one = profile_read(alloc, model, run, window, number)?;
+        let one = profile_read(alloc, model, run, known, window, number)?;
         made.push(one)?;
     }
     Ok(made)
