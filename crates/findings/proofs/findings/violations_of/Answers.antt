@@ -6,4 +6,4 @@ use Rattle.findings.proofs.findings.violations_of.Goals as goal
 pub loop-constraint-preserved : goal.loop-constraint-preserved
 loop-constraint-preserved c =
     made_of (violations_of c.args.model.now c.args.run.now) c.args.constraints.now c.loop-constraint.constraint-index c.constraint-item.result _ _ _
-    c.loop-constraint-test.true c.constraint-item.is c.in_ok-violations.ensures c.in_ok-push.ensures.pushed c.loop-constraint.invariant
+    c.loop-constraint-test.true c.constraint-item.is c.in_ok-one.ensures c.in_ok-push.ensures.pushed c.loop-constraint.invariant
