@@ -1,0 +1,4 @@
+pub mod Braces
+pub mod Cutting
+pub mod LineSteps
+pub mod Whole

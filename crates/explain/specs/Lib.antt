@@ -1,0 +1,17 @@
+pub mod Becauses
+pub mod Causes
+pub mod EditCauses
+pub mod Explaining
+pub mod ExplainingCases
+pub mod Headlines
+pub mod HintLines
+pub mod Hints
+pub mod LimitCauses
+pub mod Lines
+pub mod NameCauses
+pub mod Shown
+pub mod Sources
+pub mod Spots
+pub mod SyntaxCauses
+pub mod TypeCauses
+pub mod WordsOfTokens
