@@ -218,7 +218,9 @@ value_words = sort.Counter ∷ sort.Accumulator ∷ sort.Discrete ∷ sort.Linea
 -- signs and words that stand in place of others
 abbrev pub sign_because : List ℕ → List SortedToken → ℕ → Beside → Because
 sign_because bytes tokens at it =
-    if is_among_sorts (sort.And ∷ sort.Or ∷ sort.Not ∷ []) it.here.sort && not (has_sort sort.Plan (take at tokens)) then about it.here cause.WordOperator
+    if is_among_sorts (sort.And ∷ sort.Or ∷ sort.Not ∷ []) it.here.sort && not (has_sort sort.Plan (take at tokens))
+    && not (is_among_sorts name_openers it.before.sort)
+    then about it.here cause.WordOperator
     else if is_among_sorts (sort.DoubleAmpersand ∷ sort.DoubleBar ∷ sort.Exclamation ∷ []) it.here.sort && has_sort sort.Plan (take at tokens)
     then about it.here cause.SignOperator
     else if same_sort sort.Else it.before.sort && same_sort sort.If it.here.sort then plain cause.ElseIf

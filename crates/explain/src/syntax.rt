@@ -552,7 +552,10 @@ fn sign_because(bytes: &[u8], tokens: &[SortedToken], at: usize, it: Beside) -> 
     ensures { result ≡ sign_because_by bytes.now tokens.now at it }
 {
     let (earlier, _) = tokens.split_at(at);
-    if is_word_operator(it.here.sort) && !has_sort(Sort::Plan, earlier) {
+    if is_word_operator(it.here.sort)
+        && !has_sort(Sort::Plan, earlier)
+        && !opens_name(it.before.sort)
+    {
         about(it.here, Cause::WordOperator)
     } else if is_sign_operator(it.here.sort) && has_sort(Sort::Plan, earlier) {
         about(it.here, Cause::SignOperator)
