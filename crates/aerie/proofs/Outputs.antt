@@ -5,13 +5,16 @@ use Rattle.std.specs.Io.KnownBytes.{IsAtEnd}
 use Rattle.command_line.specs.declared.invocation.Invocation.{Invocation}
 use Rattle.command_line.specs.declared.invocation.Mode.{Mode}
 use Rattle.command_line.specs.declared.invocation.Mode.TheVariants.{Run, Check, Make}
+use Rattle.json_line.specs.Json.{line_of}
+use Rattle.refusal_text.specs.declared.refusals.Refusal.{Refusal}
+use Rattle.session_judge.specs.Accepted.{accepted_data}
 use Rattle.session_judge.specs.Judging.{Judgement, judged_session}
 use Rattle.session_judge.specs.Telling.{told_session}
 use Rattle.session_judge.specs.declared.judged.JudgedSession.{JudgedSession}
 use Rattle.session_make.specs.Sessions.{session}
 use Rattle.session_reader.specs.declared.session_error.SessionError.TheVariants.{TooLarge}
 use Rattle.aerie.specs.Input.{HasReadAll}
-use Rattle.aerie.specs.Program.{StatementCounts, ProgramAnswer, counted_from, IsAnswerTo, IsInputIf, IsModeAnswer, IsMadeAnswer, IsProgramAnswer, IsRunAnswer, IsSummarized, answer_with, check_answer, is_answered, mode_reads, named_answer, number_of_status, reads_input, refused_answer, summary_text}
+use Rattle.aerie.specs.Program.{StatementCounts, ProgramAnswer, counted_from, IsAnswerTo, IsInputIf, IsCheckAnswer, IsModeAnswer, IsMadeAnswer, IsProgramAnswer, IsRefusedSession, IsRunAnswer, IsSummarized, answer_with, is_answered, mode_reads, named_answer, number_of_status, reads_input, summary_text}
 use Rattle.aerie.specs.declared.exit_status.ExitStatus.{ExitStatus}
 use Rattle.aerie.specs.declared.exit_status.ExitStatus.TheVariants as status
 
@@ -23,13 +26,23 @@ Tells answer = IsTrue (is_answered (number_of_status answer.status))
 as_told : (answer wanted : ProgramAnswer) → answer ≡ wanted → Tells wanted → Tells answer
 as_told answer wanted is tells = subst Tells (sym is) tells
 
-check_tells : (judgement : Judgement JudgedSession) → Tells (check_answer judgement)
-check_tells (Ok judged) = refl
-check_tells (Err refusal) = refl
+-- a session that is refused has that status, explained or not
+has_refused : (explain : Bool) (input : List ℕ) (refusal : Refusal) (answer : ProgramAnswer) → IsRefusedSession explain input refusal answer → answer.status ≡ status.Refused
+has_refused false input refusal answer is = ap (λ (one : ProgramAnswer). one.status) is
+has_refused true input refusal answer is = ap (λ (one : ProgramAnswer). one.status) is.told
 
-run_tells : (invocation : Invocation) (judgement : Judgement JudgedSession) (count : StatementCounts) (answer : ProgramAnswer) → IsRunAnswer invocation judgement count answer → Tells answer
-run_tells invocation (Ok judged) count answer is = subst (λ (ending : ExitStatus). IsTrue (is_answered (number_of_status ending))) (sym is.done) refl
-run_tells invocation (Err refusal) count answer is = as_told answer (refused_answer status.Refused refusal) is refl
+refused_tells : (explain : Bool) (input : List ℕ) (refusal : Refusal) (answer : ProgramAnswer) → IsRefusedSession explain input refusal answer → Tells answer
+refused_tells explain input refusal answer is =
+    subst (λ (ending : ExitStatus). IsTrue (is_answered (number_of_status ending))) (sym (has_refused explain input refusal answer is)) refl
+
+check_tells : (explain : Bool) (input : List ℕ) (judgement : Judgement JudgedSession) (answer : ProgramAnswer) → IsCheckAnswer explain input judgement answer → Tells answer
+check_tells explain input (Ok judged) answer is = as_told answer (answer_with status.Done (line_of (accepted_data judged.session))) is refl
+check_tells explain input (Err refusal) answer is = refused_tells explain input refusal answer is
+
+run_tells : (invocation : Invocation) (input : List ℕ) (judgement : Judgement JudgedSession) (count : StatementCounts) (answer : ProgramAnswer)
+    → IsRunAnswer invocation input judgement count answer → Tells answer
+run_tells invocation input (Ok judged) count answer is = subst (λ (ending : ExitStatus). IsTrue (is_answered (number_of_status ending))) (sym is.done) refl
+run_tells invocation input (Err refusal) count answer is = refused_tells invocation.explain input refusal answer is
 
 summarized_tells : (number limit : ℕ) (judgement : Judgement JudgedSession) (answer : ProgramAnswer) → IsSummarized number limit judgement answer → Tells answer
 summarized_tells number limit (Ok judged) answer is = as_told answer (answer_with status.Done (summary_text number limit judged)) is refl
@@ -40,8 +53,8 @@ made_tells number true limit answer is = as_told answer (answer_with status.Done
 made_tells number false limit answer is = summarized_tells number limit (judged_session (session number)) answer is
 
 mode_tells : (invocation : Invocation) (input : List ℕ) (mode : Mode) (count : StatementCounts) (answer : ProgramAnswer) → IsModeAnswer invocation input mode count answer → Tells answer
-mode_tells invocation input Run count answer is = run_tells invocation (judged_session input) count answer is
-mode_tells invocation input Check count answer is = as_told answer (check_answer (judged_session input)) is (check_tells (judged_session input))
+mode_tells invocation input Run count answer is = run_tells invocation input (judged_session input) count answer is
+mode_tells invocation input Check count answer is = check_tells invocation.explain input (judged_session input) answer is
 mode_tells invocation input (Make number text) count answer is = made_tells number text invocation.limit answer is
 
 program_tells : (invocation : Option Invocation) (input : List ℕ) (count : StatementCounts) (answer : ProgramAnswer) → IsProgramAnswer invocation input count answer → Tells answer
@@ -73,8 +86,10 @@ too_long : (input : List ℕ) → length input ≡ 16_777_217 → judged_session
 unfolding judged_session
 too_long input is = rw (lt-ltb 16_777_216 (length input) (omega (arith, is))) refl
 
-refused_is_not_done : (answer : ProgramAnswer) (input : List ℕ) → answer ≡ refused_answer status.Refused (told_session input [] TooLarge) → number_of_status answer.status ≡ 0 → ⊥
-refused_is_not_done answer input is done = absurd (clash (subst (λ (one : ProgramAnswer). number_of_status one.status ≡ 0) is done))
+refused_is_not_done : (explain : Bool) (input : List ℕ) (refusal : Refusal) (answer : ProgramAnswer) → IsRefusedSession explain input refusal answer
+    → number_of_status answer.status ≡ 0 → ⊥
+refused_is_not_done explain input refusal answer is done =
+    absurd (clash (subst (λ (ending : ExitStatus). number_of_status ending ≡ 0) (has_refused explain input refusal answer is) done))
   where
     clash : ◌≡◌ {A = ℕ} 3 0 → ⊥
     clash e = omega (arith, e)
@@ -82,9 +97,11 @@ refused_is_not_done answer input is done = absurd (clash (subst (λ (one : Progr
 not_done : (invocation : Invocation) (input : List ℕ) (mode : Mode) (count : StatementCounts) (answer : ProgramAnswer) → IsModeAnswer invocation input mode count answer
     → mode_reads mode ≡ true → length input ≡ 16_777_217 → number_of_status answer.status ≡ 0 → ⊥
 not_done invocation input Run count answer is reads long done =
-    refused_is_not_done answer input (subst (λ (j : Judgement JudgedSession). IsRunAnswer invocation j count answer) (too_long input long) is) done
+    refused_is_not_done invocation.explain input (told_session input [] TooLarge) answer
+    (subst (λ (j : Judgement JudgedSession). IsRunAnswer invocation input j count answer) (too_long input long) is) done
 not_done invocation input Check count answer is reads long done =
-    refused_is_not_done answer input (subst (λ (j : Judgement JudgedSession). answer ≡ check_answer j) (too_long input long) is) done
+    refused_is_not_done invocation.explain input (told_session input [] TooLarge) answer
+    (subst (λ (j : Judgement JudgedSession). IsCheckAnswer invocation.explain input j answer) (too_long input long) is) done
 not_done invocation input (Make number text) count answer is reads long done = absurd cc
 
 ended : (invocation : Option Invocation) (before after : Option (List ℕ)) (input : List ℕ) (count : StatementCounts) (answer : ProgramAnswer) → IsInputIf (reads_input invocation) before after input
@@ -110,11 +127,11 @@ of_mode invocation mode before after input count answer is read told = record {
 }
 
 pub of_check : (invocation : Invocation) (before after : Option (List ℕ)) (input : List ℕ) (count : StatementCounts) (answer : ProgramAnswer) → invocation.mode ≡ Check
-    → HasReadAll before after input → answer ≡ check_answer (judged_session input) → IsAnswerTo (Some invocation) before after count answer
+    → HasReadAll before after input → IsCheckAnswer invocation.explain input (judged_session input) answer → IsAnswerTo (Some invocation) before after count answer
 of_check invocation before after input count answer is read told = of_mode invocation Check before after input count answer is read told
 
 pub of_run : (invocation : Invocation) (before after : Option (List ℕ)) (input : List ℕ) (count : StatementCounts) (answer : ProgramAnswer) → invocation.mode ≡ Run
-    → HasReadAll before after input → IsRunAnswer invocation (judged_session input) count answer → IsAnswerTo (Some invocation) before after count answer
+    → HasReadAll before after input → IsRunAnswer invocation input (judged_session input) count answer → IsAnswerTo (Some invocation) before after count answer
 of_run invocation before after input count answer is read told = of_mode invocation Run before after input count answer is read told
 
 pub of_make : (invocation : Invocation) (number : ℕ) (text : Bool) (before after : Option (List ℕ)) (count : StatementCounts) (answer : ProgramAnswer) → invocation.mode ≡ Make number text

@@ -1,10 +1,14 @@
 -- What the program answers to the words and to the input.
 use Rattle.std.specs.Prelude.{◌≡◌, ℕ, ◌==◌, Bool, true, false, ◌||◌, List, length, Option, Some, None, Ok, Err, codes}
+use Rattle.std.specs.List.{AllByRecursion}
 use Rattle.client_work.specs.declared.missions.ReportForm.{ReportForm}
 use Rattle.json_line.specs.Json.{line_of}
 use Rattle.command_line.specs.declared.invocation.Invocation.{Invocation}
 use Rattle.command_line.specs.declared.invocation.Mode.{Mode}
 use Rattle.command_line.specs.declared.invocation.Mode.TheVariants.{Run, Check, Make}
+use Rattle.explain.specs.Explaining.{explanation_of}
+use Rattle.explain.specs.declared.hint.Hint.{Hint}
+use Rattle.hint_trials.specs.Trials.{TakesFurther}
 use Rattle.refusal_text.specs.Refusals.{refusal_data, refused_data}
 use Rattle.refusal_text.specs.declared.refusals.Refusal.{Refusal}
 use Rattle.session_judge.specs.Accepted.{accepted_data}
@@ -57,12 +61,23 @@ refused_answer ending refusal = answer_with ending (line_of (refused_data (refus
 abbrev pub named_answer : ExitStatus → List ℕ → ProgramAnswer
 named_answer ending name = refused_answer ending (told_name name)
 
+-- the text that explains why a session is refused, with hints each of which takes the session further
+pub record IsExplained (input : List ℕ) (refusal : Refusal) (answer : ProgramAnswer) : Type 0 where
+  pub hints : List Hint
+  pub further : AllByRecursion (TakesFurther input) hints
+  pub told : answer ≡ answer_with status.Refused (explanation_of input refusal hints)
+
+-- a session is refused, and explained where that is asked for
+abbrev pub IsRefusedSession : Bool → List ℕ → Refusal → ProgramAnswer → Type 0
+IsRefusedSession false input refusal answer = answer ≡ refused_answer status.Refused refusal
+IsRefusedSession true input refusal answer = IsExplained input refusal answer
+
 -- ---- check
 
 -- a session is judged with all its rules, and the clients and commands of one that is good are counted
-abbrev pub check_answer : Judgement JudgedSession → ProgramAnswer
-check_answer (Ok judged) = answer_with status.Done (line_of (accepted_data judged.session))
-check_answer (Err refusal) = refused_answer status.Refused refusal
+abbrev pub IsCheckAnswer : Bool → List ℕ → Judgement JudgedSession → ProgramAnswer → Type 0
+IsCheckAnswer explain input (Ok judged) answer = answer ≡ answer_with status.Done (line_of (accepted_data judged.session))
+IsCheckAnswer explain input (Err refusal) answer = IsRefusedSession explain input refusal answer
 
 -- ---- run
 
@@ -89,9 +104,9 @@ pub record HasRun (invocation : Invocation) (judged : JudgedSession) (count : St
   pub text : IsRunText invocation.serial judged invocation.limit (report_form invocation) count answer.text
 
 -- a session is judged, and performed where it is good
-abbrev pub IsRunAnswer : Invocation → Judgement JudgedSession → StatementCounts → ProgramAnswer → Type 0
-IsRunAnswer invocation (Ok judged) count answer = HasRun invocation judged count answer
-IsRunAnswer invocation (Err refusal) count answer = answer ≡ refused_answer status.Refused refusal
+abbrev pub IsRunAnswer : Invocation → List ℕ → Judgement JudgedSession → StatementCounts → ProgramAnswer → Type 0
+IsRunAnswer invocation input (Ok judged) count answer = HasRun invocation judged count answer
+IsRunAnswer invocation input (Err refusal) count answer = IsRefusedSession invocation.explain input refusal answer
 
 -- ---- make
 
@@ -113,8 +128,8 @@ IsMadeAnswer number false limit answer = IsSummarized number limit (judged_sessi
 -- ---- the program
 
 abbrev pub IsModeAnswer : Invocation → List ℕ → Mode → StatementCounts → ProgramAnswer → Type 0
-IsModeAnswer invocation input Run count answer = IsRunAnswer invocation (judged_session input) count answer
-IsModeAnswer invocation input Check count answer = answer ≡ check_answer (judged_session input)
+IsModeAnswer invocation input Run count answer = IsRunAnswer invocation input (judged_session input) count answer
+IsModeAnswer invocation input Check count answer = IsCheckAnswer invocation.explain input (judged_session input) answer
 IsModeAnswer invocation input (Make number text) count answer = IsMadeAnswer number text invocation.limit answer
 
 -- what the program may answer to an invocation, if the words are one, and to the bytes of the input

@@ -5,7 +5,7 @@ ghost use Rattle.aerie_base.specs.Ranges.{step_limit};
 ghost use Rattle.command_line.specs.Invocations.{HasNumbersWithin};
 ghost use Rattle.session_judge.specs.Judging.{judged_session};
 ghost use Rattle.session_run.specs.Ruled.{CanBePerformed};
-ghost use Rattle.aerie.specs.Program.{HasRun, IsMadeAnswer, IsRunAnswer, answer_with, check_answer, counted_from, report_form, named_answer, refused_answer, summary_text};
+ghost use Rattle.aerie.specs.Program.{HasRun, IsCheckAnswer, IsExplained, IsMadeAnswer, IsRefusedSession, IsRunAnswer, answer_with, counted_from, report_form, named_answer, refused_answer, summary_text};
 ghost use Rattle.aerie.specs.declared.exit_status.ExitStatus.TheVariants.{Done};
 
 use crate::exit_status::ExitStatus;
@@ -13,6 +13,9 @@ use aerie_base::{OutOfMemory, Steps};
 use aerie_edge::Gate;
 use client_work::ReportForm;
 use command_line::Invocation;
+use explain::explanation;
+use hint_candidates::candidates;
+use hint_trials::hints;
 use refusal_text::{Refusal, refusal_line};
 use session_judge::{JudgeError, JudgedSession, accepted_line, judge, named_refusal};
 use session_make::make;
@@ -71,9 +74,38 @@ pub fn named(alloc: Global, status: ExitStatus, name: &str) -> Result<Output, Ou
     refused(alloc, status, &refusal)
 }
 
+/// What explains why a session is refused, with hints of what takes it further.
+fn explained(alloc: Global, input: &[u8], refusal: &Refusal) -> Result<Output, OutOfMemory>
+    ensures { IfOk result (IsExplained input.now refusal.now) }
+{
+    let untried = candidates(alloc, input, refusal)?;
+    let hints = hints(alloc, input, untried)?;
+    let text = explanation(alloc, input, refusal, hints.as_slice())?;
+    Ok(Output {
+        status: ExitStatus::Refused,
+        text,
+    })
+}
+
+/// A session is refused, and explained where that is asked for.
+fn refused_session(
+    alloc: Global,
+    explain: bool,
+    input: &[u8],
+    refusal: &Refusal,
+) -> Result<Output, OutOfMemory>
+    ensures { IfOk result (IsRefusedSession explain input.now refusal.now) }
+{
+    if explain {
+        explained(alloc, input, refusal)
+    } else {
+        refused(alloc, ExitStatus::Refused, refusal)
+    }
+}
+
 /// A session is judged.
-pub fn checked(alloc: Global, input: &[u8]) -> Result<Output, OutOfMemory>
-    ensures { IfOk result (λ output. output ≡ check_answer (judged_session input.now)) }
+pub fn checked(alloc: Global, explain: bool, input: &[u8]) -> Result<Output, OutOfMemory>
+    ensures { IfOk result (IsCheckAnswer explain input.now (judged_session input.now)) }
 {
     match judge(alloc, input) {
         Ok(judged) => {
@@ -83,7 +115,7 @@ pub fn checked(alloc: Global, input: &[u8]) -> Result<Output, OutOfMemory>
                 text,
             })
         }
-        Err(JudgeError::Refused(refusal)) => refused(alloc, ExitStatus::Refused, &refusal),
+        Err(JudgeError::Refused(refusal)) => refused_session(alloc, explain, input, &refusal),
         Err(JudgeError::OutOfMemory) => Err(OutOfMemory),
     }
 }
@@ -211,7 +243,7 @@ pub fn performed<R: Threads + Wait + Sync, G: Gate, L: Ledger>(
 ) -> Result<Output, OutOfMemory>
     requires within { HasNumbersWithin invocation.now }
     ensures performed { IfOk result (
-        IsRunAnswer invocation.now (judged_session input.now) (counted_from steps.old steps.new)) }
+        IsRunAnswer invocation.now input.now (judged_session input.now) (counted_from steps.old steps.new)) }
     ensures steps { steps.old ≤ steps.new }
 {
     match judge(alloc, input) {
@@ -219,7 +251,9 @@ pub fn performed<R: Threads + Wait + Sync, G: Gate, L: Ledger>(
             let blank = Blank::new(1);
             performed_good::<R, G, L, Brand>(alloc, rt, invocation, &judged, gate, steps, blank)
         }
-        Err(JudgeError::Refused(refusal)) => refused(alloc, ExitStatus::Refused, &refusal),
+        Err(JudgeError::Refused(refusal)) => {
+            refused_session(alloc, invocation.explain, input, &refusal)
+        }
         Err(JudgeError::OutOfMemory) => Err(OutOfMemory),
     }
 }

@@ -50,7 +50,7 @@ fn output_for<R: Threads + Wait + Sync, S: Source, G: Gate, L: Ledger>(
         }
         Mode::Check => {
             let input = read_input(alloc, source)?;
-            Ok(checked(alloc, &input)?)
+            Ok(checked(alloc, invocation.explain, &input)?)
         }
         Mode::Run => {
             let input = read_input(alloc, source)?;
