@@ -4,6 +4,9 @@ mod OldInstants
 mod OldBatches
 mod EngineBatches
 mod Looping
+mod NothingOld
+mod EndsInCommon
+mod NoRoots
 mod Noted
 mod SettledBefore
 mod UnbegunTasks

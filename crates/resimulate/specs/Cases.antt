@@ -7,6 +7,7 @@ use Rattle.run_data.specs.declared.frames.Status.TheVariants.{Done}
 use Rattle.run_data.specs.declared.runs.Instant.{Instant}
 use Rattle.run_data.specs.declared.tasks.BodyId.TheVariants.{Activity}
 use Rattle.resimulate.specs.EvenInstants.{frames_of_others}
+use Rattle.resimulate.specs.SharedEnds.{SharesEnds}
 use Rattle.resimulate.specs.OldBatches.{AreEarly, IsFirstFrom, instant_at_time, batch_at}
 
 -- a step to the end of the body of a directive
@@ -56,3 +57,21 @@ frames_of_the_uneven_instant = refl
 -- where no instant is even, all are
 pub frames_of_all : frames_of_others (λ one. false) instants ≡ last_step 1 ∷ last_step 2 ∷ last_step 3 ∷ last_step 4 ∷ []
 frames_of_all = refl
+
+-- ---- what two runs have in common
+
+-- a run whose second instant is at 6 in place of 5
+abbrev moved : List Instant
+moved = instant 2 ((last_step 1 ∷ []) ∷ []) ∷ instant 6 ((last_step 2 ∷ []) ∷ (last_step 3 ∷ []) ∷ []) ∷ instant 9 ((last_step 4 ∷ []) ∷ []) ∷ []
+
+pub the_first_and_the_last_instant : SharesEnds instants moved 1 1
+the_first_and_the_last_instant = record {
+  front = instant 2 ((last_step 1 ∷ []) ∷ []) ∷ [];
+  between = instant 6 ((last_step 2 ∷ []) ∷ (last_step 3 ∷ []) ∷ []) ∷ [];
+  old_between = instant 5 ((last_step 2 ∷ []) ∷ (last_step 3 ∷ []) ∷ []) ∷ [];
+  back = instant 9 ((last_step 4 ∷ []) ∷ []) ∷ [];
+  is = refl;
+  is_old = refl;
+  first = refl;
+  last = refl;
+}

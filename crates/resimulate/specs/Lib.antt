@@ -13,4 +13,6 @@ pub mod Traces
 pub mod Likeness
 pub mod EarlyEnds
 pub mod Partings
+pub mod SharedEnds
 pub mod PartingCases
+pub mod BookmarkCases

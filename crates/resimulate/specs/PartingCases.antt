@@ -8,25 +8,25 @@ use Rattle.aerie_base.specs.declared.plans.Plan.{Plan}
 use Rattle.parting.specs.IdRanges.{is_id_between}
 use Rattle.resimulate.specs.Partings.{others_of, StartsLater, IsDueLater, DifferLater, SkipsTo, IsNextToo}
 
-abbrev directive : ℕ → Option Anchor → ℕ → Directive
+abbrev pub directive : ℕ → Option Anchor → ℕ → Directive
 directive id anchor start = record { id = id; start = start; anchor = anchor; kind = 0; arguments = [] }
 
-abbrev behind : ℕ → Option Anchor
+abbrev pub behind : ℕ → Option Anchor
 behind id = Some (record { to = id; edge = End })
 
-abbrev plan_of : List Directive → Plan
+abbrev pub plan_of : List Directive → Plan
 plan_of directives = record { model = 0; duration = 100; next_id = 5; directives = directives }
 
 -- the third at 30, and the fourth 7 behind its end
-abbrev old : List Directive
+abbrev pub old : List Directive
 old = directive 1 None 5 ∷ directive 2 None 20 ∷ directive 3 None 30 ∷ directive 4 (behind 3) 7 ∷ []
 
 -- the third at 40
-abbrev moved : List Directive
+abbrev pub moved : List Directive
 moved = directive 1 None 5 ∷ directive 2 None 20 ∷ directive 3 None 40 ∷ directive 4 (behind 3) 7 ∷ []
 
 -- the third at 40, and the fourth 9 behind its end
-abbrev both_changed : List Directive
+abbrev pub both_changed : List Directive
 both_changed = directive 1 None 5 ∷ directive 2 None 20 ∷ directive 3 None 40 ∷ directive 4 (behind 3) 9 ∷ []
 
 -- ---- a range of ids

@@ -16,16 +16,31 @@ use parting::laws::edited_plans_resume;
 use run_data::laws::plans_that_differ_late_run_side_by_side;
 use std::alloc::Global;
 
-/// How many bookmarks are kept, spread over the instants of a simulation. Each holds the tasks that are live there.
-const MOST: usize = 8;
+/// How many bookmarks are spread over the instants of a simulation.
+const SPREAD: usize = 8;
+
+/// How many are kept at most. Each holds the tasks that are live there.
+const MOST: usize = 16;
+
+/// How many instants lie between the bookmark that is close before an edit and the place where the two plans part.
+const MARGIN: usize = 32;
+
+/// What part of the way between two bookmarks that are spread is walked for less than a bookmark costs.
+const CHEAP_PART: usize = 16;
+
+/// How many instants there are for each directive, where nothing more is known.
+const INSTANTS_FOR_ONE: usize = 2;
 
 /// Simulations that were set aside at the beginnings of instants, the earlier ones in front. What stands before the last bookmark that is
-/// before an edit is not simulated again.
+/// before an edit is not simulated again. They are spread over the instants, and one more stands close before each edit, since what was
+/// edited is often edited again.
 #[derive(Drop)]
 pub struct Bookmarks {
     bookmarks: Vec<Bookmark>,
-    /// How many instants lie between two bookmarks at least.
+    /// How many instants lie between two of those that are spread.
     spacing: usize,
+    /// How many instants lie before the bookmark that is close before the edit, or 0 where none is wanted.
+    close: usize,
 }
 
 // ---- whether a simulation may begin at a bookmark
@@ -68,59 +83,83 @@ fn is_before(bookmark: &Bookmark, until: Time) -> bool
     bookmark.time() < until
 }
 
-/// Where a plan and that of a bookmark part, if the simulation may begin there: a range with the ids of the directives in which they
-/// differ, and a time before which none of these is due. It costs time linear in the directives.
+/// Whether a simulation may begin at a bookmark: its plan differs from that of the bookmark in directives of a range of ids alone,
+/// none of which is due before a time behind the bookmark. It costs time linear in the directives.
 fn may_resume(
     bookmark: &Bookmark,
     model: &Model,
     plan: &Plan,
     bound: u64,
-) -> Option<(u32, u64, Time)>
+    first: u32,
+    past: u64,
+    until: Time,
+) -> bool
     requires plan { IsPlanOf model.now plan.now }
-    ensures { IfSome result (λ place. MayResume bookmark.now model.now plan.now bound place.0 place.1 place.2) }
+    ensures { IsTrue result → MayResume bookmark.now model.now plan.now bound first past until }
 {
     edited_plans_resume();
     plans_that_differ_late_run_side_by_side();
     let _ = model.cells();
     if !is_like(bookmark, model, plan, bound) {
-        return None;
+        return false;
     }
     let old_plan = bookmark.plan().get();
-    let (first, past, until) = parting_of(plan, old_plan);
     if !is_before(bookmark, until) {
-        return None;
+        return false;
     }
     let directives = plan.directives.as_slice();
     let others = old_plan.directives.as_slice();
     if !are_same_otherwise(first, past, directives, others) {
-        return None;
+        return false;
     }
     if !are_plainly_late(first, past, until, directives) {
-        return None;
+        return false;
     }
     if !are_plainly_late(first, past, until, others) {
-        return None;
+        return false;
     }
-    Some((first, past, until))
+    true
 }
 
-/// The engine of a plan at a bookmark, if its simulation may begin there.
+/// The engine of a plan at a bookmark, if its simulation may begin there. The range and the time are those of `may_resume`.
+#[allow(clippy::too_many_arguments)]
 fn resumed<'a>(
     alloc: Global,
     bookmark: &Bookmark,
     model: &'a Model,
     plan: &Shared<Plan>,
     bound: u64,
+    first: u32,
+    past: u64,
+    until: Time,
 ) -> Result<Option<Engine<'a>>, OutOfMemory>
     requires plan { IsPlanOf model.now plan.now }
     requires bound { bound ≤ step_limit }
     ensures { IfOk result (λ found. IfSome found (IsEngineOf model.now plan.now bound)) }
 {
-    let Some((first, past, until)) = may_resume(bookmark, model, plan.get(), bound) else {
+    if !may_resume(bookmark, model, plan.get(), bound, first, past, until) {
         return Ok(None);
-    };
+    }
     let engine = bookmark.resume(alloc, model, plan, bound, first, past, until)?;
     Ok(Some(engine))
+}
+
+/// How many instants lie before the bookmark that is close before an edit, where the simulation shares so many of the first instants
+/// of a run.
+fn close_before(shared: Option<usize>) -> usize {
+    match shared {
+        Some(count) => count.saturating_sub(MARGIN),
+        None => 0,
+    }
+}
+
+/// How many instants lie between two bookmarks that are spread over so many, or over those that a plan may have.
+fn spacing_for(instants: Option<usize>, plan: &Plan) -> usize {
+    let many = match instants {
+        Some(count) => count,
+        None => plan.directives.len().saturating_mul(INSTANTS_FOR_ONE),
+    };
+    many / SPREAD + 1
 }
 
 impl Bookmarks {
@@ -129,6 +168,19 @@ impl Bookmarks {
         Bookmarks {
             bookmarks: Vec::new(alloc),
             spacing: 1,
+            close: 0,
+        }
+    }
+
+    /// Drops the last bookmark, and those before it that are not before a time.
+    fn drop_from(&mut self, until: Time) {
+        self.bookmarks.pop();
+        for _bookmark in 0..self.bookmarks.len() {
+            match self.bookmarks.last() {
+                Some(bookmark) if until <= bookmark.time() => {}
+                _ => return,
+            }
+            self.bookmarks.pop();
         }
     }
 
@@ -148,48 +200,81 @@ impl Bookmarks {
             let Some(bookmark) = self.bookmarks.last() else {
                 return Ok(None);
             };
-            let found = resumed(alloc, bookmark, model, plan, bound)?;
+            let (first, past, until) = parting_of(plan.get(), bookmark.plan().get());
+            let found = resumed(alloc, bookmark, model, plan, bound, first, past, until)?;
             if found.is_some() {
                 return Ok(found);
             }
-            self.bookmarks.pop();
+            self.drop_from(until);
         }
         Ok(None)
     }
 
-    /// The engine of a plan, at the last bookmark at which its simulation may begin, or else before its first batch. It is to go on beside
-    /// a run of so many instants.
+    /// The engine of a plan, at the last bookmark at which its simulation may begin, or else before its first batch. It is to go on to
+    /// so many instants, if that is known, and shares so many of the first ones with a run, if that is known.
     pub(crate) fn begin<'a>(
         &mut self,
         alloc: Global,
         model: &'a Model,
         plan: &Shared<Plan>,
         bound: u64,
-        instants: usize,
+        instants: Option<usize>,
+        shared: Option<usize>,
     ) -> Result<Engine<'a>, OutOfMemory>
         requires plan { IsPlanOf model.now plan.now }
         requires bound { bound ≤ step_limit }
         ensures { IfOk result (IsEngineOf model.now plan.now bound) }
     {
-        self.spacing = instants / MOST + 1;
+        self.spacing = spacing_for(instants, plan.get());
+        self.close = close_before(shared);
         match self.resume(alloc, model, plan, bound)? {
             Some(engine) => Ok(engine),
             None => Engine::begin(alloc, model, plan, bound),
         }
     }
 
-    /// Whether a simulation is far enough behind the last bookmark, and at the beginning of an instant.
+    /// How many instants lie before the last bookmark.
+    fn past(&self) -> usize {
+        match self.bookmarks.last() {
+            Some(bookmark) => bookmark.instants(),
+            None => 0,
+        }
+    }
+
+    /// Whether a simulation behind so many instants is far enough behind the last bookmark, or close before an edit and not near the last
+    /// bookmark.
+    fn is_wanted(&self, instants: usize) -> bool {
+        let past = self.past();
+        let near = past.saturating_add(self.spacing / CHEAP_PART);
+        instants >= past.saturating_add(self.spacing)
+            || (near < self.close && self.close <= instants)
+    }
+
+    /// Whether that is so at the beginning of an instant.
     fn is_due<'a>(&self, engine: &Engine<'a>) -> bool
         requires { jobs_in engine.now.point ≡ [] → ⊥ }
         ensures { IsTrue result → batches_in engine.now.point ≡ [] }
     {
-        let past = match self.bookmarks.last() {
-            Some(bookmark) => bookmark.instants(),
-            None => 0,
-        };
-        self.bookmarks.len() < MOST
-            && engine.instants().len() >= past.saturating_add(self.spacing)
-            && engine.batches().is_empty()
+        self.is_wanted(engine.instants().len()) && engine.batches().is_empty()
+    }
+
+    /// Puts a bookmark behind the others. Where there are too many, each second one is dropped, and further ones are spread over twice
+    /// the instants. Where there is no memory for it there is a bookmark less.
+    fn put(&mut self, bookmark: Bookmark) {
+        if self.bookmarks.len() >= MOST {
+            self.thin_out();
+            self.spacing = self.spacing.saturating_mul(2);
+        }
+        let _ = self.bookmarks.push(bookmark);
+    }
+
+    /// Drops each second bookmark, but not the last.
+    fn thin_out(&mut self) {
+        for at in 0..self.bookmarks.len() / 2 {
+            if at < self.bookmarks.len() {
+                let _ = self.bookmarks.remove(at);
+            }
+        }
     }
 
     /// Sets the simulation aside as it stands, if that is due. Where there is no memory for it there is a bookmark less.
@@ -201,7 +286,7 @@ impl Bookmarks {
             return;
         }
         if let Ok(bookmark) = engine.bookmark(alloc, model) {
-            let _ = self.bookmarks.push(bookmark);
+            self.put(bookmark);
         }
     }
 }

@@ -1,13 +1,14 @@
 //! Where a simulation beside an old run may end with the rest of that run.
 
-ghost use Rattle.std.specs.Prelude.{◌≡◌, ◌≤◌, ◌+◌, [], IsTrue, IfOk, IfSome};
+ghost use Rattle.std.specs.Prelude.{◌≡◌, ◌≤◌, ◌+◌, ◌++◌, [], length, IsTrue, IfOk, IfSome};
 ghost use Rattle.aerie_base.specs.plans.OfModel.{IsPlanOf};
 ghost use Rattle.run_data.specs.declared.runs.Outcome.TheVariants.{Completed};
 ghost use Rattle.run_data.specs.Fresh.{IsFresh};
 ghost use Rattle.run_data.specs.laws.RunCosts.{cost_of_instants};
-ghost use Rattle.engine_core.specs.EngineStates.{batches_in, jobs_in};
+ghost use Rattle.engine_core.specs.EngineStates.{batches_in, instants_in, jobs_in};
 ghost use Rattle.resimulate.specs.EarlyEnds.{EndAtOnce, IsRest, MayBeEnded};
 ghost use Rattle.resimulate.specs.Partings.{MayEndFrom};
+ghost use Rattle.resimulate.specs.SharedEnds.{SharesEnds};
 
 use crate::alike::tell_alike;
 use crate::costs::left_after_instants;
@@ -18,6 +19,15 @@ use engine_core::Engine;
 use run_data::laws::{rest_of_old_run_is_taken_over, tasks_are_traced_by_their_frames};
 use run_data::{Instant, Outcome, Run};
 use std::alloc::Global;
+
+/// The end of an old run that is that of a new one too.
+#[derive(Drop)]
+pub(crate) struct SharedEnd<'r> {
+    /// How many of the first instants of both are known to be the same.
+    pub(crate) first: usize,
+    /// The last instants of both.
+    pub(crate) rest: &'r [Shared<Instant>],
+}
 
 /// Whether a run came to the end of its plan.
 fn is_completed(run: &Run) -> bool
@@ -87,7 +97,7 @@ pub(crate) fn rest_if_alike<'a, 'r>(
     engine: &Engine<'a>,
     old: &'r Run,
     shared: usize,
-) -> Result<Option<&'r [Shared<Instant>]>, OutOfMemory>
+) -> Result<Option<SharedEnd<'r>>, OutOfMemory>
     requires model { engine.now.model ≡ model.now }
     requires plan { engine.now.plan ≡ plan.now }
     requires bound { engine.now.bound ≡ bound }
@@ -96,7 +106,10 @@ pub(crate) fn rest_if_alike<'a, 'r>(
     requires fresh { IsFresh model.now old.now.plan old.now.bound old.now }
     requires old_plan { IsPlanOf model.now old.now.plan }
     requires may { MayEndFrom model.now plan.now bound old.now shared }
-    ensures { IfOk result (λ found. IfSome found (λ rest. IsRest model.now plan.now bound engine.now rest.now)) }
+    ensures rest { IfOk result (λ found. IfSome found (λ it.
+        IsRest model.now plan.now bound engine.now it.rest.now)) }
+    ensures shares { IfOk result (λ found. IfSome found (λ it. SharesEnds
+        old.now.instants (instants_in engine.now.point ++ it.rest.now) it.first (length it.rest.now))) }
 {
     instants_follow_settled_states();
     frames_tell_alike();
@@ -123,5 +136,5 @@ pub(crate) fn rest_if_alike<'a, 'r>(
     if !alike {
         return Ok(None);
     }
-    Ok(Some(rest))
+    Ok(Some(SharedEnd { first, rest }))
 }

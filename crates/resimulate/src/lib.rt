@@ -2,6 +2,7 @@
 #![tactic(auto)]
 
 mod alike;
+mod alone;
 mod bookmarks;
 mod cells;
 mod costs;
@@ -14,5 +15,6 @@ mod partings;
 mod traces;
 mod walk;
 
+pub use alone::simulate_with_bookmarks;
 pub use bookmarks::Bookmarks;
-pub use walk::resimulate;
+pub use walk::{SharingRun, resimulate, resimulate_sharing};

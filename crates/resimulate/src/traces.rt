@@ -1,6 +1,6 @@
 //! What the frames of some instants leave each task doing.
 
-ghost use Rattle.std.specs.Prelude.{◌≡◌, ◌||◌, Some, [], ◌∷◌, ℕ, IsTrue, IfOk, OnOk};
+ghost use Rattle.std.specs.Prelude.{◌≡◌, ◌||◌, false, Some, List as Items, [], ◌∷◌, ℕ, IsTrue, IfOk, OnOk};
 ghost use Rattle.run_data.specs.Tasks.{children_in};
 ghost use Rattle.run_data.specs.laws.EndedTasks.{is_open_status};
 ghost use Rattle.run_data.specs.laws.TracedTasks.{timed, timed_batches, timed_instants};
@@ -171,6 +171,16 @@ fn note_instants(
     Ok(())
 }
 
+/// Whether nobody is asked for.
+fn asks_for_none(all: bool, roots: &Roots) -> bool
+    ensures { IsTrue result → (path : Items ℕ) → is_asked all roots.now.keys path ≡ false }
+{
+    if all {
+        return false;
+    }
+    roots.is_empty()
+}
+
 /// The traces of the tasks of some instants: of all, or of those that come from these directives and daemons.
 pub(crate) fn traces_of(
     alloc: Global,
@@ -182,6 +192,9 @@ pub(crate) fn traces_of(
         TakesIn (is_asked all roots.now.keys) (timed_instants instants.now) [] traces.entries) }
 {
     let mut traces = IndexMap::new(alloc);
+    if asks_for_none(all, roots) {
+        return Ok(traces);
+    }
     note_instants(&mut traces, all, roots, instants)?;
     Ok(traces)
 }

@@ -1,21 +1,22 @@
 //! The simulation of a plan beside an old run.
 
-ghost use Rattle.std.specs.Prelude.{◌≡◌, ◌≤◌, [], false, None, Some, IsTrue, IfOk, IfSome, option_map, if◌then◌else◌};
+ghost use Rattle.std.specs.Prelude.{◌≡◌, ◌≤◌, ◌++◌, [], length, false, None, Some, IsTrue, IfOk, IfSome, option_map, if◌then◌else◌};
 ghost use Rattle.aerie_base.specs.Ranges.{step_limit};
 ghost use Rattle.aerie_base.specs.plans.OfModel.{IsPlanOf};
 ghost use Rattle.run_data.specs.Fresh.{IsFresh};
 ghost use Rattle.run_data.specs.Waves.{RoseAlike};
 ghost use Rattle.engine_core.specs.BatchGenerations.{Ran};
-ghost use Rattle.engine_core.specs.EngineStates.{batches_in, jobs_in, OfSameModels};
+ghost use Rattle.engine_core.specs.EngineStates.{batches_in, instants_in, jobs_in, OfSameModels};
 ghost use Rattle.fitting.specs.Fitting.{IsOldBatch};
 ghost use Rattle.resimulate.specs.EarlyEnds.{IsRest};
 ghost use Rattle.resimulate.specs.EvenInstants.{PaysForUneven, LooksForUneven};
 ghost use Rattle.resimulate.specs.Partings.{MayEndFrom};
+ghost use Rattle.resimulate.specs.SharedEnds.{SharesEnds};
 ghost use Rattle.resimulate.specs.Walks.{FindsReady, AreOfNextBatch, BatchDiffers, GoesOn, counts_by};
 
 use crate::bookmarks::Bookmarks;
 use crate::cursor::Cursor;
-use crate::early_ends::rest_if_alike;
+use crate::early_ends::{SharedEnd, rest_if_alike};
 use crate::pace::Pace;
 use crate::partings::may_end_from;
 use aerie_base::{Model, OutOfMemory, Plan, Shared, Steps};
@@ -29,6 +30,17 @@ use run_data::laws::{
 use run_data::{Frame, Instant, Kept, Run, Stepper};
 use std::alloc::Global;
 use std::sync::ledger::Ledger;
+
+/// A run that was made beside an old one, and what both have in common.
+#[derive(Drop)]
+pub struct SharingRun {
+    /// The run.
+    pub run: Run,
+    /// How many of the first instants are known to be those of the old run.
+    pub first: usize,
+    /// How many of the last instants are.
+    pub last: usize,
+}
 
 /// Finds the frames of an old batch that fit the ready jobs of an engine, or tells that one of them is not there.
 fn fitting_frames<'a>(
@@ -150,8 +162,8 @@ fn is_due<'a, 'r>(
     yes
 }
 
-/// The rest of the old run, where it is time to compare and it is known to be the rest of the new run. `may_end` is the number of
-/// first instants that both share, where the new run may end so.
+/// The end that the new run shares with the old one, where it is time to compare and that is known. `may_end` is the number of first
+/// instants that both share, where the new run may end so.
 #[allow(clippy::too_many_arguments)]
 fn rest_if_due<'a, 'r>(
     alloc: Global,
@@ -163,7 +175,7 @@ fn rest_if_due<'a, 'r>(
     cursor: &Cursor<'r>,
     may_end: Option<usize>,
     pace: &mut Pace,
-) -> Result<Option<&'r [Shared<Instant>]>, OutOfMemory>
+) -> Result<Option<SharedEnd<'r>>, OutOfMemory>
     requires model { engine.now.model ≡ model.now }
     requires plan { engine.now.plan ≡ plan.now }
     requires bound { engine.now.bound ≡ bound }
@@ -171,8 +183,11 @@ fn rest_if_due<'a, 'r>(
     requires fresh { IsFresh model.now old.now.plan old.now.bound old.now }
     requires old_plan { IsPlanOf model.now old.now.plan }
     requires may { IfSome may_end (λ count. MayEndFrom model.now plan.now bound old.now count) }
-    ensures begins { IfOk result (λ found. IfSome found (λ rest. batches_in engine.now.point ≡ [])) }
-    ensures rest { IfOk result (λ found. IfSome found (λ rest. IsRest model.now plan.now bound engine.now rest.now)) }
+    ensures begins { IfOk result (λ found. IfSome found (λ it. batches_in engine.now.point ≡ [])) }
+    ensures rest { IfOk result (λ found. IfSome found (λ it.
+        IsRest model.now plan.now bound engine.now it.rest.now)) }
+    ensures shares { IfOk result (λ found. IfSome found (λ it. SharesEnds
+        old.now.instants (instants_in engine.now.point ++ it.rest.now) it.first (length it.rest.now))) }
 {
     let Some(shared) = may_end else {
         return Ok(None);
@@ -185,6 +200,84 @@ fn rest_if_due<'a, 'r>(
     }
     let found = rest_if_alike(alloc, model, plan, bound, engine, old, shared)?;
     Ok(found)
+}
+
+/// The fresh run of the plan, for every stepper, and what it has in common with the old run, of any plan of the same model and under
+/// any bound. The bound is at most 100,000,000. A batch whose frames are all among those of the old run at the same time and place is
+/// taken over; where the two are known to be alike behind an instant, the rest of a completed old run is shared, and how many of the
+/// first and the last instants are the same is told. For a completed run `steps` rises by at most what no stored step fits of the
+/// frames of those instants that are not even with the old run, and `looks` by at most two for each of these frames.
+#[allow(clippy::too_many_arguments)]
+pub fn resimulate_sharing<S: Stepper, L: Ledger, K: Ledger>(
+    alloc: Global,
+    model: &Model,
+    old: &Kept,
+    bookmarks: &mut Bookmarks,
+    plan: &Shared<Plan>,
+    bound: u64,
+    stepper: &mut S,
+    steps: &mut Steps<L>,
+    looks: &mut Steps<K>,
+) -> Result<SharingRun, OutOfMemory>
+    requires old { old.now.model ≡ model.now }
+    requires plan { IsPlanOf model.now plan.now }
+    requires bound { bound ≤ step_limit }
+    requires shares { S.shares }
+    requires stepper { S.is_of stepper.old model.now }
+    ensures fresh { IfOk result (λ made. IsFresh model.now plan.now bound made.run) }
+    ensures shares { IfOk result (λ made.
+        SharesEnds old.now.run.instants made.run.instants made.first made.last) }
+    ensures frugal { IfOk result (λ made.
+        PaysForUneven old.now.run made.run (S.records stepper.old) steps.old steps.new) }
+    ensures looks { looks.old ≤ looks.new }
+    ensures few_looks { IfOk result (λ made. LooksForUneven old.now.run made.run looks.old looks.new) }
+    ensures opened { RoseAlike (S.opened stepper.old) steps.old (S.opened stepper.new) steps.new }
+    ensures same_models { OfSameModels (S.is_of stepper.old) (S.is_of stepper.new) }
+    ensures same_records { S.records stepper.new ≡ S.records stepper.old }
+    ensures address { S.address stepper.new ≡ S.address stepper.old }
+{
+    weight_falls();
+    fresh_runs();
+    instants_rise();
+    reached_states_are_of_the_model();
+    what_has_ended_may_be_left_out();
+    let _ = model.cells();
+    let run = old.run();
+    let instants = run.instants.as_slice();
+    let planned = plan.get();
+    let may_end = may_end_from(model, planned, bound, run);
+    let mut found = Vec::new(alloc);
+    let many = Some(instants.len());
+    let mut engine = bookmarks.begin(alloc, model, plan, bound, many, may_end)?;
+    let settled = engine.instants().len();
+    let mut cursor = Cursor::new(instants, settled);
+    let mut pace = Pace::new(instants.len(), planned.directives.as_slice().len(), settled);
+    while !engine.ready().is_empty() {
+        bookmarks.note(alloc, old.model(), &engine);
+        cursor.go_to(engine.time());
+        let ending = rest_if_due(
+            alloc, model, planned, bound, &engine, run, &cursor, may_end, &mut pace,
+        )?;
+        if let Some(ending) = ending {
+            let ended = engine.end_with(ending.rest)?;
+            let last = ending.rest.len();
+            return Ok(SharingRun {
+                run: ended,
+                first: ending.first,
+                last,
+            });
+        }
+        let beside = cursor.batch(engine.batches().len());
+        engine = next_batch(
+            alloc, model, bound, engine, beside, &mut found, &mut pace, stepper, steps, looks,
+        )?;
+    }
+    let made = engine.finish();
+    Ok(SharingRun {
+        run: made,
+        first: 0,
+        last: 0,
+    })
 }
 
 /// The fresh run of the plan, for every stepper, whatever the old run is, of any plan of the same model and under any bound.
@@ -219,35 +312,8 @@ pub fn resimulate<S: Stepper, L: Ledger, K: Ledger>(
     ensures same_records { S.records stepper.new ≡ S.records stepper.old }
     ensures address { S.address stepper.new ≡ S.address stepper.old }
 {
-    weight_falls();
-    fresh_runs();
-    instants_rise();
-    reached_states_are_of_the_model();
-    what_has_ended_may_be_left_out();
-    let _ = model.cells();
-    let run = old.run();
-    let instants = run.instants.as_slice();
-    let planned = plan.get();
-    let may_end = may_end_from(model, planned, bound, run);
-    let mut found = Vec::new(alloc);
-    let mut engine = bookmarks.begin(alloc, model, plan, bound, instants.len())?;
-    let settled = engine.instants().len();
-    let mut cursor = Cursor::new(instants, settled);
-    let mut pace = Pace::new(instants.len(), planned.directives.as_slice().len(), settled);
-    while !engine.ready().is_empty() {
-        bookmarks.note(alloc, old.model(), &engine);
-        cursor.go_to(engine.time());
-        let rest = rest_if_due(
-            alloc, model, planned, bound, &engine, run, &cursor, may_end, &mut pace,
-        )?;
-        if let Some(rest) = rest {
-            let ended = engine.end_with(rest)?;
-            return Ok(ended);
-        }
-        let beside = cursor.batch(engine.batches().len());
-        engine = next_batch(
-            alloc, model, bound, engine, beside, &mut found, &mut pace, stepper, steps, looks,
-        )?;
-    }
-    Ok(engine.finish())
+    let made = resimulate_sharing(
+        alloc, model, old, bookmarks, plan, bound, stepper, steps, looks,
+    )?;
+    Ok(made.run)
 }

@@ -11,13 +11,13 @@ use Rattle.resimulate.proofs.SharedInstants.{differ_late}
 use Rattle.resimulate.proofs.bookmarks.may_resume.Goals as goal
 
 pub returns : goal.returns
-returns c =
+returns c agreed =
     let bookmark = c.args.bookmark.now in
     let model = c.args.model.now in
     let plan = c.args.plan.now in
-    let first = c.parting_of-first.result.0 in
-    let past = c.parting_of-first.result.1 in
-    let until = c.parting_of-first.result.2 in
+    let first = c.args.first in
+    let past = c.args.past in
+    let until = c.args.until in
     let like = c.if-not-is_like.false in
     let old : c.get-old_plan.result.now ≡ bookmark.plan = c.get-old_plan.ensures ∙ c.plan.ensures.plan in
     let others : c.as_slice-others.result.now ≡ bookmark.plan.directives = c.as_slice-others.ensures ∙ ap (λ (p : Plan). p.directives) old in

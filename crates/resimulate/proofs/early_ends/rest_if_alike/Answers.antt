@@ -9,6 +9,7 @@ use Rattle.engine_core.specs.EngineStates.{instants_in}
 use Rattle.resimulate.specs.EarlyEnds.{EndAtOnce}
 use Rattle.resimulate.specs.Likeness.{TellAlike}
 use Rattle.resimulate.proofs.EarlyEnds.{first_same, rest_is}
+use Rattle.resimulate.proofs.EndsInCommon.{shares_both}
 use Rattle.resimulate.proofs.early_ends.rest_if_alike.Goals as goal
 
 pub tell_alike-requires : goal.tell_alike-requires
@@ -32,8 +33,22 @@ tell_alike-requires c =
           c.least-first.ensures.one (subst (λ (l : List Instant). c.least-first.result ≤ length l) c.instants-instants.ensures c.least-first.ensures.other) before rest parts c.least-first.ensures.third;
     }
 
-pub returns : goal.returns
-returns c =
+pub returns-clause-shares : goal.returns-clause-shares
+returns-clause-shares c =
+    let old = c.args.old.now in
+    let before = c.split_at-parts.result.0.now in
+    let rest = c.split_at-parts.result.1.now in
+    let both = c.split_at-parts.ensures in
+    let many = c.least-first.result in
+    let parts : old.instants ≡ before ++ rest =
+    sym c.as_slice-olds.ensures ∙ sym (take-append-drop c.partition_point-at.result c.as_slice-olds.result.now) ∙ (λ i. sym both.front i ++ sym both.back i) in
+    let within = subst (λ (l : List Instant). many ≤ length l) c.instants-instants.ensures c.least-first.ensures.other in
+    shares_both old.instants before rest (instants_in c.args.engine.now.point) many parts within
+    (first_same c.args.model.now c.args.plan.now c.args.bound old c.args.shared c.requires.may.shares c.args.engine.now c.ready.ensures.stands c.requires.model c.requires.plan c.requires.bound many
+    c.least-first.ensures.one within before rest parts c.least-first.ensures.third)
+
+pub returns-clause-rest : goal.returns-clause-rest
+returns-clause-rest c =
     let old = c.args.old.now in
     let before = c.split_at-parts.result.0.now in
     let rest = c.split_at-parts.result.1.now in

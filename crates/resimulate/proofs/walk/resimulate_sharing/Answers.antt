@@ -1,23 +1,26 @@
-use Rattle.std.proofs.Common.{◌≡◌, ◌∙◌, List, [], IfSome, length, sym, ap, subst}
+use Rattle.std.proofs.Common.{◌≡◌, ◌∙◌, List, [], ◌++◌, IfSome, length, sym, ap, subst}
 use Rattle.std.proofs.lemmas.Bool.{eqb-false}
 use Rattle.aerie_base.specs.declared.models.model.Parts.{Parts}
 use Rattle.aerie_base.specs.declared.plans.Plan.{Plan}
 use Rattle.aerie_base.specs.plans.OfModel.{IsPlanOf}
 use Rattle.run_data.specs.TaskFrames.{Frame}
+use Rattle.run_data.specs.declared.runs.Instant.{Instant}
 use Rattle.run_data.specs.declared.runs.Run.{Run}
 use Rattle.run_data.specs.Counts.{rose_not}
 use Rattle.run_data.specs.Fresh.{IsFresh}
 use Rattle.run_data.specs.laws.Rising.{RiseFromStart}
-use Rattle.engine_core.specs.EngineStates.{batches_in, jobs_in}
+use Rattle.engine_core.specs.EngineStates.{batches_in, instants_in, jobs_in}
 use Rattle.fitting.specs.Fitting.{IsOldBatch}
 use Rattle.resimulate.specs.OldBatches.{batch_at, batch_of, instant_at_time}
 use Rattle.engine_core.specs.BatchRuns.{ran_on}
 use Rattle.engine_core.specs.EnginePoints.{some_job, ran_not}
 use Rattle.resimulate.specs.EarlyEnds.{IsRest}
+use Rattle.resimulate.specs.SharedEnds.{SharesEnds}
 use Rattle.resimulate.proofs.EarlyEnds.{ended_fresh, ended_pays, ended_looks}
+use Rattle.resimulate.proofs.EndsInCommon.{shares_nothing}
 use Rattle.resimulate.proofs.Looping.{beside_first, beside_on, beside_less}
 use Rattle.resimulate.proofs.OldBatches.{old_batches_are, beside_is}
-use Rattle.resimulate.proofs.walk.resimulate.Goals as goal
+use Rattle.resimulate.proofs.walk.resimulate_sharing.Goals as goal
 
 pub returns-in_err-engine-clause-opened : goal.returns-in_err-engine-clause-opened
 returns-in_err-engine-clause-opened g c = rose_not (g.S.Stepper.opened c.args.stepper.now) c.args.steps.now (g.S.Stepper.counted c.args.stepper.now)
@@ -108,8 +111,8 @@ may_end_from-may_end-requires-clause-old_plan g c =
     subst (λ (r : Run). IsPlanOf c.args.model.now r.plan) (sym c.run-run.ensures.value)
     (subst (λ (m : Parts). IsPlanOf m c.args.old.now.run.plan) c.requires.old c.run-run.ensures.plan)
 
-pub returns-in_err-rest-clause-opened : goal.returns-in_err-rest-clause-opened
-returns-in_err-rest-clause-opened g c = c.loop-run.invariant.ran.rose
+pub returns-in_err-ending-clause-opened : goal.returns-in_err-ending-clause-opened
+returns-in_err-ending-clause-opened g c = c.loop-run.invariant.ran.rose
 
 pub returns-in_err-ended-clause-opened : goal.returns-in_err-ended-clause-opened
 returns-in_err-ended-clause-opened g c = c.loop-run.invariant.ran.rose
@@ -117,17 +120,35 @@ returns-in_err-ended-clause-opened g c = c.loop-run.invariant.ran.rose
 pub returns-in-Some-clause-fresh : goal.returns-in-Some-clause-fresh
 returns-in-Some-clause-fresh g c =
     ended_fresh c.args.model.now c.args.plan.now c.args.bound c.args.old.now.run (g.S.Stepper.records c.args.stepper.now) c.args.steps.now c.args.looks.now c.loop-run.engine c.loop-run.steps
-    c.loop-run.looks c.loop-run.invariant.beside c.in-Some.rest.now c.in_ok-ended.ended c.in_ok-ended.ensures
-    (subst (λ (p : Plan). IsRest c.args.model.now p c.args.bound c.loop-run.engine c.in-Some.rest.now) c.get-planned.ensures (subst (λ found. IfSome found (λ rest. IsRest c.args.model.now c.get-planned.result.now c.args.bound c.loop-run.engine rest.now)) c.in-Some.is c.in_ok-rest.ensures.rest))
+    c.loop-run.looks c.loop-run.invariant.beside c.in-Some.ending.rest.now c.in_ok-ended.ended c.in_ok-ended.ensures
+    (subst (λ (p : Plan). IsRest c.args.model.now p c.args.bound c.loop-run.engine c.in-Some.ending.rest.now) c.get-planned.ensures (subst (λ found. IfSome found (λ it. IsRest c.args.model.now c.get-planned.result.now c.args.bound c.loop-run.engine it.rest.now)) c.in-Some.is c.in_ok-ending.ensures.rest))
 
 pub returns-in-Some-clause-frugal : goal.returns-in-Some-clause-frugal
 returns-in-Some-clause-frugal g c =
     let some = some_job (jobs_in c.loop-run.engine.point) c.ready.result.now c.ready.ensures.jobs (eqb-false _ 0 (sym c.is_empty.ensures ∙ c.loop-run-test.true)) in
     ended_pays c.args.model.now c.args.plan.now c.args.bound c.args.old.now.run (g.S.Stepper.records c.args.stepper.now) c.args.steps.now c.args.looks.now c.loop-run.engine c.loop-run.steps
-    c.loop-run.looks c.loop-run.invariant.beside c.in-Some.rest.now c.in_ok-ended.ended c.in_ok-ended.ensures some (subst (λ found. IfSome found (λ rest. batches_in c.loop-run.engine.point ≡ [])) c.in-Some.is c.in_ok-rest.ensures.begins)
+    c.loop-run.looks c.loop-run.invariant.beside c.in-Some.ending.rest.now c.in_ok-ended.ended c.in_ok-ended.ensures some (subst (λ found. IfSome found (λ it. batches_in c.loop-run.engine.point ≡ [])) c.in-Some.is c.in_ok-ending.ensures.begins)
 
 pub returns-in-Some-clause-few_looks : goal.returns-in-Some-clause-few_looks
 returns-in-Some-clause-few_looks g c =
     let some = some_job (jobs_in c.loop-run.engine.point) c.ready.result.now c.ready.ensures.jobs (eqb-false _ 0 (sym c.is_empty.ensures ∙ c.loop-run-test.true)) in
     ended_looks c.args.model.now c.args.plan.now c.args.bound c.args.old.now.run (g.S.Stepper.records c.args.stepper.now) c.args.steps.now c.args.looks.now c.loop-run.engine c.loop-run.steps
-    c.loop-run.looks c.loop-run.invariant.beside c.in-Some.rest.now c.in_ok-ended.ended c.in_ok-ended.ensures some (subst (λ found. IfSome found (λ rest. batches_in c.loop-run.engine.point ≡ [])) c.in-Some.is c.in_ok-rest.ensures.begins)
+    c.loop-run.looks c.loop-run.invariant.beside c.in-Some.ending.rest.now c.in_ok-ended.ended c.in_ok-ended.ensures some (subst (λ found. IfSome found (λ it. batches_in c.loop-run.engine.point ≡ [])) c.in-Some.is c.in_ok-ending.ensures.begins)
+
+-- ---- what both have in common
+
+pub returns-in-Some-clause-shares : goal.returns-in-Some-clause-shares
+returns-in-Some-clause-shares g c =
+    let old = c.args.old.now.run in
+    let rest = c.in-Some.ending.rest.now in
+    let first = c.in-Some.ending.first in
+    let ended = c.in_ok-ended.ended in
+    let whole = instants_in c.loop-run.engine.point ++ rest in
+    let shares : SharesEnds c.run-run.result.now.instants whole first (length rest) =
+    subst (λ found. IfSome found (λ it. SharesEnds c.run-run.result.now.instants (instants_in c.loop-run.engine.point ++ it.rest.now) it.first (length it.rest.now))) c.in-Some.is
+    c.in_ok-ending.ensures.shares in
+    subst (λ (l : List Instant). SharesEnds old.instants l first (length rest)) (sym (ap (λ (r : Run). r.instants) c.in_ok-ended.ensures))
+    (subst (λ (r : Run). SharesEnds r.instants whole first (length rest)) c.run-run.ensures.value shares)
+
+pub returns-clause-shares : goal.returns-clause-shares
+returns-clause-shares g c = shares_nothing c.args.old.now.run.instants c.finish-made.result.instants

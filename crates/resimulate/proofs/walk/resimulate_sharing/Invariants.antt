@@ -2,7 +2,7 @@ use Rattle.std.proofs.Common.{◌≡◌}
 use Rattle.engine_core.specs.BatchGenerations.{Ran}
 use Rattle.engine_core.specs.EnginePoints.{point_weight}
 use Rattle.resimulate.proofs.Looping.{IsBeside}
-use Rattle.resimulate.proofs.walk.resimulate.Given as goal
+use Rattle.resimulate.proofs.walk.resimulate_sharing.Given as goal
 
 -- the engine is of the plan, what was run so far is counted, and the cursor is over the old run
 abbrev pub invariant-loop-run : goal.invariant-loop-run
