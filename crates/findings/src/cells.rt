@@ -95,11 +95,7 @@ fn later(state: CellState, dt: Time) -> CellState
 }
 
 /// The states at a time that is not before any of them was settled.
-fn states_then(
-    alloc: Global,
-    states: &[Settled],
-    t: Time,
-) -> Result<List<CellState>, OutOfMemory>
+fn states_then(alloc: Global, states: &[Settled], t: Time) -> Result<List<CellState>, OutOfMemory>
     requires { AreAllInRange states.now }
     ensures { IfOk result (λ cells. cells ≡ states_then t states.now) }
 {
