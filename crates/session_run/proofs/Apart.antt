@@ -98,4 +98,5 @@ reports_tell mission count branch another revision plan kept other attach attach
       revision = revision;
       attached = attached;
       statements = count;
+      detail = mission.form.detail;
     })) same

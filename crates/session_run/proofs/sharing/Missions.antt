@@ -9,6 +9,7 @@ use denote.Struct.Field.{row_field}
 use Rattle.aerie_base.proofs.containers.list.List.TheSendSync as ListSent
 use Rattle.aerie_base.proofs.containers.shared.Shared.TheSendSync as SharedSent
 use Rattle.client_work.specs.contracts.missions.Mission as MissionRow
+use Rattle.client_work.specs.contracts.missions.ReportForm as FormRow
 use Rattle.client_work.specs.contracts.missions.RuledModel as RuledRow
 use Rattle.client_work.specs.contracts.workplace.Workplace as WorkplaceRow
 use Rattle.epoch_text.proofs.start.Start.TheSendSync as StartSent
@@ -41,10 +42,16 @@ ruled_sync = declared_sync RuledRow.the_type (
   ),
 )
 
+form_sync : IsSync FormRow.the_row
+form_sync = declared_sync FormRow.the_type (
+  as_row_sync denote.Struct.Field.bool-field bool_sync,
+  (as_row_sync denote.Struct.Field.bool-field bool_sync, tt),
+)
+
 mission_sync : IsSync MissionRow.the_row
 mission_sync = declared_sync MissionRow.the_type (
   ListSent.the_sync _ ruled_sync,
-  (StartSent.the_sync, (as_row_sync denote.Struct.Field.u64-field u64_sync, (as_row_sync denote.Struct.Field.bool-field bool_sync, tt))),
+  (StartSent.the_sync, (as_row_sync denote.Struct.Field.u64-field u64_sync, (form_sync, tt))),
 )
 
 pub workplace_sync : (a : NamedLft) (R G : RattleType) → IsSync R → IsSync G → IsSync (WorkplaceRow.the_row a R G)
