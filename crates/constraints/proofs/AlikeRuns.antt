@@ -73,7 +73,7 @@ module _ (model : Parts) (run other : Run) (reach : run.reach ≡ other.reach) w
   same_reading : (reading : Reading) (t : ℕ) → t < run.reach → ((number : ℕ) → reads_resource number reading ≡ true → HaveSameValues model run other number) →
       reading_value model run reading t ≡ reading_value model other reading t
   same_reading (read.Resource number) t below values = values number (equal_is number) t below
-  same_reading (read.Series series) t below values = refl
+  same_reading (read.Series name series) t below values = refl
 
   same_terms : (terms : List RuleTerm) (t : ℕ) → t < run.reach →
       ((number : ℕ) → list_any (λ (term : RuleTerm). reads_resource number term.resource) terms ≡ true → HaveSameValues model run other number) →

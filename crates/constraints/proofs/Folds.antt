@@ -44,8 +44,17 @@ right_of : (a b : Bool) → IsTrue (a && b) → IsTrue b
 right_of true b both = both
 right_of false b both = absurd (true≢false (sym both))
 
-handed_shift : (x : ℤ) → IsTrue (is_shift x) → to_z w64 (of_z w64 x) ≡ x
+pub handed_shift : (x : ℤ) → IsTrue (is_shift x) → to_z w64 (of_z w64 x) ≡ x
 handed_shift x is = let small = leb-true (unsigned_abs x) 1_000_000_000_000_000 is in to_z-of_z w64 x (fits_signed_from_abs w64 x (omega (arith, small)))
+
+-- what is handed on of both numbers of a moved window is these
+pub shift_handed : (model : Parts) (window part : Window) (start end : ℤ) → window ≡ Shift part start end → IsTrue (is_window_by_fold model window) → (to_z w64 (of_z w64 start) ≡ start) × (to_z w64 (of_z w64 end) ≡ end)
+shift_handed model window part start end is typed =
+    let good : IsTrue ((is_window_by_fold model part && is_shift start) && is_shift end) =
+    subst IsTrue (ap (is_window_by_fold model) is ∙ fold_shift Bool false (window_step model) part start end) typed in (
+      handed_shift start (right_of (is_window_by_fold model part) (is_shift start) (left_of (is_window_by_fold model part && is_shift start) (is_shift end) good)),
+      handed_shift end (right_of (is_window_by_fold model part && is_shift start) (is_shift end) good),
+    )
 
 pub shift_held : (model : Parts) (run : Run) (window : Window) (bound : Option Interval) (part : Window) (start end : ℤ) (inner : TimeSet) (result : Result TimeSet OutOfMemory) → window ≡ Shift part start end →
     IsTrue (is_window_by_fold model window) → inner.reach ≡ run.reach → AreIntervals inner.reach (holds_by_fold model run part bound) inner.intervals →
@@ -53,10 +62,9 @@ pub shift_held : (model : Parts) (run : Run) (window : Window) (bound : Option I
     AreIntervals made.reach (λ t. shifted_contains (to_z w64 (of_z w64 start)) (to_z w64 (of_z w64 end)) (intervals_of inner.reach test) t) made.intervals) →
     IfOk result (λ made. AreIntervals made.reach (holds_by_fold model run window bound) made.intervals)
 shift_held model run window bound part start end inner (Ok made) is typed reach held shifted =
-    let good : IsTrue ((is_window_by_fold model part && is_shift start) && is_shift end) =
-    subst IsTrue (ap (is_window_by_fold model) is ∙ fold_shift Bool false (window_step model) part start end) typed in
-    let start_is = handed_shift start (right_of (is_window_by_fold model part) (is_shift start) (left_of (is_window_by_fold model part && is_shift start) (is_shift end) good)) in
-    let end_is = handed_shift end (right_of (is_window_by_fold model part && is_shift start) (is_shift end) good) in
+    let handed = shift_handed model window part start end is typed in
+    let start_is = handed.0 in
+    let end_is = handed.1 in
     let whole = ap (λ (w : Window). holds_by_fold model run w bound) is ∙ fold_shift (ℕ → Bool) (λ t. false) (window_holds_step model run bound) part start end in
     subst (λ (f : ℕ → Bool). AreIntervals made.reach f made.intervals)
     ((λ i t. shifted_contains (start_is i) (end_is i) (intervals_of (reach i) (holds_by_fold model run part bound)) t) ∙ sym whole)

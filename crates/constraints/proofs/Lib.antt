@@ -9,6 +9,7 @@ pub mod Listing
 pub mod Mapping
 pub mod Meetings
 pub mod Merging
+pub mod Nearness
 pub mod Pushing
 pub mod ReadSeries
 pub mod ReadByRules
@@ -17,6 +18,8 @@ pub mod SeriesByRules
 pub mod SpanOrder
 pub mod SpanTimes
 pub mod Splicing
+pub mod SpanParts
+pub mod SpanMargins
 pub mod StepTimes
 pub mod SumTerms
 pub mod Sweeping

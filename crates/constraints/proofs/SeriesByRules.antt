@@ -56,48 +56,48 @@ truth_is (entry ∷ rest) t are = truth_value entry rest t
 -- ---- what a rule may read
 
 -- a dataset that is read is one
-pub series_given : (model : Parts) (of : Kind) (series : Series) → IsTrue (is_of_kind of (reading_kind model (read.Series series))) → IsSeries series
-series_given model of series typed = go (is_series series) refl typed
+pub series_given : (model : Parts) (of : Kind) (name : List ℕ) (series : Series) → IsTrue (is_of_kind of (reading_kind model (read.Series name series))) → IsSeries series
+series_given model of name series typed = go (is_series series) refl typed
   where
     go : (b : Bool) → is_series series ≡ b → IsTrue (is_of_kind of (if b then Some (series_kind series) else None)) → IsSeries series
     go true e typed = series_is series e
     go false e typed = absurd (true≢false (sym typed))
 
-pub series_equal : (model : Parts) (v : Value) (series : Series) → IsTrue (may_equal model v (reading_kind model (read.Series series))) → IsSeries series
-series_equal model v series typed = go (is_series series) refl typed
+pub series_equal : (model : Parts) (v : Value) (name : List ℕ) (series : Series) → IsTrue (may_equal model v (reading_kind model (read.Series name series))) → IsSeries series
+series_equal model v name series typed = go (is_series series) refl typed
   where
     go : (b : Bool) → is_series series ≡ b → IsTrue (may_equal model v (if b then Some (series_kind series) else None)) → IsSeries series
     go true e typed = series_is series e
     go false e typed = absurd (true≢false (sym typed))
 
 -- no numbers are compared with a value
-pub whole_apart : (model : Parts) (v : Value) (entries : List (ℕ × ℤ)) → IsTrue (may_equal model v (reading_kind model (read.Series (Whole entries)))) → ⊥
-whole_apart model v entries typed = go (is_series (Whole entries)) typed
+pub whole_apart : (model : Parts) (v : Value) (name : List ℕ) (entries : List (ℕ × ℤ)) → IsTrue (may_equal model v (reading_kind model (read.Series name (Whole entries)))) → ⊥
+whole_apart model v name entries typed = go (is_series (Whole entries)) typed
   where
     go : (b : Bool) → IsTrue (may_equal model v (if b then Some kind.Int else None)) → ⊥
     go true typed = true≢false (sym typed)
     go false typed = true≢false (sym typed)
 
-pub linear_apart : (model : Parts) (v : Value) (segments : List Segment) → IsTrue (may_equal model v (reading_kind model (read.Series (Linear segments)))) → ⊥
-linear_apart model v segments typed = go (is_series (Linear segments)) typed
+pub linear_apart : (model : Parts) (v : Value) (name : List ℕ) (segments : List Segment) → IsTrue (may_equal model v (reading_kind model (read.Series name (Linear segments)))) → ⊥
+linear_apart model v name segments typed = go (is_series (Linear segments)) typed
   where
     go : (b : Bool) → IsTrue (may_equal model v (if b then Some kind.Int else None)) → ⊥
     go true typed = true≢false (sym typed)
     go false typed = true≢false (sym typed)
 
 -- truths are no numbers
-pub numbers_given : (model : Parts) (series : Series) → IsTrue (is_of_kind kind.Int (reading_kind model (read.Series series))) → IsOfNumbers series
-numbers_given model (Whole entries) typed = tt
-numbers_given model (Linear segments) typed = tt
-numbers_given model (Truth entries) typed = absurd (go (is_series (Truth entries)) typed)
+pub numbers_given : (model : Parts) (name : List ℕ) (series : Series) → IsTrue (is_of_kind kind.Int (reading_kind model (read.Series name series))) → IsOfNumbers series
+numbers_given model name (Whole entries) typed = tt
+numbers_given model name (Linear segments) typed = tt
+numbers_given model name (Truth entries) typed = absurd (go (is_series (Truth entries)) typed)
   where
     go : (b : Bool) → IsTrue (is_of_kind kind.Int (if b then Some kind.Truth else None)) → ⊥
     go true typed = true≢false (sym typed)
     go false typed = true≢false (sym typed)
 
-pub truth_times_are : (model : Parts) (run : Run) (v : Value) (equal : Bool) (entries : List (ℕ × Bool)) (steps : List Step) (made : TimeSet) → AreStarts (map (λ entry. entry.0) entries) → steps ≡ map truth_step entries →
-    made.reach ≡ run.reach → AreIntervals made.reach (λ t. equals_or_not equal (same_value (step_value steps t) v)) made.intervals → AreTimesEqual model run (read.Series (Truth entries)) v equal made
-truth_times_are model run v equal entries steps made starts steps_are reach times = record {
+pub truth_times_are : (model : Parts) (run : Run) (name : List ℕ) (v : Value) (equal : Bool) (entries : List (ℕ × Bool)) (steps : List Step) (made : TimeSet) → AreStarts (map (λ entry. entry.0) entries) → steps ≡ map truth_step entries →
+    made.reach ≡ run.reach → AreIntervals made.reach (λ t. equals_or_not equal (same_value (step_value steps t) v)) made.intervals → AreTimesEqual model run (read.Series name (Truth entries)) v equal made
+truth_times_are model run name v equal entries steps made starts steps_are reach times = record {
   reach_is = reach;
   times = same_times made.reach _ _ made.intervals
       (λ t below. ap (λ (x : Value). equals_or_not equal (same_value x v)) (ap (λ (l : List Step). step_value l t) steps_are ∙ truth_is entries t starts)) times;
@@ -145,11 +145,11 @@ series_value (Truth entries) t numbers = absurd numbers
 series_value (Whole entries) t numbers = refl
 series_value (Linear segments) t numbers = refl
 
-pub series_pieces : (model : Parts) (run : Run) (series : Series) (made : List Segment) → IsTrue (is_of_kind kind.Int (reading_kind model (read.Series series))) → IsTime run.reach → AreSegments run.reach made →
-    ((t : ℕ) → t < run.reach → segments_value made t ≡ segments_value (segments_of series) t) → FollowsReading model run (read.Series series) made
-series_pieces model run series made typed time form values = record {
+pub series_pieces : (model : Parts) (run : Run) (name : List ℕ) (series : Series) (made : List Segment) → IsTrue (is_of_kind kind.Int (reading_kind model (read.Series name series))) → IsTime run.reach → AreSegments run.reach made →
+    ((t : ℕ) → t < run.reach → segments_value made t ≡ segments_value (segments_of series) t) → FollowsReading model run (read.Series name series) made
+series_pieces model run name series made typed time form values = record {
   form = form;
-  values = λ t below. values t below ∙ series_value series t (numbers_given model series typed);
+  values = λ t below. values t below ∙ series_value series t (numbers_given model name series typed);
   small = λ t below.
-      subst (λ (z : ℤ). unsigned_abs z ≤ 2_000_000_000_000_000_000_000_000_000) (sym (values t below)) (series_small series t (series_given model kind.Int series typed) (omega (arith, below, time)));
+      subst (λ (z : ℤ). unsigned_abs z ≤ 2_000_000_000_000_000_000_000_000_000) (sym (values t below)) (series_small series t (series_given model kind.Int name series typed) (omega (arith, below, time)));
 }

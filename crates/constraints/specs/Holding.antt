@@ -38,7 +38,7 @@ value_of_resource model run (Some named) t = resource_value model run named.1 t
 -- the value of what a rule reads, at a time below the reach
 abbrev pub reading_value : Parts → Run → Reading → ℕ → Value
 reading_value model run (read.Resource number) t = value_of_resource model run (slice_get model.resources number) t
-reading_value model run (read.Series series) t = level_value (level_at series t)
+reading_value model run (read.Series name series) t = level_value (level_at series t)
 
 -- ---- sums
 

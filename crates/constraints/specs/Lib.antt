@@ -15,6 +15,7 @@ pub mod Recursion
 pub mod RecursionLaws
 pub mod SeriesLaws
 pub mod Sources
+pub mod SpanWindows
 pub mod SpansByStart
 pub mod Steps
 pub mod SumPieces

@@ -13,7 +13,7 @@ use Rattle.constraints.specs.declared.types.Window.TheOpen.{Window-F}
 -- whether the resource with the number is read
 abbrev pub reads_resource : ℕ → Reading → Bool
 reads_resource number (read.Resource other) = nat_eq other number
-reads_resource number (read.Series series) = false
+reads_resource number (read.Series name series) = false
 
 -- whether a term of the sum reads it
 abbrev pub sum_reads_resource : ℕ → RuleSum → Bool

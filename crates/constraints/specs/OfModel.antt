@@ -46,7 +46,7 @@ series_kind (series.Linear segments) = kind.Int
 -- the type of what a rule reads, where there is such a thing; a dataset is one that was read
 abbrev pub reading_kind : Parts → Reading → Option Kind
 reading_kind model (read.Resource number) = resource_kind model.cells (slice_get model.resources number)
-reading_kind model (read.Series series) = if is_series series then Some (series_kind series) else None
+reading_kind model (read.Series name series) = if is_series series then Some (series_kind series) else None
 
 abbrev pub is_of_kind : Kind → Option Kind → Bool
 is_of_kind kind None = false

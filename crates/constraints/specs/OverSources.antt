@@ -1,5 +1,5 @@
 -- What windows and rules are over the model and the run of an evaluation.
-use Rattle.std.specs.Prelude.{◌≡◌, ℕ, Bool, true, List, map, Option, Some, None}
+use Rattle.std.specs.Prelude.{◌≡◌, ℕ, ◌<◌, Bool, true, IsTrue, List, map, Option, Some, None}
 use Rattle.aerie_base.specs.declared.expressions.Comparison.{Comparison}
 use Rattle.aerie_base.specs.declared.values.Value.{Value}
 use Rattle.aerie_base.specs.expressions.Arithmetic.{compared, truth_in}
@@ -9,8 +9,9 @@ use Rattle.span_table.specs.declared.span.Span.{Span}
 use Rattle.windows.specs.Times.{Interval, TimeSet}
 use Rattle.windows.specs.declared.segments.Segment.{Segment}
 use Rattle.constraints.specs.declared.judging.Prepared.{Prepared}
-use Rattle.constraints.specs.declared.judging.Prepared.TheVariants.{Nothing, Twice}
+use Rattle.constraints.specs.declared.judging.Prepared.TheVariants.{Near, Twice}
 use Rattle.constraints.specs.declared.sources.Sources.{Sources}
+use Rattle.constraints.specs.declared.span_windows.SpanWindow.{SpanWindow}
 use Rattle.constraints.specs.declared.types.Reading.{Reading}
 use Rattle.constraints.specs.declared.types.RuleSum.{RuleSum}
 use Rattle.constraints.specs.declared.types.Window.{Window}
@@ -20,6 +21,7 @@ use Rattle.constraints.specs.Following.{AreTimesEqual, FollowsReading}
 use Rattle.constraints.specs.Holding.{reading_value, some_covers, sum_value, window_holds}
 use Rattle.constraints.specs.Local.{is_local}
 use Rattle.constraints.specs.Judging.{times_held, times_not_held, violations_if}
+use Rattle.constraints.specs.SpanWindows.{IsMargin, holds_for, is_below}
 use Rattle.constraints.specs.Violating.{violations_of_spans}
 
 -- ---- when something holds
@@ -66,12 +68,27 @@ AreEqualOver sources reading value equal made = AreTimesEqual sources.model.now 
 abbrev pub FollowOver : Sources → Reading → List Segment → Type 0
 FollowOver sources reading made = FollowsReading sources.model.now sources.run.now reading made
 
--- what was evaluated for all spans of a rule is of this window: of one that is local the times at which it does not hold, for no
--- span and for one that lasts as long as the run
+-- ---- what was evaluated for all spans of a rule
+
+-- it holds as the window does, for each span and for none, at each time of the run
+abbrev pub HoldsAsWindow : Sources → Window → SpanWindow → Type 0
+HoldsAsWindow sources window made =
+    (bound : Option Interval) (t : ℕ) → t < sources.run.now.reach → holds_for sources.run.now.reach made bound t ≡ holds_over sources window bound t
+
+abbrev pub HoldsAsFolded : Sources → Window → SpanWindow → Type 0
+HoldsAsFolded sources window made =
+    (bound : Option Interval) (t : ℕ) → t < sources.run.now.reach → holds_for sources.run.now.reach made bound t ≡ folded_over sources window bound t
+
+-- it is of this window: of one that is local the times at which it does not hold, for no span and for one that lasts as long as the
+-- run; of any other its parts, the times at which it does not hold for no span, and how far from a span it may hold otherwise
 abbrev pub IsPrepared : Sources → Window → Prepared → Type 0
-IsPrepared sources window Nothing = Unit {0}
 IsPrepared sources window (Twice outside inside) =
     (is_local window ≡ true) × (outside ≡ not_held_over sources window None) × (inside ≡ not_held_over sources window (endless sources))
+IsPrepared sources window (Near parts outside margin) =
+    IsTrue (is_below sources.run.now.reach parts)
+    × HoldsAsWindow sources window parts
+    × (outside ≡ not_held_over sources window None)
+    × IsMargin sources.run.now.reach parts margin
 
 -- ---- violations of a rule for each span of a type
 

@@ -9,24 +9,28 @@ use std::alloc::Global;
 
 impl Reading {
     /// An equal reading; a dataset is shared.
-    pub fn copy(&self) -> Result<Reading, OutOfMemory>
+    pub fn copy(&self, alloc: Global) -> Result<Reading, OutOfMemory>
         ensures { IfOk result (λ copy. copy ≡ self.now) }
     {
         match self {
             Reading::Resource(number) => Ok(Reading::Resource(*number)),
-            Reading::Series(series) => Ok(Reading::Series(series.share()?)),
+            Reading::Series { name, series } => {
+                let series = series.share()?;
+                let name = name.copy(alloc)?;
+                Ok(Reading::Series { name, series })
+            }
         }
     }
 }
 
 impl RuleTerm {
     /// An equal term.
-    pub fn copy(&self) -> Result<RuleTerm, OutOfMemory>
+    pub fn copy(&self, alloc: Global) -> Result<RuleTerm, OutOfMemory>
         ensures { IfOk result (λ copy. copy ≡ self.now) }
     {
         Ok(RuleTerm {
             coefficient: self.coefficient,
-            resource: self.resource.copy()?,
+            resource: self.resource.copy(alloc)?,
         })
     }
 }
@@ -37,7 +41,7 @@ fn copy_terms(alloc: Global, terms: &[RuleTerm]) -> Result<List<RuleTerm>, OutOf
 {
     let mut copies = List::with_capacity(alloc, terms.len())?;
     for term in terms {
-        copies.push(term.copy()?)?;
+        copies.push(term.copy(alloc)?)?;
     }
     Ok(copies)
 }
@@ -84,13 +88,13 @@ impl Window {
                 of: Boxed::new(alloc, of.get().copy(alloc)?)?,
                 least: *least,
             }),
-            Window::Truth(reading) => Ok(Window::Truth(reading.copy()?)),
+            Window::Truth(reading) => Ok(Window::Truth(reading.copy(alloc)?)),
             Window::Same {
                 resource,
                 value,
                 equal,
             } => Ok(Window::Same {
-                resource: resource.copy()?,
+                resource: resource.copy(alloc)?,
                 value: *value,
                 equal: *equal,
             }),

@@ -11,7 +11,7 @@ fn reads_resource(reading: &Reading, number: u16) -> bool
 {
     match reading {
         Reading::Resource(other) => *other == number,
-        Reading::Series(_) => false,
+        Reading::Series { .. } => false,
     }
 }
 

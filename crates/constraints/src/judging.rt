@@ -8,16 +8,20 @@ ghost use Rattle.span_table.specs.SpanLaws.{AreSpansOf, IsInTime};
 ghost use Rattle.constraints.specs.Judging.{times_held};
 ghost use Rattle.constraints.specs.Local.{is_local as local};
 ghost use Rattle.constraints.specs.OfModel.{is_constraint, is_window};
-ghost use Rattle.constraints.specs.OverSources.{IsPrepared, all_violations_over, endless, held_over, not_held_over, violations_over};
+ghost use Rattle.constraints.specs.OverSources.{HoldsAsWindow, IsPrepared, all_violations_over, endless, held_over, not_held_over, violations_over};
 ghost use Rattle.constraints.specs.Sources.{AreSources};
+ghost use Rattle.constraints.specs.SpanWindows.{IsMargin, is_below};
 ghost use Rattle.constraints.specs.Violating.{AreOfRule, listed_times, violations_of};
 ghost use Rattle.constraints.specs.declared.types.Rule.TheVariants as rule;
 
 use crate::evaluation::holding;
 use crate::local::is_local;
 use crate::meeting::meetings;
+use crate::near_spans::{earlier_by, holding_near, later_by, margin};
+use crate::preparing::for_spans;
 use crate::sources::Sources;
 use crate::span_times::{is_of_type, times_of};
+use crate::span_windows::SpanWindow;
 use crate::types::{Constraint, Rule, Window};
 use crate::violation::Violation;
 use aerie_base::{List, Model, OutOfMemory, Path, Time};
@@ -231,25 +235,66 @@ fn spliced(
 /// What is evaluated of a window for all spans of a rule.
 #[derive(Drop)]
 pub(crate) enum Prepared {
-    /// Nothing: it is evaluated for each of them.
-    Nothing,
     /// Of a window that is local, the times at which it does not hold for no span, and for one that lasts as long as the run.
-    Twice { outside: Windows, inside: Windows },
+    Twice {
+        outside: Windows,
+        inside: Windows,
+    },
+    /// Of any other, its parts, the times at which it does not hold for no span, and how far from a span it may hold otherwise.
+    Near {
+        parts: SpanWindow,
+        outside: Windows,
+        margin: Time,
+    },
 }
 
-/// Evaluates what may be evaluated once for all spans: a local window, twice.
+/// Evaluates what may be evaluated once for all spans: a local window, twice; of any other, what does not speak of the span.
 fn prepare(alloc: Global, sources: &Sources, window: &Window) -> Result<Prepared, OutOfMemory>
     requires sources { AreSources sources.now }
     requires window { IsTrue (is_window sources.now.model.now window.now) }
     ensures { IfOk result (IsPrepared sources.now window.now) }
 {
-    if !is_local(window) {
-        return Ok(Prepared::Nothing);
-    }
-    let endless = Some((Time::zero(), sources.run.reach));
     let outside = not_held(alloc, sources, window, &None)?;
-    let inside = not_held(alloc, sources, window, &endless)?;
-    Ok(Prepared::Twice { outside, inside })
+    if is_local(window) {
+        let endless = Some((Time::zero(), sources.run.reach));
+        let inside = not_held(alloc, sources, window, &endless)?;
+        return Ok(Prepared::Twice { outside, inside });
+    }
+    let parts = for_spans(alloc, sources, window)?;
+    let margin = margin(&parts, sources.run.reach);
+    Ok(Prepared::Near {
+        parts,
+        outside,
+        margin,
+    })
+}
+
+/// The times at which a window does not hold for a span: farther from it than the margin those for no span, and nearer those that its
+/// parts give.
+fn patched(
+    alloc: Global,
+    sources: &Sources,
+    window: &Window,
+    parts: &SpanWindow,
+    outside: &Windows,
+    margin: Time,
+    times: &(Time, Time),
+) -> Result<Windows, OutOfMemory>
+    requires below { IsTrue (is_below sources.now.run.now.reach parts.now) }
+    requires holds { HoldsAsWindow sources.now window.now parts.now }
+    requires outside { outside.now ≡ not_held_over sources.now window.now None }
+    requires margin { IsMargin sources.now.run.now.reach parts.now margin }
+    requires order { times.now.0 ≤ times.now.1 }
+    requires within { times.now.1 ≤ sources.now.run.now.reach }
+    ensures { IfOk result (λ made. made ≡ not_held_over sources.now window.now (Some times.now)) }
+{
+    let reach = sources.run.reach;
+    let from = earlier_by(times.0, margin);
+    let to = later_by(times.1, margin, reach);
+    let held = holding_near(alloc, reach, parts, times, from, to)?;
+    let inside = held.not(alloc)?;
+    let made = outside.replaced(alloc, &inside, from, to)?;
+    Ok(made)
 }
 
 /// The times at which a window does not hold for a span of these times.
@@ -260,18 +305,20 @@ fn not_held_for(
     prepared: &Prepared,
     times: &(Time, Time),
 ) -> Result<Windows, OutOfMemory>
-    requires sources { AreSources sources.now }
-    requires window { IsTrue (is_window sources.now.model.now window.now) }
     requires prepared { IsPrepared sources.now window.now prepared.now }
     requires order { times.now.0 ≤ times.now.1 }
     requires within { times.now.1 ≤ sources.now.run.now.reach }
     ensures { IfOk result (λ made. made ≡ not_held_over sources.now window.now (Some times.now)) }
 {
     match prepared {
-        Prepared::Nothing => not_held(alloc, sources, window, &Some(*times)),
         Prepared::Twice { outside, inside } => {
             spliced(alloc, sources, window, outside, inside, times)
         }
+        Prepared::Near {
+            parts,
+            outside,
+            margin,
+        } => patched(alloc, sources, window, parts, outside, *margin, times),
     }
 }
 
@@ -323,8 +370,9 @@ fn each_prepared(
 }
 
 /// The violations of a rule for each span of a type. A window that is local is evaluated twice for all spans, and each span
-/// takes steps as its violation has intervals, and three binary searches; any other is evaluated for each span, over the
-/// whole run.
+/// takes steps as its violation has intervals, and three binary searches. Of any other what does not speak of the span is evaluated
+/// once for all spans, and each span takes steps besides as there are intervals of that no farther from it than `shift` and `longer`
+/// look.
 fn each_evaluated(
     alloc: Global,
     sources: &Sources,

@@ -15,7 +15,7 @@ pub(crate) fn is_local(window: &Window) -> bool
 
 /// Whether the window speaks of the span that the rule is judged for, and whether it does so under no `shift` and no
 /// `longer`.
-fn marks(window: &Window) -> (bool, bool)
+pub(crate) fn marks(window: &Window) -> (bool, bool)
     ensures { result ≡ marks_by_fold window.now }
 {
     match window {

@@ -10,7 +10,7 @@ ghost use Rattle.constraints.specs.declared.types.Reading.TheVariants as read;
 use crate::sources::Sources;
 use crate::steps::{flat_segments, times_equal, truth_steps};
 use crate::types::Reading;
-use aerie_base::{List, OutOfMemory, Value};
+use aerie_base::{List, Name, OutOfMemory, Value};
 use dataset_in::Series;
 use profiles::Profile;
 use std::alloc::Global;
@@ -46,12 +46,13 @@ fn resource_times(
 fn series_times(
     alloc: Global,
     sources: &Sources,
+    _name: &Name,
     series: &Series,
     value: &Value,
     equal: bool,
 ) -> Result<Windows, OutOfMemory>
-    requires typed { IsTrue (may_be_equal sources.now.model.now (read.Series series.now) value.now) }
-    ensures { IfOk result (AreEqualOver sources.now (read.Series series.now) value.now equal) }
+    requires typed { IsTrue (may_be_equal sources.now.model.now (read.Series _name.now series.now) value.now) }
+    ensures { IfOk result (AreEqualOver sources.now (read.Series _name.now series.now) value.now equal) }
 {
     let reach = sources.run.reach;
     match series {
@@ -81,7 +82,9 @@ pub(crate) fn reading_times(
 {
     match reading {
         Reading::Resource(number) => resource_times(alloc, sources, *number, value, equal),
-        Reading::Series(series) => series_times(alloc, sources, series.get(), value, equal),
+        Reading::Series { name, series } => {
+            series_times(alloc, sources, name, series.get(), value, equal)
+        }
     }
 }
 
@@ -124,10 +127,11 @@ fn resource_segments(
 fn series_segments(
     alloc: Global,
     sources: &Sources,
+    _name: &Name,
     series: &Series,
 ) -> Result<List<Segment>, OutOfMemory>
-    requires typed { IsTrue (reads_number sources.now.model.now (read.Series series.now)) }
-    ensures { IfOk result (FollowOver sources.now (read.Series series.now)) }
+    requires typed { IsTrue (reads_number sources.now.model.now (read.Series _name.now series.now)) }
+    ensures { IfOk result (FollowOver sources.now (read.Series _name.now series.now)) }
 {
     let reach = sources.run.reach;
     reach.get();
@@ -147,6 +151,6 @@ pub(crate) fn reading_segments(
 {
     match reading {
         Reading::Resource(number) => resource_segments(alloc, sources, *number),
-        Reading::Series(series) => series_segments(alloc, sources, series.get()),
+        Reading::Series { name, series } => series_segments(alloc, sources, name, series.get()),
     }
 }

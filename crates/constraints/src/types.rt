@@ -8,8 +8,13 @@ use dataset_in::Series;
 pub enum Reading {
     /// A resource, by its number, counted from 0 in the order of the model.
     Resource(u16),
-    /// A dataset.
-    Series(Shared<Series>),
+    /// A dataset, by what it says; its name is told to planners.
+    Series {
+        /// The name, as it stands in the session.
+        name: Name,
+        /// What it says over time.
+        series: Shared<Series>,
+    },
 }
 
 /// A part of a sum.

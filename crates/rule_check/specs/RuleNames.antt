@@ -49,7 +49,7 @@ name_kind model datasets name = kind_of_entry model.cells (named_entry model.res
 -- what is read by a name; of an unknown name it is never used
 abbrev pub known_reading : Option ℕ → Option (List ℕ × Series) → Reading
 known_reading (Some number) dataset = reading.Resource (short number)
-known_reading None (Some dataset) = reading.Series dataset.1
+known_reading None (Some dataset) = reading.Series dataset.0 dataset.1
 known_reading None None = reading.Resource 0
 
 abbrev pub reading_named : Parts → Datasets → List ℕ → Reading

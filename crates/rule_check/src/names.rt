@@ -12,6 +12,7 @@ use aerie_base::{CellRead, CellStart, EnumType, Kind, Model, Name, OutOfMemory, 
 use constraints::Reading;
 use dataset_in::Series;
 use diagnostics::short;
+use std::alloc::Global;
 
 /// The item at an index, counted from 0, or `None` past the last.
 fn item_at<T>(items: &[T], at: usize) -> Option<&T>
@@ -202,8 +203,9 @@ fn resource_position(model: &Model, name: &Name) -> Option<usize>
         .position(|resource| resource.0 == *name)
 }
 
-/// What a name reads. It takes memory for one more owner of a dataset.
+/// What a name reads. It takes memory for the name of a dataset and for one more owner of it.
 pub fn reading_named(
+    alloc: Global,
     model: &Model,
     datasets: &[(Name, Shared<Series>)],
     name: &Name,
@@ -212,16 +214,24 @@ pub fn reading_named(
 {
     match resource_position(model, name) {
         Some(number) => Ok(Reading::Resource(short(number))),
-        None => dataset_named(datasets, name),
+        None => dataset_named(alloc, datasets, name),
     }
 }
 
 /// The dataset of a name.
-fn dataset_named(datasets: &[(Name, Shared<Series>)], name: &Name) -> Result<Reading, OutOfMemory>
+fn dataset_named(
+    alloc: Global,
+    datasets: &[(Name, Shared<Series>)],
+    name: &Name,
+) -> Result<Reading, OutOfMemory>
     ensures { IfOk result (λ reading. reading ≡ known_reading None (named_entry datasets.now name.now)) }
 {
     match named_entry(datasets, name) {
-        Some(dataset) => Ok(Reading::Series(dataset.1.share()?)),
+        Some(dataset) => {
+            let series = dataset.1.share()?;
+            let name = dataset.0.copy(alloc)?;
+            Ok(Reading::Series { name, series })
+        }
         None => Ok(Reading::Resource(0)),
     }
 }

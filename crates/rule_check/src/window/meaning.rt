@@ -112,6 +112,7 @@ fn compared_sums(
 
 /// The test of a resource or dataset for a value.
 fn same_as(
+    alloc: Global,
     model: &Model,
     datasets: &[(Name, Shared<Series>)],
     name: &Name,
@@ -120,7 +121,7 @@ fn same_as(
 ) -> Result<Window, OutOfMemory>
     ensures { IfOk result (λ window. window ≡ same_as model.now datasets.now name.now value.now equal) }
 {
-    let resource = reading_named(model, datasets, name)?;
+    let resource = reading_named(alloc, model, datasets, name)?;
     Ok(Window::Same {
         resource,
         value: tested_value(model, value),
@@ -130,13 +131,14 @@ fn same_as(
 
 /// The truth of a resource or dataset.
 fn truth_of(
+    alloc: Global,
     model: &Model,
     datasets: &[(Name, Shared<Series>)],
     name: &Name,
 ) -> Result<Window, OutOfMemory>
     ensures { IfOk result (λ window. window ≡ Truth (reading_named model.now datasets.now name.now)) }
 {
-    let resource = reading_named(model, datasets, name)?;
+    let resource = reading_named(alloc, model, datasets, name)?;
     Ok(Window::Truth(resource))
 }
 
@@ -199,12 +201,12 @@ pub fn window_of(
                 least: time_within(*least),
             })
         }
-        RawWindow::Truth(name) => truth_of(model, datasets, &name.name),
+        RawWindow::Truth(name) => truth_of(alloc, model, datasets, &name.name),
         RawWindow::Same {
             resource,
             with,
             equal,
-        } => same_as(model, datasets, &resource.name, with, *equal),
+        } => same_as(alloc, model, datasets, &resource.name, with, *equal),
         RawWindow::Compare { left, how, right } => {
             compared_sums(alloc, model, datasets, left, *how, right)
         }

@@ -31,6 +31,7 @@ fn number_within(number: Number) -> i128
 
 /// The sum with a number, or with a term, more.
 fn with_factor(
+    alloc: Global,
     model: &Model,
     datasets: &[(Name, Shared<Series>)],
     sum: RuleSum,
@@ -48,7 +49,7 @@ fn with_factor(
             constant: sum.constant + number_within(number),
         }),
         Some(name) => {
-            let resource = reading_named(model, datasets, &name.name)?;
+            let resource = reading_named(alloc, model, datasets, &name.name)?;
             terms.push(RuleTerm {
                 coefficient: number.get(),
                 resource,
@@ -63,6 +64,7 @@ fn with_factor(
 
 /// The sum with so many terms more at most.
 fn sum_with(
+    alloc: Global,
     model: &Model,
     datasets: &[(Name, Shared<Series>)],
     room: usize,
@@ -78,8 +80,8 @@ fn sum_with(
             if room == 0 {
                 return Ok(sum);
             }
-            let longer = with_factor(model, datasets, sum, term.number, &term.resource)?;
-            sum_with(model, datasets, room - 1, longer, rest)
+            let longer = with_factor(alloc, model, datasets, sum, term.number, &term.resource)?;
+            sum_with(alloc, model, datasets, room - 1, longer, rest)
         }
     }
 }
@@ -97,5 +99,5 @@ pub fn meant_sum(
         terms: List::new(alloc),
         constant: 0,
     };
-    sum_with(model, datasets, MOST_TERMS, none, terms.as_slice())
+    sum_with(alloc, model, datasets, MOST_TERMS, none, terms.as_slice())
 }
