@@ -3,3 +3,4 @@ pub mod Closeness
 pub mod Expanding
 pub mod OfModel
 pub mod Sending
+pub mod Spaced

@@ -1,74 +1,105 @@
 //! Which commands stand too close.
 
-ghost use Rattle.std.specs.Prelude.{◌≡◌, ℕ, List, Some, IfOk, OnOk, cond, ◌&&◌};
+ghost use Rattle.std.specs.Prelude.{◌≡◌, ℕ, List, [], Some, IfOk, OnOk, cond};
 ghost use Rattle.std.specs.HashMap as hash;
 ghost use Rattle.aerie_base.specs.models.Names.{same_name};
 ghost use Rattle.seq_expand.specs.declared.sequence.Sent.{Sent};
-ghost use Rattle.seq_expand.specs.Closeness.{is_soon as is_soon_after, is_too_close as is_too_close_by, close_positions as close_positions_by, last_time_of};
+ghost use Rattle.seq_expand.specs.Closeness.{close_positions as close_positions_by};
+ghost use Rattle.seq_expand.specs.Spaced.{is_soon_for, with_last_at, spaced_behind, widened};
 
 use crate::sequence::Sent;
 use aerie_base::{List, Name, OutOfMemory, Time};
 use std::alloc::Global;
 use std::collections::HashMap;
 
-/// Puts the time of a command as the last of its name.
-fn put_time(alloc: Global, last: &mut HashMap<Name, i64>, sent: &Sent) -> Result<(), OutOfMemory>
-    ensures { OnOk result ((name : List ℕ) → hash.get same_name last.new name ≡ cond (same_name sent.now.name name) (Some sent.now.at) (hash.get same_name last.old name)) }
+/// What is known of the commands of a name that has a spacing.
+#[derive(Clone, Copy)]
+struct Spaced {
+    /// How long after one another they stand at least.
+    least: Time,
+    /// When the last one was sent.
+    last: Option<i64>,
+}
+
+/// The same with a spacing more of that name.
+fn widened(spaced: Option<Spaced>, least: Time) -> Spaced
+    ensures { result ≡ widened spaced least }
 {
-    if let Some(last) = last.get_mut(&sent.name) {
-        *last = sent.at;
-        return Ok(());
+    match spaced {
+        Some(spaced) => Spaced {
+            least: spaced.least.later(least),
+            last: spaced.last,
+        },
+        None => Spaced { least, last: None },
     }
-    let name = sent.name.copy(alloc)?;
-    last.insert(name, sent.at)?;
+}
+
+/// What is known of a name, where it has a spacing.
+fn spaced_for(spaced: &HashMap<Name, Spaced>, name: &Name) -> Option<Spaced>
+    ensures { result ≡ hash.get same_name spaced.now name.now }
+{
+    spaced.get(name).copied()
+}
+
+/// Puts a spacing in.
+fn put_spacing(
+    alloc: Global,
+    spaced: &mut HashMap<Name, Spaced>,
+    spacing: &(Name, Time),
+) -> Result<(), OutOfMemory>
+    ensures { OnOk result ((name : List ℕ) → hash.get same_name spaced.new name ≡ cond (same_name spacing.now.0 name) (Some (widened (hash.get same_name spaced.old spacing.now.0) spacing.now.1)) (hash.get same_name spaced.old name)) }
+{
+    let known = spaced_for(spaced, &spacing.0);
+    let wider = widened(known, spacing.1);
+    let name = spacing.0.copy(alloc)?;
+    spaced.insert(name, wider)?;
     Ok(())
 }
 
-/// Whether two names are the same.
-fn is_of(name: &Name, other: &Name) -> bool
-    ensures { result ≡ same_name name.now other.now }
+/// The spacings by name, before any command.
+fn spaced_by_name(
+    alloc: Global,
+    spacings: &[(Name, Time)],
+) -> Result<HashMap<Name, Spaced>, OutOfMemory>
+    ensures { IfOk result (λ spaced. (name : List ℕ) → hash.get same_name spaced name ≡ spaced_behind spacings.now [] name) }
 {
-    name.is_same(other)
+    let mut spaced = HashMap::new(alloc);
+    let mut at = spacings.len();
+    while at > 0 {
+        at -= 1;
+        put_spacing(alloc, &mut spaced, &spacings[at])?;
+    }
+    Ok(spaced)
 }
 
-/// Whether a command stands less than so much behind the time of the one before, if there is one.
-fn is_soon(spacing: &(Name, Time), before: Option<i64>, sent: &Sent) -> bool
-    ensures { result ≡ is_soon_after sent.now.at spacing.now.1 before }
+/// Whether a command stands too close behind the last one of its name.
+fn is_soon(spaced: &Spaced, at: i64) -> bool
+    ensures { result ≡ is_soon_for (Some spaced.now) at }
 {
-    match before {
-        Some(before) => i128::from(sent.at) - i128::from(before) < i128::from(spacing.1.get()),
+    match spaced.last {
+        Some(before) => i128::from(at) - i128::from(before) < i128::from(spaced.least.get()),
         None => false,
     }
 }
 
-/// When the last command of a name was sent.
-fn last_time(last: &HashMap<Name, i64>, name: &Name) -> Option<i64>
-    ensures { result ≡ hash.get same_name last.now name.now }
+/// Sends a command: whether it stands too close behind the last one of its name, and from then on it is the last one. It takes one
+/// look for its name.
+fn send(spaced: &mut HashMap<Name, Spaced>, sent: &Sent) -> bool
+    ensures close { result ≡ is_soon_for (hash.get same_name spaced.old sent.now.name) sent.now.at }
+    ensures last { (name : List ℕ) → hash.get same_name spaced.new name ≡ cond (same_name sent.now.name name) (with_last_at sent.now.at (hash.get same_name spaced.old sent.now.name)) (hash.get same_name spaced.old name) }
 {
-    last.get(name).copied()
-}
-
-/// Whether a command is of the spacing's name and stands less than so much behind the one before.
-fn is_close_by(spacing: &(Name, Time), last: &HashMap<Name, i64>, sent: &Sent) -> bool
-    ensures { result ≡ (same_name spacing.now.0 sent.now.name && is_soon_after sent.now.at spacing.now.1 (hash.get same_name last.now spacing.now.0)) }
-{
-    is_of(&spacing.0, &sent.name) && is_soon(spacing, last_time(last, &spacing.0), sent)
-}
-
-/// Whether a command stands too close by some spacing of its name, where `last` has the last times of all names.
-fn is_too_close(spacings: &[(Name, Time)], last: &HashMap<Name, i64>, sent: &Sent) -> bool
-    ensures { (before : List Sent) → ((name : List ℕ) → hash.get same_name last.now name ≡ last_time_of name before) → result ≡ is_too_close_by spacings.now before sent.now }
-{
-    for spacing in spacings {
-        if is_close_by(spacing, last, sent) {
-            return true;
+    match spaced.get_mut(&sent.name) {
+        Some(spaced) => {
+            let close = is_soon(spaced, sent.at);
+            spaced.last = Some(sent.at);
+            close
         }
+        None => false,
     }
-    false
 }
 
 /// The positions of the commands, which stand in the order of time, that are too close behind the last one of their name. It takes
-/// a look at each spacing for each command.
+/// one look for each spacing and for each command.
 pub(crate) fn close_positions(
     alloc: Global,
     spacings: &[(Name, Time)],
@@ -77,13 +108,12 @@ pub(crate) fn close_positions(
     ensures { IfOk result (λ positions. positions ≡ close_positions_by spacings.now commands.now) }
 {
     let mut positions = List::new(alloc);
-    let mut last = HashMap::new(alloc);
+    let mut spaced = spaced_by_name(alloc, spacings)?;
     for at in 0..commands.len() {
-        let sent = &commands[at];
-        if is_too_close(spacings, &last, sent) {
+        let is_close = send(&mut spaced, &commands[at]);
+        if is_close {
             positions.push(at as u64)?;
         }
-        put_time(alloc, &mut last, sent)?;
     }
     Ok(positions)
 }
