@@ -1,5 +1,6 @@
 pub mod Extending
 pub mod NotedFrames
+mod SharedInstants
 pub mod PublishedChapters
 pub mod KnownRuns
 pub mod Paying

@@ -1,5 +1,5 @@
 -- Which frames of a run are noted: those that were not held.
-use Rattle.std.specs.Prelude.{◌≡◌, List, [], ◌∷◌, ◌++◌, Option, Some, None, if◌then◌else◌}
+use Rattle.std.specs.Prelude.{◌≡◌, ℕ, ◌-◌, List, [], ◌∷◌, ◌++◌, Option, Some, None, drop, length, take, if◌then◌else◌}
 use Rattle.std.specs.List.{All, Contains}
 use Rattle.bench.specs.HeldSteps.{Extends}
 use Rattle.record_book.specs.StoredSteps.{IsHeldIn}
@@ -18,6 +18,10 @@ pub record Notes (first : List Record) (frames : List Frame) (before after : Lis
   pub extends : Extends before after
   pub held : All (IsHeldIn after) frames
   pub is_noted : noted_after ≡ noted ++ unheld first frames
+
+-- the instants between so many of the first and so many of the last
+abbrev pub between : ℕ → ℕ → List Instant → List Instant
+between front back instants = take (length (drop front instants) - back) (drop front instants)
 
 -- ---- frames beside old ones
 

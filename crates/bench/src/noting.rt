@@ -1,13 +1,14 @@
 //! The frames of a run are put into a book, and those that it did not hold are noted.
 
-ghost use Rattle.std.specs.Prelude.{◌≡◌, ◌≤◌, [], ◌∷◌, ◌++◌, IfOk, IsTrue, OnOk, get_or, length, slice_get, take};
+ghost use Rattle.std.specs.Prelude.{◌≡◌, ◌≤◌, [], ◌∷◌, ◌++◌, IfOk, IsTrue, OnOk, drop, get_or, length, slice_get, take};
 ghost use Rattle.std.specs.List.{All};
 ghost use Rattle.std.specs.Option.{option_copied};
 ghost use Rattle.run_data.specs.Records.{IsValid, record_of};
 ghost use Rattle.run_data.specs.RunFrames.{frames_in_batches, frames_in_instants, frames_in_run};
 ghost use Rattle.record_book.specs.StoredSteps.{IsHeldIn};
+ghost use Rattle.resimulate.specs.SharedEnds.{SharesEnds};
 ghost use Rattle.bench.specs.HeldSteps.{AreValidFrames, Extends, HoldsInstants, HoldsRun};
-ghost use Rattle.bench.specs.Noting.{HasSameStep, IsSameStep, Notes, batches_of, unheld};
+ghost use Rattle.bench.specs.Noting.{HasSameStep, IsSameStep, Notes, batches_of, between, unheld};
 
 use crate::putting::put;
 use aerie_base::{List, OutOfMemory, Shared, Time, same_list};
@@ -181,14 +182,16 @@ fn old_batches(old: &[Shared<Instant>], at: usize) -> &[List<Frame>]
     }
 }
 
-/// The same of the instants of a run, beside those of an old one, all of whose frames are held. It takes time linear in the frames:
-/// a search for each that is not like the old one at its place, and a comparison for the others.
+/// The same of instants of a run, beside those of an old one from a place on, all of whose frames are held. It takes time linear in the
+/// frames: a search for each that is not like the old one at its place, and a comparison for the others.
+#[allow(clippy::too_many_arguments)]
 fn note_instants(
     alloc: Global,
     book: &mut Book,
     first: usize,
     instants: &[Shared<Instant>],
     old: &[Shared<Instant>],
+    from: usize,
     noted: &mut List<Frame>,
 ) -> Result<(), OutOfMemory>
     requires valid { AreValidFrames book.old.model instants.now }
@@ -199,7 +202,7 @@ fn note_instants(
     ensures notes { OnOk result (Notes (take first book.old.records) (frames_in_instants instants.now)
         book.old.records book.new.records noted.old noted.new) }
 {
-    let mut place = 0;
+    let mut place = from;
     for instant in instants {
         place = place_beside(old, place, instant.get().time);
         let batches = instant.get().batches.as_slice();
@@ -209,16 +212,31 @@ fn note_instants(
     Ok(())
 }
 
+/// The instants between so many of the first and so many of the last.
+fn between(instants: &[Shared<Instant>], front: usize, back: usize) -> &[Shared<Instant>]
+    requires front { front ≤ length instants.now }
+    requires back { back ≤ length (drop front instants.now) }
+    ensures { result.now ≡ between front back instants.now }
+{
+    let parts = instants.split_at(front);
+    let rest = parts.1;
+    let inner = rest.split_at(rest.len() - back);
+    inner.0
+}
+
 /// Puts the steps of all frames of a run into a book, and gives the frames whose steps it did not hold. Those that are like a frame
-/// of the old instants beside them are known to be held.
+/// of the old instants beside them are known to be held, and so are those of the first and the last instants, which both share.
 pub(crate) fn note_run(
     alloc: Global,
     book: &mut Book,
     run: &Run,
     old: &[Shared<Instant>],
+    front: usize,
+    back: usize,
 ) -> Result<List<Frame>, OutOfMemory>
     requires run { AreValidFrames book.old.model run.now.instants }
     requires old { HoldsInstants book.old.records old.now }
+    requires shares { SharesEnds old.now run.now.instants front back }
     ensures model { book.new.model ≡ book.old.model }
     ensures extends { Extends book.old.records book.new.records }
     ensures noted { IfOk result (λ noted. noted ≡ unheld book.old.records (frames_in_run run.now)) }
@@ -227,7 +245,7 @@ pub(crate) fn note_run(
 {
     let first = book.len();
     let mut noted = List::new(alloc);
-    let instants = run.instants.as_slice();
-    note_instants(alloc, book, first, instants, old, &mut noted)?;
+    let instants = between(run.instants.as_slice(), front, back);
+    note_instants(alloc, book, first, instants, old, front, &mut noted)?;
     Ok(noted)
 }

@@ -6,6 +6,7 @@ ghost use Rattle.run_data.specs.Records.{IsValid, record_of};
 ghost use Rattle.run_data.specs.RunFrames.{frames_in_run};
 ghost use Rattle.record_book.specs.StoredSteps.{book_limit};
 ghost use Rattle.bench.specs.HeldSteps.{Extends, HoldsRun, instants_of_kept};
+ghost use Rattle.resimulate.specs.SharedEnds.{SharesEnds};
 ghost use Rattle.bench.specs.Noting.{unheld};
 ghost use Rattle.bench.specs.Stocks.{IsKnownIn};
 
@@ -164,15 +165,18 @@ impl Stock {
     }
 
     /// Takes in the steps of all frames of a kept run of the model, and gives the frames whose steps were not held. Those that are like
-    /// a frame of the old run beside them are known to be held.
+    /// a frame of the old run beside them are known to be held, and so are those of the first and the last instants that both share.
     pub(crate) fn note(
         &mut self,
         alloc: Global,
         kept: &Kept,
         old: &Option<Shared<Kept>>,
+        front: usize,
+        back: usize,
     ) -> Result<List<Frame>, OutOfMemory>
         requires model { kept.now.model ≡ self.old.model }
         requires old { IfSome old.now (IsKnownIn self.old) }
+        requires shares { SharesEnds (instants_of_kept old.now) kept.now.run.instants front back }
         ensures model { self.new.model ≡ self.old.model }
         ensures extends { Extends self.old.records self.new.records }
         ensures known { IfSome old.now (IsKnownIn self.new) }
@@ -181,7 +185,14 @@ impl Stock {
         ensures held { OnOk result (HoldsRun self.new.records kept.now.run) }
     {
         fresh_runs();
-        note_run(alloc, &mut self.book, kept.run(), instants_of(old))
+        note_run(
+            alloc,
+            &mut self.book,
+            kept.run(),
+            instants_of(old),
+            front,
+            back,
+        )
     }
 
     /// Takes in the steps of all frames of a kept run of the model.
@@ -192,7 +203,7 @@ impl Stock {
         ensures held { OnOk result (HoldsRun self.new.records kept.now.run) }
     {
         let no_run = None;
-        let _noted = self.note(alloc, kept, &no_run)?;
+        let _noted = self.note(alloc, kept, &no_run, 0, 0)?;
         Ok(())
     }
 

@@ -6,9 +6,10 @@ ghost use Rattle.run_data.specs.RunFrames.{PaysForRun, frames_in_run};
 ghost use Rattle.run_data.specs.Waves.{RoseAlike};
 ghost use Rattle.record_book.specs.StoredSteps.{book_limit};
 ghost use Rattle.resimulate.specs.EvenInstants.{LooksForUneven};
+ghost use Rattle.resimulate.specs.SharedEnds.{SharesEnds};
 ghost use Rattle.bench.specs.Benches.{IsFreshRunOf};
 ghost use Rattle.bench.specs.Chapters.{GainsChapters, PublishesFrames, PublishesWhatRan};
-ghost use Rattle.bench.specs.HeldSteps.{HoldsAll, HoldsRunWithin, records_of_kept};
+ghost use Rattle.bench.specs.HeldSteps.{HoldsAll, HoldsRunWithin, instants_of_kept, records_of_kept};
 ghost use Rattle.bench.specs.Noting.{unheld};
 ghost use Rattle.bench.specs.Settings.{IsSetting};
 ghost use Rattle.bench.specs.Stocks.{IsKnownIn};
@@ -26,7 +27,8 @@ use std::sync::ledger::Ledger;
 use std::thread::Threads;
 
 /// Takes the steps of a run that was made into the stock, and publishes those that it did not have. The stock knows the run from now
-/// on, and the one beside which it was made.
+/// on, and the one beside which it was made, with which it has so many of the first and of the last instants in common.
+#[allow(clippy::too_many_arguments)]
 fn take_run<R: Wait>(
     rt: &R,
     alloc: Global,
@@ -35,9 +37,12 @@ fn take_run<R: Wait>(
     publisher: &mut Publisher,
     made: &Shared<Kept>,
     old: Option<Shared<Kept>>,
+    first: usize,
+    last: usize,
 ) -> Result<(), OutOfMemory>
     requires model { made.now.model ≡ stock.old.model }
     requires old { IfSome old (IsKnownIn stock.old) }
+    requires shares { SharesEnds (instants_of_kept old) made.now.run.instants first last }
     ensures model { stock.new.model ≡ stock.old.model }
     ensures held { HoldsAll (take book_limit stock.old.records) (take book_limit stock.new.records) }
     ensures holds_run { OnOk result (HoldsRunWithin (take book_limit stock.new.records) made.now.run) }
@@ -45,7 +50,7 @@ fn take_run<R: Wait>(
     ensures published { OnOk result (PublishesFrames
         (unheld stock.old.records (frames_in_run made.now.run)) publisher.old publisher.new) }
 {
-    let noted = stock.note(alloc, made.get(), &old)?;
+    let noted = stock.note(alloc, made.get(), &old, first, last)?;
     let model = made.get().model();
     publisher.publish_frames(rt, alloc, store, model, noted.as_slice())?;
     stock.settle(made, old);
@@ -93,6 +98,8 @@ pub(crate) fn run_over<R: Threads + Wait + Sync, L: Ledger, K: Ledger>(
     let made = simulate_over(
         rt, alloc, setting, stock, &old, bookmarks, plan, steps, looks,
     )?;
-    take_run(rt, alloc, store, stock, publisher, &made.kept, old)?;
+    take_run(
+        rt, alloc, store, stock, publisher, &made.kept, old, made.first, made.last,
+    )?;
     Ok(made)
 }

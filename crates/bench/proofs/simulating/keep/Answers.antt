@@ -5,12 +5,12 @@ use Rattle.bench.proofs.simulating.keep.Goals as goal
 
 pub new-requires-clause-fresh : goal.new-requires-clause-fresh
 new-requires-clause-fresh c =
-    fresh_as_is c.fresh_runs.ensures.plan c.args.setting.now.compiled c.in_ok-model.model c.args.plan.now c.args.setting.now.bound c.args.run
+    fresh_as_is c.fresh_runs.ensures.plan c.args.setting.now.compiled c.in_ok-model.model c.args.plan.now c.args.setting.now.bound c.args.made.run
     (c.in_ok-model.ensures ∙ c.model.ensures) c.requires.fresh
 
 pub new-requires-clause-plan : goal.new-requires-clause-plan
 new-requires-clause-plan c =
-    plan_as_is c.fresh_runs.ensures.plan c.args.setting.now.compiled c.in_ok-model.model c.args.plan.now c.args.setting.now.bound c.args.run
+    plan_as_is c.fresh_runs.ensures.plan c.args.setting.now.compiled c.in_ok-model.model c.args.plan.now c.args.setting.now.bound c.args.made.run
     (c.in_ok-model.ensures ∙ c.model.ensures) c.requires.fresh c.requires.plan
 
 pub returns-clause-model : goal.returns-clause-model
@@ -21,5 +21,5 @@ returns-clause-run c = ap (λ (kept : KeptRun). kept.run) c.in_ok-kept.ensures
 
 pub returns-clause-fresh : goal.returns-clause-fresh
 returns-clause-fresh c =
-    fresh_of c.fresh_runs.ensures.plan c.args.setting.now.compiled c.args.plan.now c.args.setting.now.bound c.args.run c.in_ok-kept.kept
+    fresh_of c.fresh_runs.ensures.plan c.args.setting.now.compiled c.args.plan.now c.args.setting.now.bound c.args.made.run c.in_ok-kept.kept
     (returns-clause-model c) (returns-clause-run c) c.requires.fresh

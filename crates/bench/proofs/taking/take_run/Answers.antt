@@ -7,8 +7,9 @@ use Rattle.run_data.specs.Records.{IsValid, record_of}
 use Rattle.run_data.specs.RunFrames.{frames_in_run}
 use Rattle.run_data.specs.TaskFrames.{Frame}
 use Rattle.record_book.specs.StoredSteps.{book_limit}
+use Rattle.resimulate.specs.SharedEnds.{SharesEnds}
 use Rattle.bench.specs.Chapters.{GainsChapters, PublishesFrames}
-use Rattle.bench.specs.HeldSteps.{HoldsAll, HoldsRun, HoldsRunWithin}
+use Rattle.bench.specs.HeldSteps.{HoldsAll, HoldsRun, HoldsRunWithin, instants_of_kept}
 use Rattle.bench.specs.Noting.{unheld}
 use Rattle.bench.proofs.Extending.{firsts_hold}
 use Rattle.bench.proofs.KnownRuns.{is_known}
@@ -18,6 +19,10 @@ use Rattle.bench.proofs.taking.take_run.Goals as goal
 
 pub note-requires-clause-model : goal.note-requires-clause-model
 note-requires-clause-model g c = ap (λ (kept : KeptRun). kept.model) c.get.ensures ∙ c.requires.model
+
+pub note-requires-clause-shares : goal.note-requires-clause-shares
+note-requires-clause-shares g c =
+    subst (λ (kept : KeptRun). SharesEnds (instants_of_kept c.args.old) kept.run.instants c.args.first c.args.last) (sym c.get.ensures) c.requires.shares
 
 pub publish_frames-requires : goal.publish_frames-requires
 publish_frames-requires g c =

@@ -1,12 +1,14 @@
 use Rattle.std.proofs.Common.{◌≡◌, List, IfOk, IfSome, OnOk, ap, sym, subst, ◌∙◌}
 use Rattle.std.specs.List.{All}
 use Rattle.std.proofs.lemmas.Result.{IfOk-weaker}
+use Rattle.run_data.specs.declared.runs.Instant.{Instant}
 use Rattle.run_data.specs.declared.runs.Run.{Run}
 use Rattle.run_data.specs.Records.{IsValid, record_of}
 use Rattle.run_data.specs.RunFrames.{frames_in_run}
 use Rattle.run_data.specs.TaskFrames.{Frame}
 use Rattle.record_book.specs.StoredSteps.{StoredSteps}
-use Rattle.bench.specs.HeldSteps.{AreValidFrames, Extends, HoldsInstants, HoldsRun}
+use Rattle.bench.specs.HeldSteps.{AreValidFrames, Extends, HoldsInstants, HoldsRun, instants_of_kept}
+use Rattle.resimulate.specs.SharedEnds.{SharesEnds}
 use Rattle.bench.specs.Noting.{unheld}
 use Rattle.bench.specs.Stocks.{IsKnownIn}
 use Rattle.bench.proofs.KnownRuns.{frames_of, known_old, known_still, stock_on}
@@ -22,6 +24,11 @@ pub note_run-requires-clause-old : goal.note_run-requires-clause-old
 note_run-requires-clause-old c =
     subst (HoldsInstants c.self.inside.book.records) (sym c.instants_of.ensures)
     (known_old c.self.inside.book c.args.old.now (subst (λ (book : StoredSteps). IfSome c.args.old.now (IsKnownIn book)) (sym c.self.view_is) c.requires.old))
+
+pub note_run-requires-clause-shares : goal.note_run-requires-clause-shares
+note_run-requires-clause-shares c =
+    subst (λ (old : List Instant). SharesEnds old c.run.result.now.instants c.args.front c.args.back) (sym c.instants_of.ensures)
+    (subst (λ (run : Run). SharesEnds (instants_of_kept c.args.old.now) run.instants c.args.front c.args.back) (sym c.run.ensures.value) c.requires.shares)
 
 pub invariant_of-self : goal.invariant_of-self
 invariant_of-self c =
