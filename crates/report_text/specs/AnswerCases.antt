@@ -113,7 +113,7 @@ a_longer_report = refl
 
 -- with details: no directive of the type lasts beside another
 pub a_detailed_report : told false (answer.Report (record { start = pos 1_861_920_000_000_000; run = quiet; constraints = record { name = codes "alone"; rule = Forbid 0 0 } ∷ []; revision = 11; attached = true; statements = None; detail = true }))
-    ≡ codes "{\"client\":\"ops\",\"command\":2,\"ok\":{\"attached\":true,\"branch\":\"main\",\"cells\":[{\"kind\":\"counter\",\"name\":\"taken\",\"value\":\"0\"}],\"constraints\":[{\"name\":\"alone\",\"resources\":[],\"types\":[\"Take\"]}],\"duration\":100,\"outcome\":\"completed\",\"profiles\":[],\"reach\":100,\"revision\":11,\"spans\":[],\"start\":\"2029-001T00:00:00.000000\",\"violations\":[]}}\n"
+    ≡ codes "{\"client\":\"ops\",\"command\":2,\"ok\":{\"attached\":true,\"branch\":\"main\",\"cells\":[{\"kind\":\"counter\",\"name\":\"taken\",\"value\":\"0\"}],\"constraints\":[{\"datasets\":[],\"name\":\"alone\",\"resources\":[],\"types\":[\"Take\"]}],\"datasets\":[],\"duration\":100,\"outcome\":\"completed\",\"profiles\":[],\"reach\":100,\"revision\":11,\"spans\":[],\"start\":\"2029-001T00:00:00.000000\",\"violations\":[]}}\n"
 unfolding member_if digits day_in_year escape_byte
 a_detailed_report = refl
 

@@ -1,8 +1,9 @@
 -- What a report of a simulation tells besides where details are asked for: cells, and what constraints name.
-use Rattle.std.specs.Prelude.{◌≡◌, ℕ, ℤ, pos, negsuc, Bool, true, false, List, [], ◌∷◌, codes, map, Option, Some, None, option_map, slice_get, unwrap_or, refl}
+use Rattle.std.specs.Prelude.{◌≡◌, ℕ, ℤ, pos, negsuc, Bool, true, false, List, [], ◌∷◌, ◌++◌, codes, map, Option, Some, None, option_map, slice_get, unwrap_or, refl}
 use Rattle.std.specs.Fmt.{digits}
 use Rattle.std.specs.List.{zip}
 use Rattle.json.specs.Print.{escape_byte}
+use Rattle.json.specs.Token.{Token}
 use Rattle.serde_json.specs.Data.{Data, array, boolean, string}
 use Rattle.serde_json.specs.View.{items_of}
 use Rattle.serde_json.specs.Written.{compact_text}
@@ -15,11 +16,13 @@ use Rattle.constraints.specs.declared.types.Constraint.{Constraint}
 use Rattle.effect_cells.specs.declared.effects.CellState.{CellState}
 use Rattle.effect_cells.specs.declared.effects.CellState.TheVariants.{Counter, Register, Volume}
 use Rattle.json_line.specs.Json.{object_of}
-use Rattle.json_line.specs.Numbers.{digits_data}
+use Rattle.json_line.specs.Numbers.{digits_data, natural_data}
+use Rattle.json_line.specs.Parts.{member_if_tokens}
 use Rattle.plan_edit.specs.ShownPlan.{json_of_value}
 use Rattle.run_data.specs.Values.{cells_at}
 use Rattle.run_data.specs.declared.runs.Run.{Run}
-use Rattle.report_text.specs.NamedByConstraints.{named_resources, named_types}
+use Rattle.report_text.specs.DatasetLines.{dataset_names_data, datasets_data}
+use Rattle.report_text.specs.NamedByConstraints.{named_datasets, named_resources, named_types}
 use Rattle.report_text.specs.ReportCases.{camera}
 use Rattle.report_text.specs.SpanLines.{type_name}
 
@@ -86,10 +89,11 @@ type_names_data model kinds = array (items_of (map (λ kind. string (type_name m
 abbrev pub resource_names_data : Parts → List ℕ → Data
 resource_names_data model numbers = array (items_of (map (λ number. string (name_of_resource model number)) numbers))
 
--- a constraint with the resources and the activity types that it names, each once, in the order of the text
+-- a constraint with the datasets, the resources and the activity types that it names, each once, in the order of the text
 abbrev pub naming_data : Parts → Constraint → Data
 naming_data model constraint =
-    object_of ((codes "name", string constraint.name)
+    object_of ((codes "datasets", dataset_names_data (named_datasets constraint.rule))
+    ∷ (codes "name", string constraint.name)
     ∷ (codes "resources", resource_names_data model (named_resources constraint.rule))
     ∷ (codes "types", type_names_data model (named_types constraint.rule))
     ∷ [])
@@ -97,6 +101,16 @@ naming_data model constraint =
 -- all constraints, in their order
 abbrev pub namings_data : Parts → List Constraint → Data
 namings_data model constraints = array (items_of (map (naming_data model) constraints))
+
+-- ---- all that is told between the branch and the outcome
+
+-- behind these tokens the cells at the end, what constraints name, the datasets among that, and the plan's duration
+abbrev pub details_behind : List Token → Bool → Parts → Run → List Constraint → List Token
+details_behind front told model run constraints =
+    (((front ++ member_if_tokens (codes "cells") (if_told told (cells_data model run)))
+    ++ member_if_tokens (codes "constraints") (if_told told (namings_data model constraints)))
+    ++ member_if_tokens (codes "datasets") (if_told told (datasets_data model.enums constraints)))
+    ++ member_if_tokens (codes "duration") (if_told told (natural_data run.plan.duration))
 
 -- ---- worked cases
 

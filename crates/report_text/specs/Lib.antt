@@ -1,5 +1,6 @@
 pub mod AnswerCases
 pub mod ArgumentOrder
+pub mod DatasetLines
 pub mod Details
 pub mod GoalLines
 pub mod JournalLines

@@ -7,6 +7,7 @@ use Rattle.constraints.specs.OfModel.{is_constraint}
 use Rattle.epoch_text.specs.DayTexts.{day_text_of}
 use Rattle.json_line.specs.Parts.{member_if}
 use Rattle.json_line.specs.Numbers.{natural_data}
+use Rattle.report_text.specs.DatasetLines.{datasets_data}
 use Rattle.report_text.specs.Details.{cells_data, if_told, namings_data}
 use Rattle.report_text.specs.Outcomes.{outcome_data}
 use Rattle.report_text.specs.ProfileLines.{profiles_data}
@@ -26,6 +27,7 @@ report_data branch model named report =
     (member (codes "branch") (string branch)
     (member_if (codes "cells") (if_told report.detail (cells_data model report.run.run))
     (member_if (codes "constraints") (if_told report.detail (namings_data model report.constraints))
+    (member_if (codes "datasets") (if_told report.detail (datasets_data model.enums report.constraints))
     (member_if (codes "duration") (if_told report.detail (natural_data report.run.run.plan.duration))
     (member_if (codes "model") (option_map string (name_told named model))
     (member (codes "outcome") (outcome_data model report.run.run.outcome)
@@ -35,7 +37,7 @@ report_data branch model named report =
     (member (codes "spans") (spans_data model report.start report.run.run)
     (member_if (codes "start") (if_told report.detail (string (day_text_of report.start 0)))
     (member_if (codes "statements") (option_map natural_data report.statements)
-    (member (codes "violations") (violations_data model report.run.run report.constraints) no_members))))))))))))))
+    (member (codes "violations") (violations_data model report.run.run report.constraints) no_members)))))))))))))))
 
 -- a report is of a model: its run is one of the model, and its constraints are
 pub record IsReportOf (model : Parts) (report : Report) : Type 0 where

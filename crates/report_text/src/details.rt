@@ -6,12 +6,15 @@ ghost use Rattle.aerie_base.specs.plans.OfModel.{IsPlanOf};
 ghost use Rattle.epoch_text.specs.DayTexts.{day_text_of};
 ghost use Rattle.json_line.specs.Numbers.{natural_data};
 ghost use Rattle.json_line.specs.Parts.{member_if_tokens, member_tokens};
-ghost use Rattle.report_text.specs.Details.{cells_data, if_told, naming_data, namings_data, name_of_resource};
+ghost use Rattle.report_text.specs.Details.{cells_data, details_behind, if_told, naming_data, namings_data, name_of_resource};
 ghost use Rattle.report_text.specs.SpanLines.{type_name};
 ghost use Rattle.run_data.specs.Fresh.{IsFresh};
 
+use crate::alone::Alone;
 use crate::cell_lines::write_states;
+use crate::dataset_lines::write_datasets_told;
 use crate::named::{named_resources, named_types};
+use crate::named_datasets::named_datasets;
 use crate::span_lines::Utc;
 use crate::wordings::Wording;
 use aerie_base::{OutOfMemory, Time};
@@ -56,9 +59,11 @@ impl<'a> JsonIn<Wording<'a>> for Constraint {
     ghost data_in = { naming_data };
 
     fn write_in(&self, wording: &Wording<'a>, line: &mut JsonLine) -> Result<(), OutOfMemory> {
+        let datasets = named_datasets(wording.alloc(), &self.rule)?;
         let resources = named_resources(wording.alloc(), &self.rule)?;
         let types = named_types(wording.alloc(), &self.rule)?;
         line.begin_object()?;
+        line.member_in("datasets", &Alone, &datasets)?;
         line.member("name", &self.name)?;
         line.member_in("resources", &ResourcesOf { wording }, &resources)?;
         line.member_in("types", &TypesOf { wording }, &types)?;
@@ -84,7 +89,7 @@ fn write_cells_member<'a>(
 
 /// The same where it is told.
 #[tactic(auto, unfolding(json_line::specs::Parts::member_if_tokens))]
-pub(crate) fn write_cells_told<'a>(
+fn write_cells_told<'a>(
     line: &mut JsonLine,
     told: bool,
     wording: &Wording<'a>,
@@ -115,7 +120,7 @@ fn write_constraints_member<'a>(
 
 /// The same where it is told.
 #[tactic(auto, unfolding(json_line::specs::Parts::member_if_tokens))]
-pub(crate) fn write_constraints_told<'a>(
+fn write_constraints_told<'a>(
     line: &mut JsonLine,
     told: bool,
     wording: &Wording<'a>,
@@ -131,17 +136,31 @@ pub(crate) fn write_constraints_told<'a>(
 
 /// The duration of the plan, where it is told.
 #[tactic(auto, unfolding(json_line::specs::Parts::member_if_tokens))]
-pub(crate) fn write_duration_told(
-    line: &mut JsonLine,
-    told: bool,
-    duration: Time,
-) -> Result<(), OutOfMemory>
+fn write_duration_told(line: &mut JsonLine, told: bool, duration: Time) -> Result<(), OutOfMemory>
     ensures { OnOk result (line.new ≡ line.old ++ member_if_tokens (codes "duration") (if_told told (natural_data duration))) }
 {
     if told {
         return line.member("duration", &duration);
     }
     Ok(())
+}
+
+/// What is told of the run, the constraints and the plan's length, where details are.
+pub(crate) fn write_details_told<'a>(
+    line: &mut JsonLine,
+    told: bool,
+    wording: &Wording<'a>,
+    run: &Run,
+    constraints: &[Constraint],
+) -> Result<(), OutOfMemory>
+    requires fresh { IsFresh wording.now run.now.plan run.now.bound run.now }
+    requires plan { IsPlanOf wording.now run.now.plan }
+    ensures { OnOk result (line.new ≡ details_behind line.old told wording.now run.now constraints.now) }
+{
+    write_cells_told(line, told, wording, run)?;
+    write_constraints_told(line, told, wording, constraints)?;
+    write_datasets_told(line, told, wording, constraints)?;
+    write_duration_told(line, told, run.plan.get().duration)
 }
 
 /// The instant of the plan's time 0, where it is told.

@@ -1,4 +1,4 @@
-//! What constraints name.
+//! The resources and activity types that constraints name.
 
 ghost use Rattle.std.specs.Prelude.{◌≡◌, IfOk, OnOk, nat_eq};
 ghost use Rattle.std.specs.List.{list_any};
@@ -17,7 +17,7 @@ fn is_noted(numbers: &[u16], number: u16) -> bool
 
 /// A number is noted, unless it is among those that are. These are few: a rule is short.
 fn note(numbers: &mut List<u16>, number: u16) -> Result<(), OutOfMemory>
-    ensures { OnOk result (numbers.new ≡ noted numbers.old number) }
+    ensures { OnOk result (numbers.new ≡ noted nat_eq numbers.old number) }
 {
     if is_noted(numbers.as_slice(), number) {
         return Ok(());
@@ -28,7 +28,7 @@ fn note(numbers: &mut List<u16>, number: u16) -> Result<(), OutOfMemory>
 /// The activity types that a window names.
 #[tactic(auto, using(crate::proofs::Noting::noted_append))]
 fn note_types(numbers: &mut List<u16>, window: &Window) -> Result<(), OutOfMemory>
-    ensures { OnOk result (numbers.new ≡ noted_all numbers.old (types_by_fold window.now)) }
+    ensures { OnOk result (numbers.new ≡ noted_all nat_eq numbers.old (types_by_fold window.now)) }
 {
     match window {
         Window::And(left, right) | Window::Or(left, right) => {
@@ -46,7 +46,7 @@ fn note_types(numbers: &mut List<u16>, window: &Window) -> Result<(), OutOfMemor
 /// The activity types that a rule names.
 #[tactic(auto, using(crate::proofs::Noting::types_are))]
 fn note_rule_types(numbers: &mut List<u16>, rule: &Rule) -> Result<(), OutOfMemory>
-    ensures { OnOk result (numbers.new ≡ noted_all numbers.old (rule_types rule.now)) }
+    ensures { OnOk result (numbers.new ≡ noted_all nat_eq numbers.old (rule_types rule.now)) }
 {
     match rule {
         Rule::Plain(window) => note_types(numbers, window),
@@ -72,18 +72,18 @@ pub(crate) fn named_types(alloc: Global, rule: &Rule) -> Result<List<u16>, OutOf
 
 /// The resource that is read, where one is.
 fn note_reading(numbers: &mut List<u16>, reading: &Reading) -> Result<(), OutOfMemory>
-    ensures { OnOk result (numbers.new ≡ noted_all numbers.old (reading_resources reading.now)) }
+    ensures { OnOk result (numbers.new ≡ noted_all nat_eq numbers.old (reading_resources reading.now)) }
 {
     match reading {
         Reading::Resource(number) => note(numbers, *number),
-        Reading::Series(_) => Ok(()),
+        Reading::Series { .. } => Ok(()),
     }
 }
 
 /// The resources that a sum reads.
 #[tactic(auto, using(crate::proofs::Noting::noted_append))]
 fn note_sum(numbers: &mut List<u16>, sum: &RuleSum) -> Result<(), OutOfMemory>
-    ensures { OnOk result (numbers.new ≡ noted_all numbers.old (sum_resources sum.now)) }
+    ensures { OnOk result (numbers.new ≡ noted_all nat_eq numbers.old (sum_resources sum.now)) }
 {
     let terms = sum.terms.as_slice();
     for term in terms {
@@ -95,7 +95,7 @@ fn note_sum(numbers: &mut List<u16>, sum: &RuleSum) -> Result<(), OutOfMemory>
 /// The resources that a window reads.
 #[tactic(auto, using(crate::proofs::Noting::noted_append))]
 fn note_resources(numbers: &mut List<u16>, window: &Window) -> Result<(), OutOfMemory>
-    ensures { OnOk result (numbers.new ≡ noted_all numbers.old (resources_by_fold window.now)) }
+    ensures { OnOk result (numbers.new ≡ noted_all nat_eq numbers.old (resources_by_fold window.now)) }
 {
     match window {
         Window::Literal(_) | Window::During(_) | Window::DuringBound => Ok(()),
@@ -118,7 +118,7 @@ fn note_resources(numbers: &mut List<u16>, window: &Window) -> Result<(), OutOfM
 /// The resources that a rule reads.
 #[tactic(auto, using(crate::proofs::Noting::resources_are))]
 fn note_rule_resources(numbers: &mut List<u16>, rule: &Rule) -> Result<(), OutOfMemory>
-    ensures { OnOk result (numbers.new ≡ noted_all numbers.old (rule_resources rule.now)) }
+    ensures { OnOk result (numbers.new ≡ noted_all nat_eq numbers.old (rule_resources rule.now)) }
 {
     match rule {
         Rule::Plain(window) => note_resources(numbers, window),

@@ -13,9 +13,7 @@ ghost use Rattle.report_text.specs.SpanLines.{spans_data};
 ghost use Rattle.report_text.specs.Violations.{violations_data};
 
 use crate::answers::Report;
-use crate::details::{
-    write_cells_told, write_constraints_told, write_duration_told, write_start_told,
-};
+use crate::details::{write_details_told, write_start_told};
 use crate::profile_lines::write_profiles;
 use crate::span_lines::{Calendar, write_spans};
 use crate::violation_lines::write_violations;
@@ -140,9 +138,7 @@ fn write_found<'a>(
     line.begin_object()?;
     line.member("attached", &report.attached)?;
     line.member("branch", branch)?;
-    write_cells_told(line, report.detail, wording, run)?;
-    write_constraints_told(line, report.detail, wording, constraints)?;
-    write_duration_told(line, report.detail, run.plan.get().duration)?;
+    write_details_told(line, report.detail, wording, run, constraints)?;
     write_name_told(line, named, wording.model())?;
     line.member_in("outcome", wording, &run.outcome)?;
     write_profiles_member(line, wording, run, findings.profiles.as_slice())?;

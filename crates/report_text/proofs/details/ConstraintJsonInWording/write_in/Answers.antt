@@ -7,4 +7,4 @@ pub returns : goal.returns
 returns c =
     IfOk-equal _ _ _ _ c.end_object.ensures
     (simp part_by_part
-    (rw (c.in_ok-member_in-2.ensures, c.in_ok-member_in.ensures, c.in_ok-member.ensures, c.in_ok-begin_object.ensures, c.in_ok-types.ensures, c.in_ok-resources.ensures)))
+    (rw (c.in_ok-member_in-3.ensures, c.in_ok-member_in-2.ensures, c.in_ok-member.ensures, c.in_ok-member_in.ensures, c.in_ok-begin_object.ensures, c.in_ok-types.ensures, c.in_ok-resources.ensures, c.in_ok-datasets.ensures)))
