@@ -29,7 +29,7 @@ as_told answer wanted is tells = subst Tells (sym is) tells
 -- a session that is refused has that status, explained or not
 has_refused : (explain : Bool) (input : List ℕ) (refusal : Refusal) (answer : ProgramAnswer) → IsRefusedSession explain input refusal answer → answer.status ≡ status.Refused
 has_refused false input refusal answer is = ap (λ (one : ProgramAnswer). one.status) is
-has_refused true input refusal answer is = ap (λ (one : ProgramAnswer). one.status) is
+has_refused true input refusal answer is = ap (λ (one : ProgramAnswer). one.status) is.told
 
 refused_tells : (explain : Bool) (input : List ℕ) (refusal : Refusal) (answer : ProgramAnswer) → IsRefusedSession explain input refusal answer → Tells answer
 refused_tells explain input refusal answer is =

@@ -1,11 +1,14 @@
 -- What the program answers to the words and to the input.
-use Rattle.std.specs.Prelude.{◌≡◌, ℕ, ◌==◌, Bool, true, false, ◌||◌, List, [], length, Option, Some, None, Ok, Err, codes}
+use Rattle.std.specs.Prelude.{◌≡◌, ℕ, ◌==◌, Bool, true, false, ◌||◌, List, length, Option, Some, None, Ok, Err, codes}
+use Rattle.std.specs.List.{AllByRecursion}
 use Rattle.client_work.specs.declared.missions.ReportForm.{ReportForm}
 use Rattle.json_line.specs.Json.{line_of}
 use Rattle.command_line.specs.declared.invocation.Invocation.{Invocation}
 use Rattle.command_line.specs.declared.invocation.Mode.{Mode}
 use Rattle.command_line.specs.declared.invocation.Mode.TheVariants.{Run, Check, Make}
 use Rattle.explain.specs.Explaining.{explanation_of}
+use Rattle.explain.specs.declared.hint.Hint.{Hint}
+use Rattle.hint_trials.specs.Trials.{TakesFurther}
 use Rattle.refusal_text.specs.Refusals.{refusal_data, refused_data}
 use Rattle.refusal_text.specs.declared.refusals.Refusal.{Refusal}
 use Rattle.session_judge.specs.Accepted.{accepted_data}
@@ -58,14 +61,16 @@ refused_answer ending refusal = answer_with ending (line_of (refused_data (refus
 abbrev pub named_answer : ExitStatus → List ℕ → ProgramAnswer
 named_answer ending name = refused_answer ending (told_name name)
 
--- the text that explains why a session is refused
-abbrev pub explained_answer : List ℕ → Refusal → ProgramAnswer
-explained_answer input refusal = answer_with status.Refused (explanation_of input refusal [])
+-- the text that explains why a session is refused, with hints each of which takes the session further
+pub record IsExplained (input : List ℕ) (refusal : Refusal) (answer : ProgramAnswer) : Type 0 where
+  pub hints : List Hint
+  pub further : AllByRecursion (TakesFurther input) hints
+  pub told : answer ≡ answer_with status.Refused (explanation_of input refusal hints)
 
 -- a session is refused, and explained where that is asked for
 abbrev pub IsRefusedSession : Bool → List ℕ → Refusal → ProgramAnswer → Type 0
 IsRefusedSession false input refusal answer = answer ≡ refused_answer status.Refused refusal
-IsRefusedSession true input refusal answer = answer ≡ explained_answer input refusal
+IsRefusedSession true input refusal answer = IsExplained input refusal answer
 
 -- ---- check
 

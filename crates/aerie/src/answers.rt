@@ -5,7 +5,7 @@ ghost use Rattle.aerie_base.specs.Ranges.{step_limit};
 ghost use Rattle.command_line.specs.Invocations.{HasNumbersWithin};
 ghost use Rattle.session_judge.specs.Judging.{judged_session};
 ghost use Rattle.session_run.specs.Ruled.{CanBePerformed};
-ghost use Rattle.aerie.specs.Program.{HasRun, IsCheckAnswer, IsMadeAnswer, IsRefusedSession, IsRunAnswer, answer_with, counted_from, explained_answer, report_form, named_answer, refused_answer, summary_text};
+ghost use Rattle.aerie.specs.Program.{HasRun, IsCheckAnswer, IsExplained, IsMadeAnswer, IsRefusedSession, IsRunAnswer, answer_with, counted_from, report_form, named_answer, refused_answer, summary_text};
 ghost use Rattle.aerie.specs.declared.exit_status.ExitStatus.TheVariants.{Done};
 
 use crate::exit_status::ExitStatus;
@@ -14,6 +14,7 @@ use aerie_edge::Gate;
 use client_work::ReportForm;
 use command_line::Invocation;
 use explain::explanation;
+use hint_trials::hints;
 use refusal_text::{Refusal, refusal_line};
 use session_judge::{JudgeError, JudgedSession, accepted_line, judge, named_refusal};
 use session_make::make;
@@ -72,11 +73,12 @@ pub fn named(alloc: Global, status: ExitStatus, name: &str) -> Result<Output, Ou
     refused(alloc, status, &refusal)
 }
 
-/// What explains why a session is refused.
+/// What explains why a session is refused, with hints of what takes it further.
 fn explained(alloc: Global, input: &[u8], refusal: &Refusal) -> Result<Output, OutOfMemory>
-    ensures { IfOk result (λ output. output ≡ explained_answer input.now refusal.now) }
+    ensures { IfOk result (IsExplained input.now refusal.now) }
 {
-    let text = explanation(alloc, input, refusal, &[])?;
+    let hints = hints(alloc, input, refusal)?;
+    let text = explanation(alloc, input, refusal, hints.as_slice())?;
     Ok(Output {
         status: ExitStatus::Refused,
         text,
