@@ -4,6 +4,8 @@
 const DAY = 86400e6;
 const replies = JSON.parse(document.getElementById("output").textContent).filter((it) => it && !Array.isArray(it) && it.client !== undefined);
 const grouped = (it) => String(it).replace(/\B(?=(\d{3})+(?!\d))/g, ",");
+// A value as it is read: digits in groups, and truths, variants and texts as they are.
+const plain = (it) => (/^-?\d+$/.test(String(it)) ? grouped(it) : String(it));
 let session = null;
 try {
   const text = document.getElementById("session");
@@ -30,6 +32,14 @@ const rules_of = (ok, sort) => (session ? session[sort].filter((it) => it.model 
 const schedules_on = (ok) => replies.filter((it) => it.ok && it.ok.goals && it.ok.branch === ok.branch && it.ok.revision <= ok.revision)
   .sort((a, b) => a.ok.revision - b.ok.revision).map((it) => ({ ...it.ok, name: `revision ${it.ok.revision} (${it.client}, command ${it.command})` }));
 
+// What each constraint names: as a report with details tells, and else as the session's text says, which alone has the texts and limits.
+function constraints_of(ok, rules, datasets) {
+  const is_dataset = (name) => datasets.some((it) => it.name === name);
+  const written = rules.map((it) => ({ ...it, resources: it.names.filter((name) => !is_dataset(name)), datasets: it.names.filter(is_dataset) }));
+  if (!ok.constraints) return written;
+  return ok.constraints.map((it) => ({ text: "", comparisons: [], datasets: [], ...written.find((other) => other.name === it.name), ...it }));
+}
+
 function report_of(reply) {
   const ok = reply.ok, reach = ok.reach;
   const spans = ok.spans.map((it) => ({ ...it, to: it.end === null ? reach : it.end, children: [] }));
@@ -41,11 +51,11 @@ function report_of(reply) {
   const schedules = schedules_on(ok), by_id = new Map();
   for (const it of schedules) for (const goal of it.goals) for (const id of goal.placed) by_id.set(String(id), goal.goal);
   for (const it of spans) it.goal = it.parent ? undefined : by_id.get(it.path);
-  const violations = (ok.violations || []).flatMap((it) => it.intervals.map(([from, to]) => ({ constraint: it.constraint, path: it.path, from, to })));
+  // Behind an interval of two types that are forbidden together may stand the paths of two spans that meet.
+  const violations = (ok.violations || []).flatMap((it) => it.intervals.map(([from, to, ...pair]) => ({ constraint: it.constraint, path: it.path, from, to, pair: pair.flat() })));
   const rules = rules_of(ok, "constraints"), asked = rules_of(ok, "goals"), datasets = ok.datasets || (session ? session.datasets : []);
   const named = new Set([...rules, ...asked].flatMap((it) => it.names));
-  const constraints = rules.map((it) => ({ ...it, resources: it.names.filter((name) => !datasets.some((other) => other.name === name)), datasets: it.names }));
-  for (const told of ok.constraints || []) if (!constraints.some((it) => it.name === told.name)) constraints.push({ ...told, text: "", comparisons: [] });
+  const constraints = constraints_of(ok, rules, datasets);
   const series = [...ok.profiles.map((it) => ({ ...it, dataset: false })),
     ...datasets.filter((it) => ok.datasets || named.has(it.name)).map((it) => ({ ...it, dataset: true }))];
   const name = `${ok.branch}, revision ${ok.revision} (${reply.client}, command ${reply.command})`;
@@ -80,8 +90,7 @@ const segment_at = (series, at) => {
 function value_at(series, at) {
   const it = segment_at(series, at);
   if (!it) return "";
-  if (it.length === 3) return grouped(BigInt(it[1]) + BigInt(it[2]) * BigInt(Math.floor(at - it[0])));
-  return typeof it[1] === "boolean" || (typeof it[1] === "string" && it[1].includes(".")) ? String(it[1]) : grouped(it[1]);
+  return plain(it.length === 3 ? BigInt(it[1]) + BigInt(it[2]) * BigInt(Math.floor(at - it[0])) : it[1]);
 }
 // The texts that stand for values, where they are truths or variants.
 const names_of = (all) => {
@@ -152,7 +161,7 @@ function why_unmet(report, schedule, told) {
   const run_of = (revision) => reports.find((it) => it.ok.branch === report.ok.branch && it.ok.revision === revision);
   if (why && why.later) made.push("a later goal broke it");
   else if (why) {
-    if (why.gap !== undefined) made.push(`last gap: ${JSON.stringify(why.gap)}`);
+    if (why.gap !== undefined) made.push(`last gap: ${JSON.stringify(why.gap).replace(/[{}"]/g, "").replace(/[:,]/g, "$& ")}`);
     if (why.tried !== undefined) made.push(`${why.tried} starts were tried`);
     if (why.constraint) made.push(`the last was refused by ${why.constraint}, at ${brief(report, why.time)}`);
     else if (why.outcome) made.push(`the last run ended with ${JSON.stringify(why.outcome)}`);
