@@ -40,6 +40,12 @@ function constraints_of(ok, rules, datasets) {
   return ok.constraints.map((it) => ({ text: "", comparisons: [], datasets: [], ...written.find((other) => other.name === it.name), ...it }));
 }
 
+// The datasets that a report tells, and behind them the others of the session, of which goals may name some.
+function datasets_of(ok) {
+  const told = (ok.datasets || []).map((it) => ({ ...it, told: true })), names = new Set(told.map((it) => it.name));
+  return [...told, ...(session ? session.datasets : []).filter((it) => !names.has(it.name))];
+}
+
 function report_of(reply) {
   const ok = reply.ok, reach = ok.reach;
   const spans = ok.spans.map((it) => ({ ...it, to: it.end === null ? reach : it.end, children: [] }));
@@ -53,11 +59,11 @@ function report_of(reply) {
   for (const it of spans) it.goal = it.parent ? undefined : by_id.get(it.path);
   // Behind an interval of two types that are forbidden together may stand the paths of two spans that meet.
   const violations = (ok.violations || []).flatMap((it) => it.intervals.map(([from, to, ...pair]) => ({ constraint: it.constraint, path: it.path, from, to, pair: pair.flat() })));
-  const rules = rules_of(ok, "constraints"), asked = rules_of(ok, "goals"), datasets = ok.datasets || (session ? session.datasets : []);
+  const rules = rules_of(ok, "constraints"), asked = rules_of(ok, "goals"), datasets = datasets_of(ok);
   const named = new Set([...rules, ...asked].flatMap((it) => it.names));
   const constraints = constraints_of(ok, rules, datasets);
   const series = [...ok.profiles.map((it) => ({ ...it, dataset: false })),
-    ...datasets.filter((it) => ok.datasets || named.has(it.name)).map((it) => ({ ...it, dataset: true }))];
+    ...datasets.filter((it) => it.told || named.has(it.name)).map((it) => ({ ...it, dataset: true }))];
   const name = `${ok.branch}, revision ${ok.revision} (${reply.client}, command ${reply.command})`;
   const length = ok.duration || (session && session.duration) || reach || 1;
   return { name, ok, reach, length, spans, by_path, series, violations, schedules, asked, zero: start_of(ok), constraints };
