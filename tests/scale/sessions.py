@@ -98,6 +98,20 @@ def judged(number):
     return ORBITER + orbit_plan(number) + constraints + SIMULATE
 
 
+def with_rule(number, rule):
+    return judged(number).replace("  settled:", f"  {rule}\n  settled:")
+
+
+def shifted(number):
+    """the same and a rule for each span of a type under shift"""
+    return with_rule(number, "before: for a in Downlink: not shift(during(a), -60s, 0s) or heaters <= 1;")
+
+
+def lasting(number):
+    """the same and a rule for each span of a type under shift and longer"""
+    return with_rule(number, "before: for a in Downlink: longer(not shift(during(a), -60s, 30s) or energy >= 100, 10s) or power <= 60;")
+
+
 def same(number):
     """so many directives at one time, which change one counter"""
     model = "model m { counter c = 0; discrete c = c; activity A() { c += 1; delay 1us; c += -1; } }\n"
@@ -288,7 +302,7 @@ def downlinks(number):
     return placed(number, "Downlink")
 
 
-ALL = [orbit, judged, same, waits, rising, chain, star, children, calls, daemon, wide, edits, turns, load, merge, series, sequence, branches]
+ALL = [orbit, judged, shifted, lasting, same, waits, rising, chain, star, children, calls, daemon, wide, edits, turns, load, merge, series, sequence, branches]
 ALL += [moves, moves_quiet, repeats, alone, together, goals, marks, downlinks]
 KINDS = {it.__name__: it for it in ALL}
 
