@@ -160,6 +160,14 @@ function lacking(report, goal) {
   const bare = anchors.find((at) => !starts.some((it) => it >= at + goal.low && it <= at + goal.high));
   return bare === undefined ? "" : `no start from ${lasting(goal.low)} to ${lasting(goal.high)} after ${brief(report, bare)}`;
 }
+// The last gap of a goal. Of a recurrence and a coexistence it is a time, of a cardinality how many starts there are: the session's text
+// tells of which kind the goal is.
+function gap_told(report, goal, gap) {
+  if (!goal) return `last gap: ${grouped(gap)}`;
+  if (goal.kind === "cardinality") return `last gap: ${gap} of ${goal.count} starts in the range`;
+  const within = goal.kind === "recurrence" ? `in ${lasting(goal.every)}` : `from ${lasting(goal.low)} to ${lasting(goal.high)}`;
+  return `last gap: no start ${within} after ${brief(report, gap)}`;
+}
 // Why a schedule of the report's branch left a goal unmet: as the schedule tells, or what can be seen: what is lacking in the run of its
 // plan, and the constraints behind `keeping` that the plan before violates.
 function why_unmet(report, schedule, told) {
@@ -167,8 +175,8 @@ function why_unmet(report, schedule, told) {
   const run_of = (revision) => reports.find((it) => it.ok.branch === report.ok.branch && it.ok.revision === revision);
   if (why && why.later) made.push("a later goal broke it");
   else if (why) {
-    if (why.gap !== undefined) made.push(`last gap: ${JSON.stringify(why.gap).replace(/[{}"]/g, "").replace(/[:,]/g, "$& ")}`);
-    if (why.tried !== undefined) made.push(`${why.tried} starts were tried`);
+    made.push(gap_told(report, goal, why.gap));
+    made.push(why.tried === 1 ? "1 start was tried" : `${why.tried || "no"} starts were tried`);
     if (why.constraint) made.push(`the last was refused by ${why.constraint}, at ${brief(report, why.time)}`);
     else if (why.outcome) made.push(`the last run ended with ${JSON.stringify(why.outcome)}`);
   } else if (goal) {

@@ -252,6 +252,9 @@ impl Stock {
 
     /// Whether there are many more records than the bench's own and the frames of a run.
     fn is_long(&self, run: &Run) -> bool {
+        if self.book.len() <= BOOK_LIMIT + LEAST_SPARE {
+            return false;
+        }
         let spare = count_frames(run).saturating_mul(2);
         let most = spare.saturating_add(BOOK_LIMIT + LEAST_SPARE);
         self.book.len() > most

@@ -1,6 +1,7 @@
 -- What is told of commands can be printed.
 use Rattle.std.proofs.Common.{◌≡◌, refl, sym, subst, ℕ, zero, suc, ◌<◌, Bool, true, false, List, [], ◌∷◌, length, Option, Result, Ok, Err, if◌then◌else◌, arith}
 use Rattle.std.specs.List.{AllByRecursion}
+use Rattle.aerie_base.specs.declared.models.model.Parts.{Parts}
 use Rattle.aerie_base.specs.declared.plans.Plan.{Plan}
 use Rattle.goals.specs.declared.status.GoalStatus.{GoalStatus}
 use Rattle.commands.specs.declared.commands.Command.{Command}
@@ -14,7 +15,7 @@ use Rattle.plan_merge.specs.Merging.{merge_of}
 use Rattle.report_text.specs.declared.answers.Answer.{Answer}
 use Rattle.report_text.specs.declared.answers.Answer.TheVariants as answer
 use Rattle.client_work.specs.declared.missions.Mission.{Mission}
-use Rattle.client_work.specs.Meanings.{are_of_one_model, scheduled}
+use Rattle.client_work.specs.Meanings.{are_of_one_model, ruled_by, scheduled}
 use Rattle.client_work.specs.Told.{by_fetched, command_told, merge_placed, merge_told, merged_or_refused, reply_to, report_of, schedule_told, sequence_told}
 use Rattle.client_work.specs.Working.{CanBeTold, IsAtWork, IsPlanAt, IsReplyAt}
 use Rattle.client_work.proofs.ModelPositions.{of_mission}
@@ -76,23 +77,23 @@ module _ (mission : Mission) (lock : LockView) (pass : PassView) (at : IsAtWork 
   sequence_can : (revision : ℕ) (plan : Plan) → CanBeTold mission (sequence_told mission revision plan)
   sequence_can revision plan = record { some_model = some_model; shown = tt; of_model = tt }
 
-  schedule_can : (goals : List GoalStatus) (trials : ℕ) (said : Reply) → IsReplyAt lock said → CanBeTold mission (schedule_told goals trials said)
-  schedule_can goals trials (reply.Placed revision) known = record { some_model = some_model; shown = tt; of_model = tt }
-  schedule_can goals trials (reply.Fetched revision plan kept) known = reply_can (reply.Fetched revision plan kept) known
-  schedule_can goals trials (reply.Opened revision) known = reply_can (reply.Opened revision) known
-  schedule_can goals trials reply.Dropped known = reply_can reply.Dropped known
-  schedule_can goals trials (reply.Added id revision) known = reply_can (reply.Added id revision) known
-  schedule_can goals trials (reply.Edited revision) known = reply_can (reply.Edited revision) known
-  schedule_can goals trials (reply.Loaded first count revision) known = reply_can (reply.Loaded first count revision) known
-  schedule_can goals trials reply.Attached known = reply_can reply.Attached known
-  schedule_can goals trials reply.NoBranch known = reply_can reply.NoBranch known
-  schedule_can goals trials reply.BranchExists known = reply_can reply.BranchExists known
-  schedule_can goals trials reply.TooManyBranches known = reply_can reply.TooManyBranches known
-  schedule_can goals trials reply.NoMapping known = reply_can reply.NoMapping known
-  schedule_can goals trials (reply.Unmapped id) known = reply_can (reply.Unmapped id) known
-  schedule_can goals trials (reply.Misfit id number) known = reply_can (reply.Misfit id number) known
-  schedule_can goals trials (reply.Edit refusal) known = reply_can (reply.Edit refusal) known
-  schedule_can goals trials (reply.Stale seen now) known = reply_can (reply.Stale seen now) known
+  schedule_can : (model : Parts) (goals : List GoalStatus) (trials : ℕ) (said : Reply) → IsReplyAt lock said → CanBeTold mission (schedule_told mission model goals trials said)
+  schedule_can model goals trials (reply.Placed revision) known = record { some_model = some_model; shown = tt; of_model = tt }
+  schedule_can model goals trials (reply.Fetched revision plan kept) known = reply_can (reply.Fetched revision plan kept) known
+  schedule_can model goals trials (reply.Opened revision) known = reply_can (reply.Opened revision) known
+  schedule_can model goals trials reply.Dropped known = reply_can reply.Dropped known
+  schedule_can model goals trials (reply.Added id revision) known = reply_can (reply.Added id revision) known
+  schedule_can model goals trials (reply.Edited revision) known = reply_can (reply.Edited revision) known
+  schedule_can model goals trials (reply.Loaded first count revision) known = reply_can (reply.Loaded first count revision) known
+  schedule_can model goals trials reply.Attached known = reply_can reply.Attached known
+  schedule_can model goals trials reply.NoBranch known = reply_can reply.NoBranch known
+  schedule_can model goals trials reply.BranchExists known = reply_can reply.BranchExists known
+  schedule_can model goals trials reply.TooManyBranches known = reply_can reply.TooManyBranches known
+  schedule_can model goals trials reply.NoMapping known = reply_can reply.NoMapping known
+  schedule_can model goals trials (reply.Unmapped id) known = reply_can (reply.Unmapped id) known
+  schedule_can model goals trials (reply.Misfit id number) known = reply_can (reply.Misfit id number) known
+  schedule_can model goals trials (reply.Edit refusal) known = reply_can (reply.Edit refusal) known
+  schedule_can model goals trials (reply.Stale seen now) known = reply_can (reply.Stale seen now) known
 
   placed_can : (added : List ℕ) (said : Reply) → IsReplyAt lock said → CanBeTold mission (merge_placed added said)
   placed_can added (reply.Placed revision) known = record { some_model = some_model; shown = tt; of_model = tt }
@@ -135,8 +136,10 @@ module _ (mission : Mission) (lock : LockView) (pass : PassView) (at : IsAtWork 
       (λ revision plan is. report_can count revision plan (reply_to replies 1) is)
   can_be_told count (Schedule branch) replies all =
       fetched_can (reply_to replies 0)
-      (λ revision plan. schedule_told (scheduled mission.models mission.bound plan).goals (scheduled mission.models mission.bound plan).trials (reply_to replies 1)) (known_at lock replies 0 all)
-      (λ revision plan is. schedule_can (scheduled mission.models mission.bound plan).goals (scheduled mission.models mission.bound plan).trials (reply_to replies 1) (known_at lock replies 1 all))
+      (λ revision plan. schedule_told mission (ruled_by mission.models plan).model (scheduled mission.models mission.bound plan).goals (scheduled mission.models mission.bound plan).trials (reply_to replies 1))
+      (known_at lock replies 0 all)
+      (λ revision plan is.
+      schedule_can (ruled_by mission.models plan).model (scheduled mission.models mission.bound plan).goals (scheduled mission.models mission.bound plan).trials (reply_to replies 1) (known_at lock replies 1 all))
   can_be_told count (Merge target source base) replies all =
       fetched_can (reply_to replies 0)
       (λ _ target_plan. by_fetched (reply_to replies 1) (λ _ source_plan. by_fetched (reply_to replies 2) (λ _ base_plan. merge_told base_plan source_plan target_plan (reply_to replies 3))))

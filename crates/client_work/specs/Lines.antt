@@ -34,6 +34,7 @@ model_shown mission other = first_model mission
 abbrev pub model_told : Mission → Answer → Parts
 model_told mission (answer.Reply reply) = model_shown mission reply
 model_told mission (answer.Report report) = report.run.model
+model_told mission (answer.Schedule report) = report.model
 model_told mission (answer.Expanded report) = report.run.model
 model_told mission other = first_model mission
 

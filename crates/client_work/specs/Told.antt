@@ -1,5 +1,6 @@
 -- What is told of a command, by the replies to what it did.
 use Rattle.std.specs.Prelude.{ℕ, Bool, true, false, List, get_or, Option, Some, None, Result, Ok, Err, if◌then◌else◌}
+use Rattle.aerie_base.specs.declared.models.model.Parts.{Parts}
 use Rattle.aerie_base.specs.declared.plans.Plan.{Plan}
 use Rattle.commands.specs.declared.commands.Command.{Command}
 use Rattle.commands.specs.declared.commands.Command.TheVariants.{New, Fork, Drop, Edit, Migrate, Show, Simulate, Schedule, Merge, Expand}
@@ -54,10 +55,11 @@ sequence_told mission revision plan = answer.Expanded (record {
   revision = revision;
 })
 
--- what was made of goals by so many trials, by the reply to the Place
-abbrev pub schedule_told : List GoalStatus → ℕ → Reply → Answer
-schedule_told goals trials (reply.Placed revision) = answer.Schedule revision goals trials
-schedule_told goals trials other = answer.Reply other
+-- what was made of goals by so many trials for a plan of a model, by the reply to the Place
+abbrev pub schedule_told : Mission → Parts → List GoalStatus → ℕ → Reply → Answer
+schedule_told mission model goals trials (reply.Placed revision) =
+    answer.Schedule (record { model = model; revision = revision; goals = goals; trials = trials; detail = mission.form.detail })
+schedule_told mission model goals trials other = answer.Reply other
 
 -- a merge that added these directives, likewise
 abbrev pub merge_placed : List ℕ → Reply → Answer
@@ -85,7 +87,8 @@ command_told mission count (Simulate branch) replies =
     by_fetched (reply_to replies 0) (λ revision plan. report_of mission count revision plan (reply_to replies 1))
 command_told mission count (Schedule branch) replies =
     by_fetched (reply_to replies 0) (λ revision plan.
-    schedule_told (scheduled mission.models mission.bound plan).goals (scheduled mission.models mission.bound plan).trials (reply_to replies 1))
+    schedule_told mission (ruled_by mission.models plan).model (scheduled mission.models mission.bound plan).goals
+    (scheduled mission.models mission.bound plan).trials (reply_to replies 1))
 command_told mission count (Merge target source base) replies =
     by_fetched (reply_to replies 0) (λ _ target_plan. by_fetched (reply_to replies 1) (λ _ source_plan. by_fetched (reply_to replies 2) (λ _ base_plan.
     merge_told base_plan source_plan target_plan (reply_to replies 3))))

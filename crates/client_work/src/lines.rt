@@ -21,6 +21,7 @@ fn model_told<'a>(mission: &'a Mission, answer: &'a Answer) -> &'a Model
     match answer {
         Answer::Reply(Reply::Fetched { plan, .. }) => mission.ruled(plan).model.get(),
         Answer::Report(report) => report.run.get().model().get(),
+        Answer::Schedule(report) => report.model.get(),
         Answer::Expanded(report) => report.run.get().model().get(),
         _ => mission.first(),
     }

@@ -29,7 +29,8 @@ pub struct RuledModel {
 pub struct ReportForm {
     /// Whether they tell how many statements their simulations ran.
     pub stats: bool,
-    /// Whether they tell the plan's start and duration, the cells at the end and what the constraints name.
+    /// Whether they tell the plan's start and duration, the cells at the end, what the constraints name and which spans meet, and
+    /// those of schedules why goals are unmet.
     pub detail: bool,
 }
 

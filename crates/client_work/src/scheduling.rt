@@ -12,12 +12,13 @@ ghost use Rattle.client_work.specs.Working.{AreBenchesAt, begun, IsAssignedTo, I
 use crate::acting::act;
 use crate::benches::Benches;
 use crate::fetching::{FetchedBranch, fetched};
+use crate::missions::Mission;
 use crate::workplace::{Assignment, Worker, Workplace};
-use aerie_base::{List, Name, OutOfMemory, Steps};
+use aerie_base::{List, Model, Name, OutOfMemory, Shared, Steps};
 use aerie_edge::Gate;
 use goals::GoalStatus;
 use hangar_core::{Action, Reply};
-use report_text::Answer;
+use report_text::{Answer, ScheduleReport};
 use scheduler::Schedule;
 use std::alloc::Global;
 use std::sync::Wait;
@@ -58,16 +59,24 @@ fn schedule_of<R: Threads + Wait + Sync, G: Gate, L: Ledger, K: Ledger>(
     Ok(made)
 }
 
-/// What is told of what was made of goals, by the reply to the Place.
-fn schedule_told(goals: List<GoalStatus>, trials: u32, reply: Reply) -> Answer
-    ensures { result ≡ told_by goals trials reply }
+/// What is told of what was made of goals for a plan of a model, by the reply to the Place.
+fn schedule_told(
+    mission: &Mission,
+    model: Shared<Model>,
+    goals: List<GoalStatus>,
+    trials: u32,
+    reply: Reply,
+) -> Answer
+    ensures { result ≡ told_by mission.now model goals trials reply }
 {
     match reply {
-        Reply::Placed { revision } => Answer::Schedule {
+        Reply::Placed { revision } => Answer::Schedule(ScheduleReport {
+            model,
             revision,
             goals,
             trials,
-        },
+            detail: mission.form.detail,
+        }),
         refusal => Answer::Reply(refusal),
     }
 }
@@ -98,6 +107,8 @@ fn schedule_fetched<R: Threads + Wait + Sync, G: Gate, L: Ledger, K: Ledger>(
         worker.looks,
     )?;
     let seen = found.revision;
+    let mission = workplace.mission;
+    let model = mission.ruled(&found.plan).model.share()?;
     let branch = branch.copy(alloc)?;
     let placing = Action::Place {
         branch,
@@ -105,7 +116,7 @@ fn schedule_fetched<R: Threads + Wait + Sync, G: Gate, L: Ledger, K: Ledger>(
         plan: made.plan,
     };
     let reply = act(alloc, assignment, 1, placing, worker.pass)?;
-    Ok(schedule_told(made.goals, made.trials, reply))
+    Ok(schedule_told(mission, model, made.goals, made.trials, reply))
 }
 
 /// What becomes of a schedule of a branch, by the reply to its Fetch.

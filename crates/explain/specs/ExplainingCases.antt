@@ -53,6 +53,14 @@ pub a_fraction : told_of (codes "rate -180.5;") (refused_at (codes "Syntax") 1 1
 unfolding tokens_of tokens_from token_at digits_at symbol_len word_sort symbol_sort digits template
 a_fraction = refl
 
+pub a_start_without_quotes : told_of (codes "plan p { start 2030-01-01T00:00:00Z; }") (refused_at (codes "Syntax") 1 16)
+    ≡ codes "refused: Syntax at line 1, column 16\n"
+    ++ codes "  1 | plan p { start 2030-01-01T00:00:00Z; }\n"
+    ++ codes "    |                ^^^^\n"
+    ++ codes "  a start stands in quotation marks, as `start \"2030-01-01T00:00:00Z\";`\n"
+unfolding tokens_of tokens_from token_at digits_at symbol_len word_sort symbol_sort digits template
+a_start_without_quotes = refl
+
 pub a_brace_is_missing : told_of (codes "model m {\n  daemon { delay 1s; }\n") (refused_at (codes "Syntax") 3 1)
     ≡ codes "refused: Syntax at line 3, column 1\n"
     ++ codes "  3 | \n"
@@ -84,6 +92,15 @@ pub a_cell_in_rules : told_of (codes "counter n = 0; plan p { } constraints { c:
     ++ codes "  `n` is a cell, and a resource is wanted here: declare one, as `discrete n = n;` or `linear n = n.volume;`\n"
 unfolding tokens_of tokens_from token_at digits_at symbol_len word_sort symbol_sort digits template
 a_cell_in_rules = refl
+
+-- the type of a parameter with a default
+pub a_type_of_another_language : told_of (codes "activity A(on: bool = false) { }") (refused_at (codes "Unknown") 1 16)
+    ≡ codes "refused: Unknown at line 1, column 16\n"
+    ++ codes "  1 | activity A(on: bool = false) { }\n"
+    ++ codes "    |                ^^^^\n"
+    ++ codes "  `bool` names no type: these are int, duration, truth and the enumerations of the model\n"
+unfolding tokens_of tokens_from token_at digits_at symbol_len word_sort symbol_sort digits template
+a_type_of_another_language = refl
 
 pub a_name_twice : told_of (codes "counter n = 0;\ncounter n = 1;") (refused_at (codes "Duplicate") 2 9)
     ≡ codes "refused: Duplicate at line 2, column 9\n"

@@ -81,7 +81,7 @@ abbrev pub unknown_beside : List ℕ → List SortedToken → ℕ → SortedToke
 unknown_beside bytes tokens at before here behind =
     if same_sort sort.Dot before.sort then about here cause.UnknownVariant
     else if is_changed before behind then changed_because here (declaring_word cell_words bytes (word_of_token bytes here) sort.Arrow tokens)
-    else if same_sort sort.Assign behind.sort then about here cause.UnknownParameter
+    else if same_sort sort.Assign behind.sort && not (same_sort sort.Colon before.sort) then about here cause.UnknownParameter
     else if is_among_sorts type_openers before.sort || same_sort sort.OpenParenthesis behind.sort then about here cause.UnknownType
     else unknown_behind bytes tokens at before here
 

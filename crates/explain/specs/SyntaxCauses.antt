@@ -257,10 +257,15 @@ ended_because bytes (Some brace) = of_line cause.OpenBrace (spot_line bytes brac
 abbrev pub bytes_because : ℕ → ℕ → Cause → Because
 bytes_because from count cause = record { cause = cause; from = from; to = from + count; number = 0 }
 
+-- four digits in front of a dash begin an instant
+abbrev pub is_year : List ℕ → Bool
+is_year rest = (prefix_len is_ascii_digit rest == 4) && bytes_eq (take 1 (drop 4 rest)) (codes "-")
+
 -- where digits begin no number
 abbrev pub digits_because : ℕ → List ℕ → Because
 digits_because offset rest =
-    if prefix_len is_word_byte rest == prefix_len is_ascii_digit rest
+    if is_year rest then plain cause.StartText
+    else if prefix_len is_word_byte rest == prefix_len is_ascii_digit rest
     then bytes_because offset (prefix_len is_word_byte rest) cause.LongNumber
     else bytes_because offset (prefix_len is_word_byte rest) cause.BadUnit
 

@@ -183,7 +183,7 @@ fn unknown_beside(
         about(here, Cause::UnknownVariant)
     } else if is_changed(before, behind) {
         changed_because(here, cell_word(bytes, word_of(bytes, here), tokens))
-    } else if Sort::Assign.is(behind.sort) {
+    } else if Sort::Assign.is(behind.sort) && !Sort::Colon.is(before.sort) {
         about(here, Cause::UnknownParameter)
     } else if opens_type(before.sort) || Sort::OpenParenthesis.is(behind.sort) {
         about(here, Cause::UnknownType)

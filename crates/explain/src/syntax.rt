@@ -5,7 +5,7 @@ ghost use Rattle.std.specs.Char.{is_ascii_digit};
 ghost use Rattle.std.specs.List.{prefix_len};
 ghost use Rattle.aerie_text.specs.Bytes.{is_white};
 ghost use Rattle.explain.specs.Becauses.{is_among_sorts as is_among_sorts_by};
-ghost use Rattle.explain.specs.SyntaxCauses.{begins_section as begins_section_by, tokens_around as tokens_around_by, brace_because as brace_because_by, bytes_because as bytes_because_by, digits_because as digits_because_by, ended_because as ended_because_by, is_bare_call as is_bare_call_by, is_fraction as is_fraction_by, is_glued as is_glued_by, is_grouped as is_grouped_by, is_plan_head as is_plan_head_by, is_reserved_word as is_reserved_word_by, is_unit as is_unit_by, is_unnamed as is_unnamed_by, is_without_arguments as is_without_arguments_by, lacking_because as lacking_because_by, literal_sorts, name_closers, name_openers, open_brace as open_brace_by, outside_because as outside_because_by, part_because as part_because_by, part_ends, part_openers, reserved_because as reserved_because_by, rest_because as rest_because_by, section_heads, section_words, sign_because as sign_because_by, stands_at as stands_at_by, statement_ends, syntax_because as syntax_because_by, test_openers, token_because as token_because_by, uncut_because as uncut_because_by, unexpected_because as unexpected_because_by, value_openers, value_words, wants_name as wants_name_by};
+ghost use Rattle.explain.specs.SyntaxCauses.{begins_section as begins_section_by, tokens_around as tokens_around_by, brace_because as brace_because_by, bytes_because as bytes_because_by, digits_because as digits_because_by, ended_because as ended_because_by, is_bare_call as is_bare_call_by, is_fraction as is_fraction_by, is_glued as is_glued_by, is_grouped as is_grouped_by, is_plan_head as is_plan_head_by, is_reserved_word as is_reserved_word_by, is_unit as is_unit_by, is_unnamed as is_unnamed_by, is_without_arguments as is_without_arguments_by, is_year as is_year_by, lacking_because as lacking_because_by, literal_sorts, name_closers, name_openers, open_brace as open_brace_by, outside_because as outside_because_by, part_because as part_because_by, part_ends, part_openers, reserved_because as reserved_because_by, rest_because as rest_because_by, section_heads, section_words, sign_because as sign_because_by, stands_at as stands_at_by, statement_ends, syntax_because as syntax_because_by, test_openers, token_because as token_because_by, uncut_because as uncut_because_by, unexpected_because as unexpected_because_by, value_openers, value_words, wants_name as wants_name_by};
 
 use crate::becauses::{
     about, about_line, across, is_among_sorts, is_letter_word, of_line, plain, spot_line,
@@ -13,7 +13,7 @@ use crate::becauses::{
 };
 use crate::causes::{Because, Cause};
 use crate::names::has_sort;
-use crate::sorted::{SortedToken, token_at, token_before, word_of};
+use crate::sorted::{SortedToken, part_of, token_at, token_before, word_of};
 use crate::sources::{is_letter, word_len};
 use aerie_text::Sort;
 
@@ -659,13 +659,22 @@ fn is_white(byte: u8) -> bool
     matches!(byte, b' ' | b'\t' | b'\n' | b'\r')
 }
 
+/// Whether four digits stand in front of a dash, as an instant begins.
+fn is_year(rest: &[u8]) -> bool
+    ensures { result ≡ is_year_by rest.now }
+{
+    digit_len(rest) == 4 && part_of(rest, 4, 1) == "-".as_bytes()
+}
+
 /// Why digits begin no number.
 fn digits_because(offset: usize, rest: &[u8]) -> Because
     requires { offset + length rest.now < 2 ^ 64 }
     ensures { result ≡ digits_because_by offset rest.now }
 {
     let len = word_len(rest);
-    if len == digit_len(rest) {
+    if is_year(rest) {
+        plain(Cause::StartText)
+    } else if len == digit_len(rest) {
         bytes_because(offset, len, Cause::LongNumber)
     } else {
         bytes_because(offset, len, Cause::BadUnit)

@@ -1,2 +1,4 @@
 pub mod ChangedCells
+pub mod LeastPairs
+pub mod PairSweep
 pub mod SettledStates

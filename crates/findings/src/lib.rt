@@ -1,8 +1,11 @@
-//! What is found on a run: its spans, the profiles of its resources, the violations of constraints, and its cells at a time.
+//! What is found on a run: its spans, the profiles of its resources, the violations of constraints, its cells at a time,
+//! and which spans meet at times.
 #![tactic(auto)]
 
 mod cells;
 mod findings;
+mod pairs;
 
 pub use cells::cells_at;
 pub use findings::{Findings, find};
+pub use pairs::{PairedInterval, paired_intervals};

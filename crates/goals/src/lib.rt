@@ -10,6 +10,7 @@ mod gaps;
 mod matching;
 mod status;
 mod types;
+mod unmet;
 
 pub use candidate_times::candidates;
 pub use filled::is_filled;
@@ -17,3 +18,4 @@ pub use first_gaps::{met, missing};
 pub use gap::Gap;
 pub use status::GoalStatus;
 pub use types::{Goal, GoalAnchor, GoalKind, Template};
+pub use unmet::{OpenGap, Rejection, Unmet};

@@ -1,5 +1,6 @@
 ghost use Rattle.std.specs.Prelude.{◌≡◌, IfOk};
 
+use crate::unmet::Unmet;
 use aerie_base::{List, Name, OutOfMemory};
 use std::alloc::Global;
 
@@ -12,6 +13,8 @@ pub struct GoalStatus {
     pub met: bool,
     /// The directives that were placed for it and stayed, by their ids, in the order in which they were placed.
     pub placed: List<u32>,
+    /// Why it is unmet; none where it is met, and where that run did not complete.
+    pub why: Option<Unmet>,
 }
 
 impl GoalStatus {
@@ -21,10 +24,15 @@ impl GoalStatus {
     {
         let goal = self.goal.copy(alloc)?;
         let placed = Vec::from_slice(alloc, self.placed.as_slice())?;
+        let why = match &self.why {
+            Some(why) => Some(why.copy(alloc)?),
+            None => None,
+        };
         Ok(GoalStatus {
             goal,
             met: self.met,
             placed: List::from_vec(placed),
+            why,
         })
     }
 }

@@ -61,6 +61,44 @@ pub(crate) fn sections_moved(sheet: &Sheet, found: &mut Proposals) -> Result<(),
     Ok(())
 }
 
+/// The piece with which the last `let` of a name begins in front of a piece.
+fn last_made(sheet: &Sheet, before: usize, name: &[u8]) -> Option<usize> {
+    let mut found = None;
+    let to = before.min(sheet.pieces.len());
+    for number in 0..to {
+        if sheet.is(number, "let") && sheet.text(number.saturating_add(1)) == name {
+            found = Some(number);
+        }
+    }
+    found
+}
+
+/// The piece with which a statement begins whose block opens at a piece.
+fn statement_of(sheet: &Sheet, open: usize) -> usize {
+    let mut begin = 0usize;
+    let to = open.min(sheet.pieces.len());
+    for number in 0..to {
+        if sheet.is_one_of(number, &[";", "{", "}"]) {
+            begin = number.saturating_add(1);
+        }
+    }
+    begin
+}
+
+/// Adds that a local of a piece's name is made in front of the block that it was made in.
+pub(crate) fn made_in_front(
+    sheet: &Sheet,
+    number: usize,
+    found: &mut Proposals,
+) -> Result<(), OutOfMemory> {
+    let Some(made) = last_made(sheet, number, sheet.text(number)) else {
+        return Ok(());
+    };
+    let end = sheet.next(made, ";").unwrap_or(made);
+    let open = sheet.opening(made).unwrap_or(made);
+    moved(sheet, statement_of(sheet, open), made, end, found)
+}
+
 /// Adds that a `require` stands in front of the other statements of its activity.
 pub(crate) fn require_moved(sheet: &Sheet, found: &mut Proposals) -> Result<(), OutOfMemory> {
     if sheet.is(sheet.at, "require") {

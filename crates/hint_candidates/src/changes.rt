@@ -68,7 +68,7 @@ fn by_name(
         b"NotLinear" => not_linear(sheet, found),
         b"OutOfRange" => out_of_range(sheet, found),
         b"Start" => no_start(alloc, sheet, found),
-        b"Invalid" => invalid(alloc, sheet, sheet.on(1), found),
+        b"Invalid" => invalid(sheet, sheet.on(1), found),
         _ => Ok(()),
     }
 }

@@ -6,14 +6,13 @@ use crate::types::{argument_in, missing_argument, other_values};
 use aerie_base::OutOfMemory;
 use plan_edit::EditError;
 use session_sketch::{
-    Piece, Sheet, begins_with_digit, declared, duration_text, from_to, given, is_argument,
-    is_digits, micros_of, nth, parameter_named, plan_duration, value_end, value_of,
+    Piece, Sheet, begins_with_digit, declared, from_to, given, is_argument, is_digits, micros_of,
+    nth, parameter_named, plan_duration, value_end, value_of,
 };
 use std::alloc::Global;
 
 /// Adds longer plans, and earlier times, for a directive at a piece that is outside of its plan.
 fn outside(
-    alloc: Global,
     sheet: &Sheet,
     at: usize,
     name: usize,
@@ -26,10 +25,10 @@ fn outside(
         let longer = (time / 3_600_000_000)
             .saturating_add(1)
             .saturating_mul(3_600_000_000);
-        found.replace(duration, duration_text(alloc, longer)?.as_str())?;
+        found.replace_duration(duration, longer)?;
         let plan = micros_of(sheet.text(plan_duration(sheet)));
         let earlier = plan.saturating_sub(3_600_000_000).max(plan / 2).max(1);
-        found.replace(when, duration_text(alloc, earlier)?.as_str())?;
+        found.replace_duration(when, earlier)?;
     } else {
         let instant = sheet.text(at.saturating_add(1));
         let start = sheet
@@ -44,7 +43,6 @@ fn outside(
 
 /// Adds other directives as the anchor of one at a piece, the number of which is given, from 0.
 fn other_anchors(
-    alloc: Global,
     sheet: &Sheet,
     at: usize,
     name: usize,
@@ -56,7 +54,7 @@ fn other_anchors(
     let behind = which.saturating_add(2);
     for id in [which, before, 1, behind] {
         if id != 0 {
-            found.replace(anchor, format!(in alloc; "{id}")?.as_str())?;
+            found.replace_number(anchor, u64::from(id))?;
         }
     }
     let when = from_to(sheet, at.saturating_add(1), name.saturating_sub(1));
@@ -109,7 +107,6 @@ fn literal_of(
 
 /// Adds the numbers beside a literal in place of a value.
 fn beside_literal(
-    alloc: Global,
     sheet: &Sheet,
     literal: usize,
     value: Piece,
@@ -119,15 +116,14 @@ fn beside_literal(
     if is_digits(text) {
         let more = value_of(text).saturating_add(1);
         let less = value_of(text).saturating_sub(1);
-        found.replace(value, format!(in alloc; "{more}")?.as_str())?;
-        found.replace(value, format!(in alloc; "{less}")?.as_str())?;
+        found.replace_number(value, more)?;
+        found.replace_number(value, less)?;
     }
     Ok(())
 }
 
 /// Adds the literals of a `require` that speaks of an argument, and the numbers beside them, in place of its value.
 fn literals_of(
-    alloc: Global,
     sheet: &Sheet,
     requirement: (usize, usize),
     value: Piece,
@@ -139,7 +135,7 @@ fn literals_of(
         }
     }
     for literal in requirement.0..requirement.1 {
-        beside_literal(alloc, sheet, literal, value, found)?;
+        beside_literal(sheet, literal, value, found)?;
     }
     Ok(())
 }
@@ -156,7 +152,6 @@ fn speaks_of(sheet: &Sheet, requirement: (usize, usize), name: &[u8]) -> bool {
 
 /// Adds other values for an argument, which stands at a piece, by the `require`s behind the parameters that open at another one.
 fn other_argument(
-    alloc: Global,
     sheet: &Sheet,
     declared: usize,
     name: usize,
@@ -171,7 +166,7 @@ fn other_argument(
         if sheet.is(from, "require") {
             end = sheet.next(from, ";").unwrap_or(from);
             if speaks_of(sheet, (from, end), sheet.text(name)) {
-                literals_of(alloc, sheet, (from, end), value, found)?;
+                literals_of(sheet, (from, end), value, found)?;
             }
         }
     }
@@ -180,7 +175,6 @@ fn other_argument(
 
 /// Adds other arguments for an activity whose `require`s refuse those behind a parenthesis.
 pub(crate) fn invalid(
-    alloc: Global,
     sheet: &Sheet,
     open: usize,
     found: &mut Proposals,
@@ -189,7 +183,7 @@ pub(crate) fn invalid(
     let close = sheet.closing(open).unwrap_or(open);
     for number in open..close {
         if is_argument(sheet, number) {
-            other_argument(alloc, sheet, declared, number, found)?;
+            other_argument(sheet, declared, number, found)?;
         }
     }
     for number in open..close {
@@ -217,12 +211,12 @@ pub(crate) fn directive(
             bad_argument(alloc, sheet, open, parameter.as_str().as_bytes(), found)
         }
         EditError::Invalid { .. } => {
-            invalid(alloc, sheet, open, found)?;
+            invalid(sheet, open, found)?;
             missing_argument(sheet, name, found)
         }
-        EditError::OutsidePlan => outside(alloc, sheet, at, name, found),
+        EditError::OutsidePlan => outside(sheet, at, name, found),
         EditError::NoAnchor | EditError::Cycle | EditError::NoDirective => {
-            other_anchors(alloc, sheet, at, name, which, found)
+            other_anchors(sheet, at, name, which, found)
         }
         _ => Ok(()),
     }

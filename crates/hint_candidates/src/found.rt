@@ -1,7 +1,7 @@
 //! The changes that were found.
 
 use aerie_base::{List, OutOfMemory, Text};
-use session_sketch::Piece;
+use session_sketch::{Piece, digits_in, duration_text};
 use std::alloc::Global;
 
 /// The most changes that are gathered.
@@ -99,13 +99,7 @@ impl Proposals {
         one: &[u8],
         other: &[u8],
     ) -> Result<(), OutOfMemory> {
-        let mut joined: Vec<u8> = Vec::new(self.alloc);
-        joined.extend_from_slice(one)?;
-        joined.extend_from_slice(other)?;
-        match str::from_utf8(joined.as_slice()) {
-            Ok(text) => self.replace(piece, text),
-            Err(_) => Ok(()),
-        }
+        self.replace_parts(piece, &[one, other])
     }
 
     /// Adds that a piece becomes a text.
@@ -120,6 +114,28 @@ impl Proposals {
         parts: &[&[u8]],
     ) -> Result<(), OutOfMemory> {
         self.put_parts(piece.from, piece.to, parts)
+    }
+
+    /// Adds that a piece becomes a number.
+    pub(crate) fn replace_number(&mut self, piece: Piece, number: u64) -> Result<(), OutOfMemory> {
+        let text = format!(in self.alloc; "{number}")?;
+        self.replace(piece, text.as_str())
+    }
+
+    /// Adds that a piece becomes a duration of so many microseconds.
+    pub(crate) fn replace_duration(
+        &mut self,
+        piece: Piece,
+        micros: u64,
+    ) -> Result<(), OutOfMemory> {
+        let text = duration_text(self.alloc, micros)?;
+        self.replace(piece, text.as_str())
+    }
+
+    /// Adds that a piece becomes the digits among some bytes.
+    pub(crate) fn replace_digits(&mut self, piece: Piece, bytes: &[u8]) -> Result<(), OutOfMemory> {
+        let digits = digits_in(self.alloc, bytes)?;
+        self.replace_parts(piece, &[digits.as_slice()])
     }
 
     /// Adds that a text is put behind a piece.

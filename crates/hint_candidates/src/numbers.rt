@@ -3,14 +3,11 @@
 use crate::found::Proposals;
 use aerie_base::OutOfMemory;
 use session_sketch::{
-    Sheet, begins_with_digit, digit_count, digits_in, duration_text, from_to, is_digits, micros_of,
-    part, unit_of, value_of,
+    Sheet, begins_with_digit, digit_count, from_to, is_digits, micros_of, part, unit_of, value_of,
 };
-use std::alloc::Global;
 
 /// Adds the duration that is meant by some pieces.
 fn meant_duration(
-    alloc: Global,
     sheet: &Sheet,
     first: usize,
     last: usize,
@@ -25,40 +22,31 @@ fn meant_duration(
     }
     let micros = micros_of(bytes);
     if micros != 0 {
-        found.replace(
-            from_to(sheet, first, last),
-            duration_text(alloc, micros)?.as_str(),
-        )?;
+        found.replace_duration(from_to(sheet, first, last), micros)?;
     }
     Ok(())
 }
 
 /// Adds what may be meant by a number with a fraction: a duration, or one of the two whole numbers beside it.
 fn fraction(
-    alloc: Global,
     sheet: &Sheet,
     first: usize,
     last: usize,
     found: &mut Proposals,
 ) -> Result<(), OutOfMemory> {
-    meant_duration(alloc, sheet, first, last, found)?;
+    meant_duration(sheet, first, last, found)?;
     let whole = sheet.text(first);
     let piece = from_to(sheet, first, last);
     if is_digits(whole) && is_digits(sheet.text(last)) {
         let up = value_of(whole).saturating_add(1);
         found.replace_parts(piece, &[whole])?;
-        found.replace(piece, format!(in alloc; "{up}")?.as_str())?;
+        found.replace_number(piece, up)?;
     }
     Ok(())
 }
 
 /// Adds the time of day, or the duration, that some pieces between colons are.
-fn clock(
-    alloc: Global,
-    sheet: &Sheet,
-    first: usize,
-    found: &mut Proposals,
-) -> Result<(), OutOfMemory> {
+fn clock(sheet: &Sheet, first: usize, found: &mut Proposals) -> Result<(), OutOfMemory> {
     let minutes = first.saturating_add(2);
     let seconds = first.saturating_add(4);
     if !(sheet.is(first.saturating_add(1), ":") && is_digits(sheet.text(minutes))) {
@@ -79,7 +67,7 @@ fn clock(
     if micros == 0 {
         return found.replace(piece, "0us");
     }
-    found.replace(piece, duration_text(alloc, micros)?.as_str())
+    found.replace_duration(piece, micros)
 }
 
 /// The last of the pieces that are one number with commas between its thousands.
@@ -96,28 +84,21 @@ fn last_of_thousands(sheet: &Sheet, first: usize) -> usize {
 }
 
 /// Adds a number without the commas between its thousands.
-fn thousands(
-    alloc: Global,
-    sheet: &Sheet,
-    first: usize,
-    found: &mut Proposals,
-) -> Result<(), OutOfMemory> {
+fn thousands(sheet: &Sheet, first: usize, found: &mut Proposals) -> Result<(), OutOfMemory> {
     let last = last_of_thousands(sheet, first);
     if is_digits(sheet.text(first)) && first < last {
-        let digits = digits_in(alloc, sheet.texts(first, last))?;
-        found.replace_parts(from_to(sheet, first, last), &[digits.as_slice()])?;
+        found.replace_digits(from_to(sheet, first, last), sheet.texts(first, last))?;
     }
     Ok(())
 }
 
 /// Adds what may be meant by a piece that begins with a digit and is neither a number nor a duration.
-fn odd_number(alloc: Global, sheet: &Sheet, found: &mut Proposals) -> Result<(), OutOfMemory> {
+fn odd_number(sheet: &Sheet, found: &mut Proposals) -> Result<(), OutOfMemory> {
     let here = sheet.text(sheet.at);
     let piece = sheet.piece(sheet.at);
-    meant_duration(alloc, sheet, sheet.at, sheet.at, found)?;
+    meant_duration(sheet, sheet.at, sheet.at, found)?;
     if here.iter().any(|byte| *byte == b'_') {
-        let digits = digits_in(alloc, here)?;
-        found.replace_parts(piece, &[digits.as_slice()])?;
+        found.replace_digits(piece, here)?;
     }
     let count = digit_count(here);
     let power = part(here, count.saturating_add(1), here.len());
@@ -145,25 +126,25 @@ fn with_units(sheet: &Sheet, found: &mut Proposals) -> Result<(), OutOfMemory> {
 }
 
 /// Adds what may be meant where a fraction is refused, at its point or in front of it.
-fn fractions(alloc: Global, sheet: &Sheet, found: &mut Proposals) -> Result<(), OutOfMemory> {
+fn fractions(sheet: &Sheet, found: &mut Proposals) -> Result<(), OutOfMemory> {
     let at = sheet.at;
     let next = begins_with_digit(sheet.text(sheet.on(1)));
     if sheet.is(at, ".") && next && begins_with_digit(sheet.text(sheet.back(1))) {
-        fraction(alloc, sheet, sheet.back(1), sheet.on(1), found)?;
+        fraction(sheet, sheet.back(1), sheet.on(1), found)?;
     } else if sheet.is(at, ".") && next {
-        fraction(alloc, sheet, at, sheet.on(1), found)?;
+        fraction(sheet, at, sheet.on(1), found)?;
     }
     if is_digits(sheet.text(at))
         && sheet.is(sheet.on(1), ".")
         && begins_with_digit(sheet.text(sheet.on(2)))
     {
-        fraction(alloc, sheet, at, sheet.on(2), found)?;
+        fraction(sheet, at, sheet.on(2), found)?;
     }
     Ok(())
 }
 
 /// Adds what may be meant where a number and its unit are refused.
-fn apart(alloc: Global, sheet: &Sheet, found: &mut Proposals) -> Result<(), OutOfMemory> {
+fn apart(sheet: &Sheet, found: &mut Proposals) -> Result<(), OutOfMemory> {
     let at = sheet.at;
     for first in [at, sheet.back(1)] {
         let unit = first.saturating_add(1);
@@ -178,33 +159,29 @@ fn apart(alloc: Global, sheet: &Sheet, found: &mut Proposals) -> Result<(), OutO
         let piece = from_to(sheet, before, sheet.on(1));
         found.replace_two(piece, sheet.text(before), "us".as_bytes())?;
     }
-    meant_duration(alloc, sheet, before, at, found)
+    meant_duration(sheet, before, at, found)
 }
 
 /// Adds what may be meant by the numbers and durations around a syntax error.
-pub(crate) fn numbers(
-    alloc: Global,
-    sheet: &Sheet,
-    found: &mut Proposals,
-) -> Result<(), OutOfMemory> {
+pub(crate) fn numbers(sheet: &Sheet, found: &mut Proposals) -> Result<(), OutOfMemory> {
     let here = sheet.text(sheet.at);
     let before = sheet.text(sheet.back(1));
-    fractions(alloc, sheet, found)?;
+    fractions(sheet, found)?;
     if is_digits(before) {
-        apart(alloc, sheet, found)?;
-        thousands(alloc, sheet, sheet.back(1), found)?;
-        clock(alloc, sheet, sheet.back(1), found)?;
+        apart(sheet, found)?;
+        thousands(sheet, sheet.back(1), found)?;
+        clock(sheet, sheet.back(1), found)?;
     }
     if begins_with_digit(before) && !is_digits(before) {
-        meant_duration(alloc, sheet, sheet.back(1), sheet.back(1), found)?;
+        meant_duration(sheet, sheet.back(1), sheet.back(1), found)?;
     }
     if is_digits(here) {
-        apart(alloc, sheet, found)?;
-        clock(alloc, sheet, sheet.at, found)?;
-        thousands(alloc, sheet, sheet.back(2), found)?;
+        apart(sheet, found)?;
+        clock(sheet, sheet.at, found)?;
+        thousands(sheet, sheet.back(2), found)?;
         with_units(sheet, found)?;
     } else if begins_with_digit(here) {
-        odd_number(alloc, sheet, found)?;
+        odd_number(sheet, found)?;
     }
     Ok(())
 }

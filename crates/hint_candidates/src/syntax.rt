@@ -57,7 +57,7 @@ pub(crate) fn syntax(
     sheet: &Sheet,
     found: &mut Proposals,
 ) -> Result<(), OutOfMemory> {
-    numbers(alloc, sheet, found)?;
+    numbers(sheet, found)?;
     unquoted(alloc, sheet, found)?;
     in_backquotes(alloc, sheet, found)?;
     end_closed(sheet, found)?;

@@ -3,7 +3,7 @@
 ghost use Rattle.std.specs.Prelude.{◌≡◌, ◌≤◌, IsTrue, IfOk, IfSome, length};
 ghost use Rattle.std.specs.List.{AllByRecursion};
 ghost use Rattle.explain.specs.Hints.{applied as applied_by};
-ghost use Rattle.hint_trials.specs.Reached.{IsFurther, reached as reached_by};
+ghost use Rattle.hint_trials.specs.Reached.{reached as reached_by};
 ghost use Rattle.hint_trials.specs.Trials.{TakesFurther};
 
 use crate::candidates::candidates;

@@ -6,6 +6,10 @@ use Rattle.aerie_base.specs.Paths.{root}
 use Rattle.aerie_base.specs.declared.plans.Edge.TheVariants.{End}
 use Rattle.aerie_base.specs.declared.plans.Plan.{Plan}
 use Rattle.aerie_base.specs.declared.values.Value.TheVariants.{Int, Variant}
+use Rattle.aerie_base.specs.declared.faults.Fault.TheVariants.{Range}
+use Rattle.goals.specs.declared.status.GoalStatus.{GoalStatus}
+use Rattle.goals.specs.declared.unmet.Rejection.TheVariants.{Unfilled, Violates}
+use Rattle.goals.specs.declared.unmet.Unmet.TheVariants.{Open, Broken}
 use Rattle.json_line.specs.Json.{line_of}
 use Rattle.epoch_text.specs.DayTexts.{day_in_year}
 use Rattle.constraints.specs.declared.types.Rule.TheVariants.{Forbid}
@@ -17,7 +21,8 @@ use Rattle.plan_edit.specs.declared.errors.EditError.TheVariants as edit
 use Rattle.plan_merge.specs.declared.answers.ConflictKind.TheVariants.{Both}
 use Rattle.plan_merge.specs.declared.answers.MergeError.TheVariants as merge
 use Rattle.run_data.specs.KeptRuns.{KeptRun}
-use Rattle.run_data.specs.declared.runs.Outcome.TheVariants.{Completed}
+use Rattle.run_data.specs.declared.runs.Outcome.TheVariants.{Completed, Failed}
+use Rattle.run_data.specs.declared.runs.Who.TheVariants.{Cell}
 use Rattle.report_text.specs.JournalLines.{journal_data}
 use Rattle.report_text.specs.Replies.{reply_data}
 use Rattle.report_text.specs.ReportCases.{camera}
@@ -89,10 +94,26 @@ pub an_empty_plan : told true (answer.Reply (reply.Fetched 0 (record planned { d
 unfolding member_if digits escape_byte
 an_empty_plan = refl
 
-pub a_schedule : told false (answer.Schedule 9 (record { goal = codes "twice"; met = true; placed = 4 ∷ 5 ∷ [] } ∷ record { goal = codes "once"; met = false; placed = [] } ∷ []) 3)
-    ≡ codes "{\"client\":\"ops\",\"command\":2,\"ok\":{\"branch\":\"main\",\"goals\":[{\"goal\":\"twice\",\"met\":true,\"placed\":[4,5]},{\"goal\":\"once\",\"met\":false,\"placed\":[]}],\"revision\":9,\"trials\":3}}\n"
-unfolding digits escape_byte
+-- a goal that is met, one that a later one broke, and for each other reason one whose gap is open
+abbrev statuses : List GoalStatus
+statuses =
+    record { goal = codes "twice"; met = true; placed = 4 ∷ 5 ∷ []; why = None }
+    ∷ record { goal = codes "once"; met = false; placed = []; why = Some Broken }
+    ∷ record { goal = codes "hourly"; met = false; placed = []; why = Some (Open (record { gap = record { at = pos 15 }; tried = 10; last = Some (Violates (codes "few") 25) })) }
+    ∷ record { goal = codes "often"; met = false; placed = 6 ∷ []; why = Some (Open (record { gap = record { at = pos 3 }; tried = 2; last = Some (Unfilled (Failed 5 (Cell 0) Range)) })) }
+    ∷ record { goal = codes "late"; met = false; placed = []; why = Some (Open (record { gap = record { at = pos 0 }; tried = 0; last = None })) }
+    ∷ []
+
+pub a_schedule : told false (answer.Schedule (record { model = camera; revision = 9; goals = statuses; trials = 3; detail = false }))
+    ≡ codes "{\"client\":\"ops\",\"command\":2,\"ok\":{\"branch\":\"main\",\"goals\":[{\"goal\":\"twice\",\"met\":true,\"placed\":[4,5]},{\"goal\":\"once\",\"met\":false,\"placed\":[]},{\"goal\":\"hourly\",\"met\":false,\"placed\":[]},{\"goal\":\"often\",\"met\":false,\"placed\":[6]},{\"goal\":\"late\",\"met\":false,\"placed\":[]}],\"revision\":9,\"trials\":3}}\n"
+unfolding member_if digits escape_byte
 a_schedule = refl
+
+-- with details
+pub a_detailed_schedule : told false (answer.Schedule (record { model = camera; revision = 9; goals = statuses; trials = 12; detail = true }))
+    ≡ codes "{\"client\":\"ops\",\"command\":2,\"ok\":{\"branch\":\"main\",\"goals\":[{\"goal\":\"twice\",\"met\":true,\"placed\":[4,5]},{\"goal\":\"once\",\"met\":false,\"placed\":[],\"why\":{\"later\":true}},{\"goal\":\"hourly\",\"met\":false,\"placed\":[],\"why\":{\"constraint\":\"few\",\"gap\":15,\"time\":25,\"tried\":10}},{\"goal\":\"often\",\"met\":false,\"placed\":[6],\"why\":{\"gap\":3,\"outcome\":{\"failed\":{\"cell\":\"taken\",\"fault\":\"Range\",\"time\":5}},\"tried\":2}},{\"goal\":\"late\",\"met\":false,\"placed\":[],\"why\":{\"gap\":0,\"tried\":0}}],\"revision\":9,\"trials\":12}}\n"
+unfolding member_if digits escape_byte
+a_detailed_schedule = refl
 
 pub a_merge : told false (answer.Merge 10 (6 ∷ 7 ∷ [])) ≡ codes "{\"client\":\"ops\",\"command\":2,\"ok\":{\"added\":[6,7],\"branch\":\"main\",\"revision\":10}}\n"
 unfolding digits escape_byte

@@ -100,7 +100,7 @@ reply_member branch model named (reply.Stale seen now) = as_refused (stale_data 
 abbrev pub answer_member : List ℕ → Parts → Bool → Answer → Member
 answer_member branch model named (answer.Reply reply) = reply_member branch model named reply
 answer_member branch model named (answer.Report report) = as_ok (report_data branch model named report)
-answer_member branch model named (answer.Schedule revision goals trials) = as_ok (schedule_data branch revision goals trials)
+answer_member branch model named (answer.Schedule report) = as_ok (schedule_data branch model report)
 answer_member branch model named (answer.Merge revision added) = as_ok (merged_data branch added revision)
 answer_member branch model named answer.OtherModel = as_refused (named_data (codes "OtherModel"))
 answer_member branch model named (answer.MergeRefused error) = as_refused (merge_refusal_data error)

@@ -37,7 +37,7 @@ report_data branch model named report =
     (member (codes "spans") (spans_data model report.start report.run.run)
     (member_if (codes "start") (if_told report.detail (string (day_text_of report.start 0)))
     (member_if (codes "statements") (option_map natural_data report.statements)
-    (member (codes "violations") (violations_data model report.run.run report.constraints) no_members)))))))))))))))
+    (member (codes "violations") (violations_data report.detail model report.run.run report.constraints) no_members)))))))))))))))
 
 -- a report is of a model: its run is one of the model, and its constraints are
 pub record IsReportOf (model : Parts) (report : Report) : Type 0 where

@@ -1,6 +1,6 @@
 //! What the program answers to commands.
 
-use aerie_base::{List, Shared};
+use aerie_base::{List, Model, Shared};
 use constraints::Constraint;
 use epoch_text::Start;
 use goals::GoalStatus;
@@ -17,14 +17,7 @@ pub enum Answer {
     /// The report of a simulation.
     Report(Report),
     /// A schedule that was placed.
-    Schedule {
-        /// The new revision.
-        revision: u64,
-        /// What was made of each goal, in the order of the goals.
-        goals: List<GoalStatus>,
-        /// How many plans were tried.
-        trials: u32,
-    },
+    Schedule(ScheduleReport),
     /// A merge that was placed.
     Merge {
         /// The new revision of the target.
@@ -55,7 +48,23 @@ pub struct Report {
     pub attached: bool,
     /// How many statements were simulated, where that was asked for.
     pub statements: Option<u64>,
-    /// Whether the plan's start and duration, the cells at the run's reach and what the constraints name are told.
+    /// Whether the plan's start and duration, the cells at the run's reach, what the constraints name and which spans meet are
+    /// told.
+    pub detail: bool,
+}
+
+/// A schedule of a branch.
+#[derive(Drop)]
+pub struct ScheduleReport {
+    /// The model of the plan.
+    pub model: Shared<Model>,
+    /// The new revision.
+    pub revision: u64,
+    /// What was made of each goal, in the order of the goals.
+    pub goals: List<GoalStatus>,
+    /// How many plans were tried.
+    pub trials: u32,
+    /// Whether it is told why goals are unmet.
     pub detail: bool,
 }
 

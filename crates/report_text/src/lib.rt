@@ -28,7 +28,7 @@ mod violation_lines;
 mod wordings;
 
 pub use alone::Alone;
-pub use answers::{Answer, Report, SequenceReport};
+pub use answers::{Answer, Report, ScheduleReport, SequenceReport};
 pub use arguments::Arguments;
 pub use journal_lines::journal_line;
 pub use lines::{Heading, reply_line, report_line};

@@ -4,13 +4,14 @@ ghost use Rattle.std.specs.Prelude.{◌≡◌, ◌++◌, IfOk, OnOk, codes, stri
 ghost use Rattle.json_line.specs.Json.{line_of};
 ghost use Rattle.findings.specs.Found.{AreFindings};
 ghost use Rattle.json_line.specs.Parts.{data_tokens, member_tokens};
+ghost use Rattle.report_text.specs.GoalLines.{schedule_data};
 ghost use Rattle.report_text.specs.Replies.{IsNoReport, answer_member, reply_data};
 ghost use Rattle.report_text.specs.Reports.{report_data};
 ghost use Rattle.report_text.specs.SequenceLines.{sequence_data};
 ghost use Rattle.report_text.specs.declared.answers.Answer.TheVariants as answer_by;
 
-use crate::answers::{Answer, Report, SequenceReport};
-use crate::goal_lines::Scheduled;
+use crate::answers::{Answer, Report, ScheduleReport, SequenceReport};
+use crate::goal_lines::write_schedule;
 use crate::reply_lines::{MergeTold, refuse, write_reply};
 use crate::reports::write_report;
 use crate::sequence_lines::write_sequence;
@@ -65,6 +66,23 @@ fn write_report_member<'a>(
     )
 }
 
+/// A schedule, under `ok`.
+#[tactic(auto, unfolding(json_line::specs::Parts::member_tokens))]
+fn write_schedule_member<'a>(
+    line: &mut JsonLine,
+    alloc: Global,
+    heading: &Heading<'a>,
+    report: &ScheduleReport,
+) -> Result<(), OutOfMemory>
+    ensures { OnOk result (line.new
+        ≡ line.old ++ member_tokens
+        (codes "ok") (schedule_data heading.now.branch.now heading.now.model.now report.now)) }
+{
+    let wording = Wording::new(alloc, heading.model)?;
+    line.key("ok")?;
+    write_schedule(line, &wording, heading.branch, report)
+}
+
 /// The commands of an expansion, under `ok`.
 #[tactic(auto, unfolding(json_line::specs::Parts::member_tokens))]
 fn write_sequence_member<'a>(
@@ -99,19 +117,7 @@ fn write_answer<'a>(
             write_reply(line, alloc, branch, heading.model, heading.named, reply)
         }
         Answer::Report(_) => unreachable!(),
-        Answer::Schedule {
-            revision,
-            goals,
-            trials,
-        } => line.member(
-            "ok",
-            &Scheduled {
-                branch,
-                revision: *revision,
-                goals,
-                trials: *trials,
-            },
-        ),
+        Answer::Schedule(report) => write_schedule_member(line, alloc, heading, report),
         Answer::Merge { revision, added } => line.member(
             "ok",
             &MergeTold {

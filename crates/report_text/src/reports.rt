@@ -4,7 +4,7 @@ ghost use Rattle.std.specs.Prelude.{◌≡◌, ◌++◌, OnOk, codes, option_map
 ghost use Rattle.serde_json.specs.Data.{string};
 ghost use Rattle.aerie_base.specs.plans.OfModel.{IsPlanOf};
 ghost use Rattle.run_data.specs.Fresh.{IsFresh};
-ghost use Rattle.findings.specs.Found.{AreFindings, all_profiles, all_violations};
+ghost use Rattle.findings.specs.Found.{AreFindings, all_profiles};
 ghost use Rattle.json_line.specs.Parts.{data_tokens, member_if_tokens, member_tokens};
 ghost use Rattle.span_table.specs.SpanLaws.{AreSpansOf};
 ghost use Rattle.report_text.specs.ProfileLines.{profiles_data};
@@ -18,8 +18,8 @@ use crate::profile_lines::write_profiles;
 use crate::span_lines::{Calendar, write_spans};
 use crate::violation_lines::write_violations;
 use crate::wordings::Wording;
-use aerie_base::{List, Model, Name, OutOfMemory};
-use constraints::{Constraint, Violation};
+use aerie_base::{Model, Name, OutOfMemory};
+use constraints::Constraint;
 use findings::Findings;
 use json_line::JsonLine;
 use profiles::Profile;
@@ -77,14 +77,17 @@ fn write_violations_member<'a>(
     line: &mut JsonLine,
     wording: &Wording<'a>,
     run: &Run,
+    detail: bool,
     constraints: &[Constraint],
-    found: &[List<Violation>],
+    findings: &Findings,
 ) -> Result<(), OutOfMemory>
-    requires { found.now ≡ all_violations wording.now run.now constraints.now }
-    ensures { OnOk result (line.new ≡ line.old ++ member_tokens (codes "violations") (violations_data wording.now run.now constraints.now)) }
+    requires { AreFindings wording.now run.now constraints.now findings.now }
+    ensures { OnOk result (line.new
+        ≡ line.old ++ member_tokens
+        (codes "violations") (violations_data detail wording.now run.now constraints.now)) }
 {
     line.key("violations")?;
-    write_violations(line, wording, run, constraints, found)
+    write_violations(line, wording, run, detail, constraints, findings)
 }
 
 /// The report of a simulation of a branch, with what the caller has found on its run.
@@ -147,7 +150,6 @@ fn write_found<'a>(
     write_spans_member(line, calendar, run, findings.spans.as_slice())?;
     write_start_told(line, report.detail, &report.start)?;
     line.member_if("statements", &report.statements)?;
-    let found = findings.violations.as_slice();
-    write_violations_member(line, wording, run, constraints, found)?;
+    write_violations_member(line, wording, run, report.detail, constraints, findings)?;
     line.end_object()
 }

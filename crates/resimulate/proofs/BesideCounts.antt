@@ -12,12 +12,12 @@ use Rattle.run_data.specs.declared.runs.Instant.{Instant}
 use Rattle.run_data.specs.declared.runs.Outcome.TheVariants.{Completed}
 use Rattle.run_data.specs.declared.runs.Run.{Run}
 use Rattle.run_data.specs.Batches.{Batch, limit, failed, committed, batch}
-use Rattle.run_data.specs.Fresh.{SimulationState, start, next_state, next_by, woken_or_moved, moved, to_time, to_end, after_outcome, instant_at, below, least_due}
+use Rattle.run_data.specs.Fresh.{SimulationState, next_state, next_by, woken_or_moved, moved, to_time, to_end, after_outcome, instant_at, below, least_due}
 use Rattle.run_data.specs.Records.{IsEven}
 use Rattle.run_data.specs.RunFrames.{frames_in_batches}
 use Rattle.run_data.specs.Tasks.{on_each, woken, ready_jobs}
 use Rattle.run_data.specs.Transitions.{Next, more, finished}
-use Rattle.run_data.specs.laws.PrunedStates.{pruned, pruned_point}
+use Rattle.run_data.specs.laws.PrunedStates.{pruned_point}
 use Rattle.engine_core.specs.EngineStates.{EngineState, LeadsTo, there, on, after_transition, jobs_in}
 use Rattle.engine_core.specs.ReadyBatches.{next_is_batch}
 use Rattle.resimulate.specs.EvenInstants.{PassesEven, frames_of_others}

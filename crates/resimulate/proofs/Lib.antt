@@ -17,4 +17,5 @@ mod TaskTraces
 mod CellChanges
 mod Likenesses
 mod SharedInstants
+mod CommonDirectives
 mod EarlyEnds

@@ -9,15 +9,15 @@ use Rattle.run_data.specs.declared.frames.Record.{Record}
 use Rattle.run_data.specs.declared.runs.Run.{Run}
 use Rattle.run_data.specs.Batches.{batch, committed}
 use Rattle.run_data.specs.Counts.{unmatched_append}
-use Rattle.run_data.specs.Fresh.{SimulationState, start, IsFresh}
+use Rattle.run_data.specs.Fresh.{SimulationState, IsFresh}
 use Rattle.run_data.specs.Records.{unmatched}
 use Rattle.run_data.specs.Tasks.{ready_jobs}
 use Rattle.run_data.specs.Transitions.{Next, more, finished}
-use Rattle.run_data.specs.laws.PrunedStates.{pruned, PrunedStep}
+use Rattle.run_data.specs.laws.PrunedStates.{PrunedStep}
 use Rattle.run_data.specs.laws.ReachedStates.{ReachedIsOfModel}
 use Rattle.run_data.specs.laws.Rising.{RiseFromStart}
 use Rattle.run_data.specs.laws.Weights.{WeightFalls}
-use Rattle.engine_core.specs.EngineStates.{EngineState, IsEngineState, LeadsTo, jobs_in, time_in, batches_in}
+use Rattle.engine_core.specs.EngineStates.{EngineState, IsEngineState, jobs_in, time_in, batches_in}
 use Rattle.engine_core.specs.EnginePoints.{step_smaller, point_weight}
 use Rattle.resimulate.specs.EvenInstants.{PaysForUneven, LooksForUneven}
 use Rattle.resimulate.specs.Bookmarks.{IsEngineOf}

@@ -25,7 +25,8 @@ use Rattle.run_data.specs.laws.Orders.{EachOf}
 use Rattle.resimulate.specs.EarlyEnds.{MayBeEnded}
 use Rattle.resimulate.specs.OldBatches.{AreEarly, is_earlier}
 use Rattle.parting.specs.IdRanges.{is_id_between}
-use Rattle.resimulate.specs.Partings.{others_of, StartsLater, IsDueLater, DifferLater, SkipsTo, IsNextToo, SharesFirst}
+use Rattle.parting.specs.PlainLateness.{IsPlainlyLate, StartsPlainlyLate}
+use Rattle.resimulate.specs.Partings.{others_of, IsFreeAndLate, PartFrom, SkipsTo, SharesFirst}
 use Rattle.resimulate.proofs.TaskTraces.{drop_next, drop_past}
 
 -- ---- each of a list
@@ -34,7 +35,7 @@ each_at_end : {A : Type 0} (P : A → Type 0) (front : List A) (one : A) → Eac
 each_at_end P [] one each here = (here, tt)
 each_at_end P (first ∷ rest) one each here = (each.0, each_at_end P rest one each.1 here)
 
-taken_next : {A : Type 0} (k : ℕ) (items : List A) (one : A) → k < length items → one ≡ get_or items k one → take k items ++ one ∷ [] ≡ take (k + 1) items
+pub taken_next : {A : Type 0} (k : ℕ) (items : List A) (one : A) → k < length items → one ≡ get_or items k one → take k items ++ one ∷ [] ≡ take (k + 1) items
 taken_next k items one within is = ap (λ x. take k items ++ x ∷ []) is ∙ sym (rw add-one (take-suc items k one within))
 
 pub each_more : {A : Type 0} (P : A → Type 0) (at : ℕ) (items : List A) (one : A) → at < length items → one ≡ get_or items at one → EachOf P (take at items) → P one → EachOf P (take (at + 1) items)
@@ -52,10 +53,10 @@ each_whole P at items most each = subst (EachOf P) (take_whole at items most) ea
 -- ---- directives that are not of the range
 
 module _ (first past : ℕ) where
-  skipped : (one : Directive) (rest : List Directive) → is_id_between first past one.id ≡ true → others_of first past (one ∷ rest) ≡ others_of first past rest
+  pub skipped : (one : Directive) (rest : List Directive) → is_id_between first past one.id ≡ true → others_of first past (one ∷ rest) ≡ others_of first past rest
   skipped one rest e = ap (λ (b : Bool). if b then others_of first past rest else one ∷ others_of first past rest) e
 
-  kept : (one : Directive) (rest : List Directive) → is_id_between first past one.id ≡ false → others_of first past (one ∷ rest) ≡ one ∷ others_of first past rest
+  pub kept : (one : Directive) (rest : List Directive) → is_id_between first past one.id ≡ false → others_of first past (one ∷ rest) ≡ one ∷ others_of first past rest
   kept one rest e = ap (λ (b : Bool). if b then others_of first past rest else one ∷ others_of first past rest) e
 
   pub skips_next : (others : List Directive) (from at : ℕ) (one : Directive) → at < length others → one ≡ get_or others at one → is_id_between first past one.id ≡ true →
@@ -65,30 +66,6 @@ module _ (first past : ℕ) where
   pub skips_all : (others : List Directive) (from at : ℕ) → length others ≤ at → SkipsTo first past others from at → SkipsTo first past others from (length others)
   skips_all others from at most so_far =
       so_far ∙ ap (others_of first past) (drop_past at others most ∙ sym (drop_past (length others) others (let same : length others ≤ length others = omega arith in same)))
-
-  pub next_skipped : (one : Directive) (others : List Directive) (from : ℕ) → is_id_between first past one.id ≡ true → IsNextToo first past one others from from
-  next_skipped one others from e rest same = skipped one rest e ∙ same
-
-  pub next_same : (one other : Directive) (others : List Directive) (from at : ℕ) → is_id_between first past one.id ≡ false → SkipsTo first past others from at → at < length others → other ≡ get_or others at other →
-      one ≡ other → IsNextToo first past one others from (at + 1)
-  next_same one other others from at e skips less is same rest further =
-      kept one rest e ∙ ap (λ l. one ∷ l) further ∙ sym (kept one (drop (at + 1) others) e) ∙ ap (λ d. others_of first past (d ∷ drop (at + 1) others)) same
-      ∙ ap (others_of first past) (sym (drop_next at others other less is)) ∙ sym skips
-
-  -- in a loop: what is left of both decides
-  abbrev pub LeftDecides : List Directive → List Directive → ℕ → Type 0
-  LeftDecides front others at = (rest : List Directive) → others_of first past rest ≡ others_of first past (drop at others) → others_of first past (front ++ rest) ≡ others_of first past others
-
-  pub decides_next : (directives others : List Directive) (k at to : ℕ) (one : Directive) → k < length directives → one ≡ get_or directives k one → LeftDecides (take k directives) others at →
-      IsNextToo first past one others at to → LeftDecides (take (k + 1) directives) others to
-  decides_next directives others k at to one less is so_far next rest same =
-      ap (others_of first past) (ap (λ l. l ++ rest) (sym (taken_next k directives one less is)) ∙ append_assoc (take k directives) (one ∷ []) rest) ∙ so_far (one ∷ rest) (next rest same)
-
-  pub decides_all : (directives others : List Directive) (k at to : ℕ) → length directives ≤ k → LeftDecides (take k directives) others at → SkipsTo first past others at to → length others ≤ to →
-      others_of first past directives ≡ others_of first past others
-  decides_all directives others k at to most so_far skips past_all =
-      ap (others_of first past) (sym (append-nil directives) ∙ ap (λ l. l ++ []) (sym (take_whole k directives most)))
-      ∙ so_far [] (sym (skips ∙ ap (others_of first past) (drop_past to others past_all)))
 
 -- ---- instants grow
 
@@ -202,14 +179,20 @@ none_shared model plan bound old point comes (suc number) less within = absurd (
 
 -- ---- plans that differ later
 
-module _ (first past until : ℕ) (model : Parts) (old_plan : Plan) (bound : ℕ) where
-  late_start : (anchor : Option Anchor) (from : ℕ) → StartsLater first past until anchor from → StartsLate (is_id_between first past) until model old_plan bound anchor from
-  late_start None from late = late
-  late_start (Some anchor) from late = inl late
+-- directives without anchors that do not start before a time are late, whatever the old simulation does
+module _ (first past until : ℕ) where
+  pub plainly_late : (directives : List Directive) → EachOf (IsFreeAndLate first past until) directives → EachOf (IsPlainlyLate (is_id_between first past) until) directives
+  plainly_late [] each = tt
+  plainly_late (one ∷ rest) each =
+      ((λ e. subst (λ (anchor : Option Anchor). StartsPlainlyLate until anchor one.start) (sym each.0.free) (each.0.late e)), plainly_late rest each.1)
 
-  all_late : (directives : List Directive) → EachOf (IsDueLater first past until) directives → EachOf (IsLate (is_id_between first past) until model old_plan bound) directives
-  all_late [] each = tt
-  all_late (one ∷ rest) each = ((λ e. late_start one.anchor one.start (each.0 e)), all_late rest each.1)
+  all_late : (model : Parts) (old_plan : Plan) (bound : ℕ) (directives : List Directive) → EachOf (IsFreeAndLate first past until) directives →
+      EachOf (IsLate (is_id_between first past) until model old_plan bound) directives
+  all_late model old_plan bound [] each = tt
+  all_late model old_plan bound (one ∷ rest) each = (
+    (λ e. subst (λ (anchor : Option Anchor). StartsLate (is_id_between first past) until model old_plan bound anchor one.start) (sym each.0.free) (each.0.late e)),
+    all_late model old_plan bound rest each.1,
+  )
 
 -- so are plans whose differing directives are late, if the new bound is no less
 pub differ_late : AffordsNoLess → (model : Parts) (plan old_plan : Plan) (bound old_bound : ℕ) → IsTrue (valid_model model) → IsPlanOf model plan → IsPlanOf model old_plan → plan.duration ≡ old_plan.duration →
@@ -228,20 +211,20 @@ differ_late affords model plan old_plan bound old_bound valid is old_is lasts mo
 }
 
 pub shares : SameInstantsBefore → AffordsNoLess → (model : Parts) (plan : Plan) (bound : ℕ) (old : Run) → IsTrue (valid_model model) → IsPlanOf model plan → IsPlanOf model old.plan → MayBeEnded plan old →
-    IsFresh model old.plan old.bound old → old.bound ≤ bound → (first past until : ℕ) → DifferLater first past until plan old.plan → (count : ℕ) → count ≤ length old.instants → AreEarly until count old.instants →
+    IsFresh model old.plan old.bound old → old.bound ≤ bound → (first past until : ℕ) → 0 < until → PartFrom first past until plan old.plan → (count : ℕ) → count ≤ length old.instants → AreEarly until count old.instants →
     SharesFirst model plan bound old count
-shares same affords model plan bound old valid is old_is may fresh more_bound first past until differ count within early point comes number less reaches =
+shares same affords model plan bound old valid is old_is may fresh more_bound first past until some_time part count within early point comes number less reaches =
     same_first number (instants_of point) (instants_before until old.instants) reaches both.1
     (subst (λ l. Extends (instants_of point) l ⊎ Extends l (instants_of point)) place.2 (one_extends model plan bound point place.0 comes place.1))
     ∙ both.0
   where
     late : DifferLate (is_id_between first past) until model plan old.plan bound old.bound
     late =
-        differ_late affords model plan old.plan bound old.bound valid is old_is may.lasts more_bound (is_id_between first past) until differ.same
-        (all_late first past until model old.plan old.bound plan.directives differ.late) (all_late first past until model old.plan old.bound old.plan.directives differ.old_late)
+        differ_late affords model plan old.plan bound old.bound valid is old_is may.lasts more_bound (is_id_between first past) until part.same
+        (all_late first past until model old.plan old.bound plan.directives part.late) (all_late first past until model old.plan old.bound old.plan.directives part.old_late)
 
     place : (place : Next SimulationState Run) × IsReached model plan bound place × (instants_of place ≡ instants_before until old.instants)
-    place = same (is_id_between first past) until model plan old.plan bound old.bound old late differ.some_time fresh
+    place = same (is_id_between first past) until model plan old.plan bound old.bound old late some_time fresh
 
     both : (take number (instants_before until old.instants) ≡ take number old.instants) × (number ≤ length (instants_before until old.instants))
     both = before_first until number old.instants (omega (arith, less, within)) (λ k one there k_less. early k one there (omega (arith, k_less, less)))

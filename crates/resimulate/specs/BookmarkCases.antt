@@ -1,5 +1,5 @@
 -- Worked cases: where the simulation of an edited plan may begin at a bookmark of the old plan at 20.
-use Rattle.std.specs.Prelude.{◌≡◌, ℕ, ◌<◌, ◌≤◌, map, refl}
+use Rattle.std.specs.Prelude.{map, refl}
 use Rattle.std.proofs.Common.{ap, arith, lit<, lit≤}
 use Rattle.aerie_base.specs.declared.models.model.Parts.{Parts}
 use Rattle.aerie_base.specs.declared.plans.Plan.{Plan}

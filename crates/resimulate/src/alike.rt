@@ -8,10 +8,12 @@ ghost use Rattle.resimulate.specs.Likeness.{AllGoOn, AllLikeUnbegun, AnchorNotCo
 ghost use Rattle.resimulate.specs.Likeness.{IsLikeUnbegun, KeepsRoots, NoneOpenAmong, NoneOpenNoted, NotComeBy, NotesAt, NotesDiffering, NotOpenAt};
 ghost use Rattle.resimulate.specs.Likeness.{StandsUnnoted, TellAlike, TracesAgree};
 ghost use Rattle.resimulate.specs.Origins.{origin_number};
+ghost use Rattle.resimulate.specs.Partings.{AreSameOutside};
 ghost use Rattle.resimulate.specs.Traces.{trace_of};
 ghost use Rattle.resimulate.specs.UnbegunTasks.{IsInPlan};
 
 use crate::cells::have_same_changes;
+use crate::partings::{Parting, is_id_between};
 use crate::traces::{Roots, Trace, Traces, has_root, origin_number, traces_of};
 use aerie_base::{Anchor, Directive, Edge, Model, OutOfMemory, Path, Plan, Shared, position_of_id};
 use indexmap::IndexSet;
@@ -200,14 +202,62 @@ fn number_of(id: u32) -> u64
     u64::from(id) * 2
 }
 
+/// Whether a directive of a plan is known to stand in the other plan too, since it is not of the range where the plans part.
+fn is_outside(
+    plan: &Plan,
+    old_plan: &Plan,
+    parting: &Option<Parting>,
+    directive: &Directive,
+) -> bool
+    requires in_plan { IsInPlan plan.now directive.now }
+    requires outside { AreSameOutside plan.now old_plan.now parting.now }
+    ensures { IsTrue result → IsInPlan old_plan.now directive.now }
+{
+    let Some(place) = parting else {
+        return false;
+    };
+    if is_id_between(place.first, place.past, directive.id) {
+        return false;
+    }
+    true
+}
+
+/// Whether a directive stands in the other plan too, which is compared where that is not known.
+fn stands_too(
+    plan: &Plan,
+    old_plan: &Plan,
+    parting: &Option<Parting>,
+    at: usize,
+    directive: &Directive,
+) -> bool
+    requires old_plan { Rise old_plan.now.directives }
+    requires in_plan { IsInPlan plan.now directive.now }
+    requires outside { AreSameOutside plan.now old_plan.now parting.now }
+    ensures { IsTrue result → IsInPlan old_plan.now directive.now }
+{
+    if is_outside(plan, old_plan, parting, directive) {
+        return true;
+    }
+    stands_in(old_plan, at, directive)
+}
+
 /// Whether a directive stands in the other plan too, without an anchor, and is not noted.
-fn stands_unnoted(old_plan: &Plan, at: usize, roots: &Roots, directive: &Directive) -> bool
-    requires { Rise old_plan.now.directives }
+fn stands_unnoted(
+    plan: &Plan,
+    old_plan: &Plan,
+    parting: &Option<Parting>,
+    at: usize,
+    roots: &Roots,
+    directive: &Directive,
+) -> bool
+    requires old_plan { Rise old_plan.now.directives }
+    requires in_plan { IsInPlan plan.now directive.now }
+    requires outside { AreSameOutside plan.now old_plan.now parting.now }
     ensures { IsTrue result → StandsUnnoted old_plan.now roots.now.keys directive.now }
 {
     directive.anchor.is_none()
         && !has_root(roots, number_of(directive.id))
-        && stands_in(old_plan, at, directive)
+        && stands_too(plan, old_plan, parting, at, directive)
 }
 
 /// Whether a directive is not anchored, or the beginning of the runs was not left out.
@@ -225,7 +275,9 @@ fn is_free_if_parted(parted: bool, anchor: &Option<Anchor>) -> bool
 fn is_like_unbegun(
     alloc: Global,
     parted: bool,
+    plan: &Plan,
     old_plan: &Plan,
+    parting: &Option<Parting>,
     at: usize,
     traces: &Traces,
     others: &Traces,
@@ -233,11 +285,13 @@ fn is_like_unbegun(
     directive: &Directive,
 ) -> Result<bool, OutOfMemory>
     requires old_plan { Rise old_plan.now.directives }
+    requires in_plan { IsInPlan plan.now directive.now }
+    requires outside { AreSameOutside plan.now old_plan.now parting.now }
     requires noted { NotesDiffering others.now.entries traces.now.entries roots.now.keys }
     ensures { IfOk result (λ yes.
         IsTrue yes → IsLikeUnbegun old_plan.now parted traces.now.entries others.now.entries directive.now) }
 {
-    if stands_unnoted(old_plan, at, roots, directive) {
+    if stands_unnoted(plan, old_plan, parting, at, roots, directive) {
         return Ok(true);
     }
     let yes = is_like_by_traces(alloc, parted, old_plan, at, traces, others, directive)?;
@@ -274,16 +328,19 @@ fn is_like_by_traces(
 }
 
 /// The same of all directives of a plan.
+#[allow(clippy::too_many_arguments)]
 fn are_like_unbegun(
     alloc: Global,
     parted: bool,
     plan: &Plan,
     old_plan: &Plan,
+    parting: &Option<Parting>,
     traces: &Traces,
     others: &Traces,
     roots: &Roots,
 ) -> Result<bool, OutOfMemory>
     requires old_plan { Rise old_plan.now.directives }
+    requires outside { AreSameOutside plan.now old_plan.now parting.now }
     requires noted { NotesDiffering others.now.entries traces.now.entries roots.now.keys }
     ensures { IfOk result (λ yes.
         IsTrue yes → AllLikeUnbegun plan.now old_plan.now parted traces.now.entries others.now.entries) }
@@ -292,7 +349,7 @@ fn are_like_unbegun(
     for at in 0..directives.len() {
         let directive = &directives[at];
         let yes = is_like_unbegun(
-            alloc, parted, old_plan, at, traces, others, roots, directive,
+            alloc, parted, plan, old_plan, parting, at, traces, others, roots, directive,
         )?;
         if !yes {
             return Ok(false);
@@ -321,16 +378,19 @@ fn is_parted(first: &[Shared<Instant>]) -> bool
 
 /// Whether the traces of two runs behind the first instants, and what their plans say of what has not begun, are known to tell the
 /// same.
+#[allow(clippy::too_many_arguments)]
 fn traces_agree(
     alloc: Global,
     plan: &Plan,
     old_plan: &Plan,
+    parting: &Option<Parting>,
     first: &[Shared<Instant>],
     traces: &Traces,
     others: &Traces,
 ) -> Result<bool, OutOfMemory>
     requires plan { Rise plan.now.directives }
     requires old_plan { Rise old_plan.now.directives }
+    requires outside { AreSameOutside plan.now old_plan.now parting.now }
     ensures { IfOk result (λ yes.
         IsTrue yes → TracesAgree plan.now old_plan.now first.now traces.now.entries others.now.entries) }
 {
@@ -340,11 +400,15 @@ fn traces_agree(
         return Ok(false);
     }
     let parted = is_parted(first);
-    let begun = are_like_unbegun(alloc, parted, plan, old_plan, traces, others, &roots)?;
+    let begun = are_like_unbegun(
+        alloc, parted, plan, old_plan, parting, traces, others, &roots,
+    )?;
     if !begun {
         return Ok(false);
     }
-    let old_begun = are_like_unbegun(alloc, parted, old_plan, plan, others, traces, &roots)?;
+    let old_begun = are_like_unbegun(
+        alloc, parted, old_plan, plan, parting, others, traces, &roots,
+    )?;
     Ok(old_begun)
 }
 
@@ -353,36 +417,41 @@ fn frames_agree(
     alloc: Global,
     plan: &Plan,
     old_plan: &Plan,
+    parting: &Option<Parting>,
     first: &[Shared<Instant>],
     later: &[Shared<Instant>],
     old_later: &[Shared<Instant>],
 ) -> Result<bool, OutOfMemory>
     requires plan { Rise plan.now.directives }
     requires old_plan { Rise old_plan.now.directives }
+    requires outside { AreSameOutside plan.now old_plan.now parting.now }
     ensures { IfOk result (λ yes.
         IsTrue yes → FramesAgree plan.now old_plan.now (first.now ++ later.now) (first.now ++ old_later.now)) }
 {
     let none = IndexSet::new(alloc);
     let traces = traces_of(alloc, true, &none, later)?;
     let old_traces = traces_of(alloc, true, &none, old_later)?;
-    let agree = traces_agree(alloc, plan, old_plan, first, &traces, &old_traces)?;
+    let agree = traces_agree(alloc, plan, old_plan, parting, first, &traces, &old_traces)?;
     Ok(agree)
 }
 
 /// Whether the instants of two runs, which end at one time and of which so many of the first are the same, are known to tell that
 /// the cells and the tasks behind them are the same, but for what has ended. It goes over the frames of the others, and looks
 /// among those of the first ones for the tasks of what differs.
+#[allow(clippy::too_many_arguments)]
 pub(crate) fn tell_alike(
     alloc: Global,
     model: &Model,
     plan: &Plan,
     old_plan: &Plan,
+    parting: &Option<Parting>,
     instants: &[Shared<Instant>],
     others: &[Shared<Instant>],
     shared: usize,
 ) -> Result<bool, OutOfMemory>
     requires plan { Rise plan.now.directives }
     requires old_plan { Rise old_plan.now.directives }
+    requires outside { AreSameOutside plan.now old_plan.now parting.now }
     requires within { shared ≤ length instants.now }
     requires old_within { shared ≤ length others.now }
     requires shared { take shared instants.now ≡ take shared others.now }
@@ -397,6 +466,6 @@ pub(crate) fn tell_alike(
     if !same {
         return Ok(false);
     }
-    let agree = frames_agree(alloc, plan, old_plan, first, later, old_later)?;
+    let agree = frames_agree(alloc, plan, old_plan, parting, first, later, old_later)?;
     Ok(agree)
 }

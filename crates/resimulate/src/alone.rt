@@ -9,6 +9,7 @@ ghost use Rattle.run_data.specs.Waves.{RoseAlike};
 ghost use Rattle.engine_core.specs.EngineStates.{OfSameModels};
 
 use crate::bookmarks::Bookmarks;
+use crate::tally::Tally;
 use aerie_base::{Model, OutOfMemory, Plan, Shared, Steps};
 use run_data::laws::{
     reached_states_are_of_the_model, weight_falls, what_has_ended_may_be_left_out,
@@ -18,8 +19,8 @@ use std::alloc::Global;
 use std::sync::ledger::Ledger;
 
 /// The fresh run of the plan, for every stepper. The bound is at most 100,000,000. It begins at a bookmark where it may, and leaves
-/// bookmarks for the plans that are edited from this one. For a completed run `steps` rises by at most what no stored step fits of its
-/// frames, and `looks` by at most two for each frame.
+/// bookmarks for the plans that are edited from this one, where these cost little. For a completed run `steps` rises by at most what
+/// no stored step fits of its frames, and `looks` by at most two for each frame.
 #[allow(clippy::too_many_arguments)]
 pub fn simulate_with_bookmarks<S: Stepper, L: Ledger, K: Ledger>(
     alloc: Global,
@@ -48,9 +49,11 @@ pub fn simulate_with_bookmarks<S: Stepper, L: Ledger, K: Ledger>(
     reached_states_are_of_the_model();
     what_has_ended_may_be_left_out();
     let _ = model.get().cells();
-    let mut engine = bookmarks.begin(alloc, model.get(), plan, bound, None, None)?;
+    let mut engine = bookmarks.begin(alloc, model.get(), plan, bound, 0, None)?;
+    let directives = plan.get().directives.as_slice().len();
+    let mut tally = Tally::new(directives, engine.instants());
     while !engine.ready().is_empty() {
-        bookmarks.note(alloc, model, &engine);
+        bookmarks.note_if_paid_for(alloc, model, &engine, &mut tally);
         engine = engine.step(alloc, stepper, steps, looks)?;
     }
     Ok(engine.finish())

@@ -3,14 +3,13 @@
 ghost use Rattle.std.specs.Prelude.{◌≡◌, ◌≤◌, ◌<◌, [], IfOk, IfSome, IsTrue};
 ghost use Rattle.aerie_base.specs.Ranges.{step_limit};
 ghost use Rattle.aerie_base.specs.plans.OfModel.{IsPlanOf};
-ghost use Rattle.run_data.specs.laws.Orders.{EachOf};
-ghost use Rattle.parting.specs.IdRanges.{is_id_between};
-ghost use Rattle.parting.specs.PlainLateness.{IsPlainlyLate};
 ghost use Rattle.engine_core.specs.EngineStates.{batches_in, jobs_in, time_in};
 ghost use Rattle.resimulate.specs.Bookmarks.{IsEngineOf, MayResume};
+ghost use Rattle.resimulate.specs.Partings.{PartFrom};
 
-use crate::partings::{are_same_otherwise, is_id_between, parting_of};
-use aerie_base::{Directive, Model, OutOfMemory, Plan, Shared, Time};
+use crate::partings::{Parting, parting_of};
+use crate::tally::Tally;
+use aerie_base::{Model, OutOfMemory, Plan, Shared, Time};
 use engine_core::{Bookmark, Engine};
 use parting::laws::edited_plans_resume;
 use run_data::laws::plans_that_differ_late_run_side_by_side;
@@ -28,9 +27,6 @@ const MARGIN: usize = 32;
 /// What part of the way between two bookmarks that are spread is walked for less than a bookmark costs.
 const CHEAP_PART: usize = 16;
 
-/// How many instants there are for each directive, where nothing more is known.
-const INSTANTS_FOR_ONE: usize = 2;
-
 /// Simulations that were set aside at the beginnings of instants, the earlier ones in front. What stands before the last bookmark that is
 /// before an edit is not simulated again. They are spread over the instants, and one more stands close before each edit, since what was
 /// edited is often edited again.
@@ -44,26 +40,6 @@ pub struct Bookmarks {
 }
 
 // ---- whether a simulation may begin at a bookmark
-
-/// Whether a directive, if it is of a range, has no anchor and a start that is not before a time.
-fn is_plainly_late(first: u32, past: u64, until: Time, directive: &Directive) -> bool
-    ensures { IsTrue result → IsPlainlyLate (is_id_between first past) until directive.now }
-{
-    !is_id_between(first, past, directive.id)
-        || (directive.anchor.is_none() && until <= directive.start)
-}
-
-/// Whether all of these have.
-fn are_plainly_late(first: u32, past: u64, until: Time, directives: &[Directive]) -> bool
-    ensures { IsTrue result → EachOf (IsPlainlyLate (is_id_between first past) until) directives.now }
-{
-    for directive in directives {
-        if !is_plainly_late(first, past, until, directive) {
-            return false;
-        }
-    }
-    true
-}
 
 /// Whether a bookmark is of a model, its plan lasts as long as another one, and its bound is no more.
 fn is_like(bookmark: &Bookmark, model: &Model, plan: &Plan, bound: u64) -> bool
@@ -83,63 +59,52 @@ fn is_before(bookmark: &Bookmark, until: Time) -> bool
     bookmark.time() < until
 }
 
-/// Whether a simulation may begin at a bookmark: its plan differs from that of the bookmark in directives of a range of ids alone,
-/// none of which is due before a time behind the bookmark. It costs time linear in the directives.
+/// Whether a simulation may begin at a bookmark, from whose plan its own parts behind the bookmark.
 fn may_resume(
     bookmark: &Bookmark,
     model: &Model,
     plan: &Plan,
     bound: u64,
-    first: u32,
-    past: u64,
-    until: Time,
+    parting: &Parting,
 ) -> bool
     requires plan { IsPlanOf model.now plan.now }
-    ensures { IsTrue result → MayResume bookmark.now model.now plan.now bound first past until }
+    requires parts { PartFrom
+        parting.now.first parting.now.past parting.now.until plan.now bookmark.now.plan }
+    ensures { IsTrue result → MayResume bookmark.now model.now plan.now bound
+        parting.now.first parting.now.past parting.now.until }
 {
     edited_plans_resume();
     plans_that_differ_late_run_side_by_side();
     let _ = model.cells();
+    let _ = bookmark.plan();
     if !is_like(bookmark, model, plan, bound) {
         return false;
     }
-    let old_plan = bookmark.plan().get();
-    if !is_before(bookmark, until) {
-        return false;
-    }
-    let directives = plan.directives.as_slice();
-    let others = old_plan.directives.as_slice();
-    if !are_same_otherwise(first, past, directives, others) {
-        return false;
-    }
-    if !are_plainly_late(first, past, until, directives) {
-        return false;
-    }
-    if !are_plainly_late(first, past, until, others) {
+    if !is_before(bookmark, parting.until) {
         return false;
     }
     true
 }
 
-/// The engine of a plan at a bookmark, if its simulation may begin there. The range and the time are those of `may_resume`.
-#[allow(clippy::too_many_arguments)]
+/// The engine of a plan at a bookmark, if its simulation may begin there.
 fn resumed<'a>(
     alloc: Global,
     bookmark: &Bookmark,
     model: &'a Model,
     plan: &Shared<Plan>,
     bound: u64,
-    first: u32,
-    past: u64,
-    until: Time,
+    parting: &Parting,
 ) -> Result<Option<Engine<'a>>, OutOfMemory>
     requires plan { IsPlanOf model.now plan.now }
     requires bound { bound ≤ step_limit }
+    requires parts { PartFrom
+        parting.now.first parting.now.past parting.now.until plan.now bookmark.now.plan }
     ensures { IfOk result (λ found. IfSome found (IsEngineOf model.now plan.now bound)) }
 {
-    if !may_resume(bookmark, model, plan.get(), bound, first, past, until) {
+    if !may_resume(bookmark, model, plan.get(), bound, parting) {
         return Ok(None);
     }
+    let Parting { first, past, until } = *parting;
     let engine = bookmark.resume(alloc, model, plan, bound, first, past, until)?;
     Ok(Some(engine))
 }
@@ -153,13 +118,21 @@ fn close_before(shared: Option<usize>) -> usize {
     }
 }
 
-/// How many instants lie between two bookmarks that are spread over so many, or over those that a plan may have.
-fn spacing_for(instants: Option<usize>, plan: &Plan) -> usize {
-    let many = match instants {
-        Some(count) => count,
-        None => plan.directives.len().saturating_mul(INSTANTS_FOR_ONE),
-    };
-    many / SPREAD + 1
+/// How many instants lie between two bookmarks that are spread over so many.
+fn spacing_for(instants: usize) -> usize {
+    instants / SPREAD + 1
+}
+
+/// Whether a simulation stands at the beginning of an instant, and what it took since the last bookmark pays for one more.
+fn is_paid_for<'a>(engine: &Engine<'a>, tally: &mut Tally) -> bool
+    requires { jobs_in engine.now.point ≡ [] → ⊥ }
+    ensures { IsTrue result → batches_in engine.now.point ≡ [] }
+{
+    if !engine.batches().is_empty() {
+        return false;
+    }
+    tally.go_to(engine.instants());
+    tally.pays_for_bookmark()
 }
 
 impl Bookmarks {
@@ -200,32 +173,35 @@ impl Bookmarks {
             let Some(bookmark) = self.bookmarks.last() else {
                 return Ok(None);
             };
-            let (first, past, until) = parting_of(plan.get(), bookmark.plan().get());
-            let found = resumed(alloc, bookmark, model, plan, bound, first, past, until)?;
+            let Some(parting) = parting_of(plan.get(), bookmark.plan().get()) else {
+                self.bookmarks.clear();
+                return Ok(None);
+            };
+            let found = resumed(alloc, bookmark, model, plan, bound, &parting)?;
             if found.is_some() {
                 return Ok(found);
             }
-            self.drop_from(until);
+            self.drop_from(parting.until);
         }
         Ok(None)
     }
 
-    /// The engine of a plan, at the last bookmark at which its simulation may begin, or else before its first batch. It is to go on to
-    /// so many instants, if that is known, and shares so many of the first ones with a run, if that is known.
+    /// The engine of a plan, at the last bookmark at which its simulation may begin, or else before its first batch. It may go on to
+    /// so many instants, and shares so many of the first ones with a run, if that is known.
     pub(crate) fn begin<'a>(
         &mut self,
         alloc: Global,
         model: &'a Model,
         plan: &Shared<Plan>,
         bound: u64,
-        instants: Option<usize>,
+        instants: usize,
         shared: Option<usize>,
     ) -> Result<Engine<'a>, OutOfMemory>
         requires plan { IsPlanOf model.now plan.now }
         requires bound { bound ≤ step_limit }
         ensures { IfOk result (IsEngineOf model.now plan.now bound) }
     {
-        self.spacing = spacing_for(instants, plan.get());
+        self.spacing = spacing_for(instants);
         self.close = close_before(shared);
         match self.resume(alloc, model, plan, bound)? {
             Some(engine) => Ok(engine),
@@ -277,16 +253,41 @@ impl Bookmarks {
         }
     }
 
-    /// Sets the simulation aside as it stands, if that is due. Where there is no memory for it there is a bookmark less.
+    /// Sets a simulation aside as it stands, at the beginning of an instant. Where there is no memory for it there is a bookmark less.
+    fn set_aside<'a>(&mut self, alloc: Global, model: &Shared<Model>, engine: &Engine<'a>)
+        requires model { model.now ≡ engine.now.model }
+        requires job { jobs_in engine.now.point ≡ [] → ⊥ }
+        requires begins { batches_in engine.now.point ≡ [] }
+    {
+        if let Ok(bookmark) = engine.bookmark(alloc, model) {
+            self.put(bookmark);
+        }
+    }
+
+    /// Sets a simulation beside an old run aside, if that is due.
     pub(crate) fn note<'a>(&mut self, alloc: Global, model: &Shared<Model>, engine: &Engine<'a>)
         requires model { model.now ≡ engine.now.model }
         requires job { jobs_in engine.now.point ≡ [] → ⊥ }
     {
-        if !self.is_due(engine) {
-            return;
+        if self.is_due(engine) {
+            self.set_aside(alloc, model, engine);
         }
-        if let Ok(bookmark) = engine.bookmark(alloc, model) {
-            self.put(bookmark);
+    }
+
+    /// Sets a simulation where no old run is at hand aside, if that costs little against what was simulated since the last bookmark.
+    pub(crate) fn note_if_paid_for<'a>(
+        &mut self,
+        alloc: Global,
+        model: &Shared<Model>,
+        engine: &Engine<'a>,
+        tally: &mut Tally,
+    )
+        requires model { model.now ≡ engine.now.model }
+        requires job { jobs_in engine.now.point ≡ [] → ⊥ }
+    {
+        if is_paid_for(engine, tally) {
+            self.set_aside(alloc, model, engine);
+            tally.start_over();
         }
     }
 }

@@ -7,13 +7,14 @@ ghost use Rattle.run_data.specs.Fresh.{IsFresh};
 ghost use Rattle.run_data.specs.laws.RunCosts.{cost_of_instants};
 ghost use Rattle.engine_core.specs.EngineStates.{batches_in, instants_in, jobs_in};
 ghost use Rattle.resimulate.specs.EarlyEnds.{EndAtOnce, IsRest, MayBeEnded};
-ghost use Rattle.resimulate.specs.Partings.{MayEndFrom};
+ghost use Rattle.resimulate.specs.Partings.{AreSameOutside, MayEndFrom};
 ghost use Rattle.resimulate.specs.SharedEnds.{SharesEnds};
 
 use crate::alike::tell_alike;
 use crate::costs::left_after_instants;
 use crate::laws::{frames_tell_alike, instants_follow_settled_states, last_changes_tell_cells};
 use crate::old_batches::is_earlier;
+use crate::partings::Parting;
 use aerie_base::{Model, OutOfMemory, Plan, Shared};
 use engine_core::Engine;
 use run_data::laws::{rest_of_old_run_is_taken_over, tasks_are_traced_by_their_frames};
@@ -96,6 +97,7 @@ pub(crate) fn rest_if_alike<'a, 'r>(
     bound: u64,
     engine: &Engine<'a>,
     old: &'r Run,
+    parting: &Option<Parting>,
     shared: usize,
 ) -> Result<Option<SharedEnd<'r>>, OutOfMemory>
     requires model { engine.now.model ≡ model.now }
@@ -105,6 +107,7 @@ pub(crate) fn rest_if_alike<'a, 'r>(
     requires begins { batches_in engine.now.point ≡ [] }
     requires fresh { IsFresh model.now old.now.plan old.now.bound old.now }
     requires old_plan { IsPlanOf model.now old.now.plan }
+    requires outside { AreSameOutside plan.now old.now.plan parting.now }
     requires may { MayEndFrom model.now plan.now bound old.now shared }
     ensures rest { IfOk result (λ found. IfSome found (λ it.
         IsRest model.now plan.now bound engine.now it.rest.now)) }
@@ -132,7 +135,10 @@ pub(crate) fn rest_if_alike<'a, 'r>(
         return Ok(None);
     }
     let first = least(shared, instants.len(), before.len());
-    let alike = tell_alike(alloc, model, plan, old.plan.get(), instants, before, first)?;
+    let old_plan = old.plan.get();
+    let alike = tell_alike(
+        alloc, model, plan, old_plan, parting, instants, before, first,
+    )?;
     if !alike {
         return Ok(None);
     }

@@ -12,6 +12,7 @@ pub mod laws;
 mod old_batches;
 mod pace;
 mod partings;
+mod tally;
 mod traces;
 mod walk;
 

@@ -15,7 +15,7 @@ const SHARE: usize = 8;
 const BATCHES_FOR_ONE: u32 = 2;
 
 /// How many directives, or instants in which both runs are the same, cost as much as an instant that is compared.
-const LIGHT_IN_ONE: usize = 16;
+const LIGHT_IN_ONE: usize = 128;
 
 /// What was taken over so far, and when to compare.
 #[derive(Clone, Copy)]

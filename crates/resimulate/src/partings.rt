@@ -1,7 +1,7 @@
 //! How many of the first instants of an old run are known to be those of a new one too. Where plans differ in directives none of
 //! which is due before a time, their simulations go alike until then, so nothing before it needs to be compared.
 
-ghost use Rattle.std.specs.Prelude.{◌≡◌, ◌≤◌, ◌<◌, false, IsTrue, IfSome, Some, drop, length, slice_get};
+ghost use Rattle.std.specs.Prelude.{◌≡◌, ◌≤◌, ◌<◌, ◌+◌, ◌-◌, IsTrue, IfSome, drop, length, take};
 ghost use Rattle.aerie_base.specs.plans.OfModel.{IsPlanOf};
 ghost use Rattle.run_data.specs.Fresh.{IsFresh};
 ghost use Rattle.run_data.specs.laws.Orders.{EachOf};
@@ -9,11 +9,11 @@ ghost use Rattle.run_data.specs.laws.Rising.{RiseFromStart};
 ghost use Rattle.parting.specs.IdRanges.{is_id_between};
 ghost use Rattle.resimulate.specs.EarlyEnds.{MayBeEnded};
 ghost use Rattle.resimulate.specs.OldBatches.{AreEarly};
-ghost use Rattle.resimulate.specs.Partings.{DifferLater, IsDueLater, IsNextToo, MayEndFrom, SharesFirst, SkipsTo, StartsLater, others_of};
+ghost use Rattle.resimulate.specs.Partings.{IsFreeAndLate, MayEndFrom, PartsBy, SharesFirst, SkipsTo, others_of};
 
 use crate::early_ends::may_be_ended;
 use crate::old_batches::is_earlier;
-use aerie_base::{Anchor, Directive, Model, Plan, Shared, Time};
+use aerie_base::{Directive, Model, Plan, Shared, Time};
 use run_data::laws::{instants_rise, plans_that_differ_late_run_side_by_side};
 use run_data::{Instant, Run};
 
@@ -27,38 +27,62 @@ pub(crate) fn is_id_between(first: u32, past: u64, id: u32) -> bool
     u64::from(id) < past
 }
 
-// ---- whether plans differ so
+// ---- where plans part
 
-/// Whether a start is not before a time, or is anchored to a directive of the range.
-fn starts_later(first: u32, past: u64, until: Time, anchor: &Option<Anchor>, start: Time) -> bool
-    ensures { IsTrue result → StartsLater first past until anchor.now start }
-{
-    match anchor {
-        None => until <= start,
-        Some(anchor) => is_id_between(first, past, anchor.to),
-    }
+/// Where two plans part: a range with the ids of the directives in which they differ, and a time before which none of these is due.
+#[derive(Clone, Copy)]
+pub struct Parting {
+    /// The first id of the range.
+    pub(crate) first: u32,
+    /// The id behind its last.
+    pub(crate) past: u64,
+    /// The time.
+    pub(crate) until: Time,
 }
 
-/// Whether a directive starts so, if it is of the range.
-fn is_due_later(first: u32, past: u64, until: Time, directive: &Directive) -> bool
-    ensures { IsTrue result → IsDueLater first past until directive.now }
+/// The lesser of two numbers.
+fn lesser(one: usize, other: usize) -> usize
+    ensures one { result ≤ one }
+    ensures other { result ≤ other }
 {
-    if !is_id_between(first, past, directive.id) {
-        return true;
-    }
-    starts_later(first, past, until, &directive.anchor, directive.start)
+    if one <= other { one } else { other }
 }
 
-/// Whether all of these do.
-fn are_due_later(first: u32, past: u64, until: Time, directives: &[Directive]) -> bool
-    ensures { IsTrue result → EachOf (IsDueLater first past until) directives.now }
+/// How many of the first directives are the same.
+fn same_in_front(directives: &[Directive], others: &[Directive]) -> usize
+    ensures within { result ≤ length directives.now }
+    ensures old_within { result ≤ length others.now }
+    ensures same { take result directives.now ≡ take result others.now }
 {
-    for directive in directives {
-        if !is_due_later(first, past, until, directive) {
-            return false;
+    let most = lesser(directives.len(), others.len());
+    for at in 0..most {
+        if !directives[at].is_same(&others[at]) {
+            return at;
         }
     }
-    true
+    most
+}
+
+/// How many of the last directives are the same, where so many of the first are left out.
+fn same_behind(directives: &[Directive], others: &[Directive], front: usize) -> usize
+    requires within { front ≤ length directives.now }
+    requires old_within { front ≤ length others.now }
+    ensures within { front + result ≤ length directives.now }
+    ensures old_within { front + result ≤ length others.now }
+    ensures same { drop (length directives.now - result) directives.now
+        ≡ drop (length others.now - result) others.now }
+{
+    let past = directives.len();
+    let old_past = others.len();
+    let most = lesser(past - front, old_past - front);
+    for back in 0..most {
+        let at = past - 1 - back;
+        let to = old_past - 1 - back;
+        if !directives[at].is_same(&others[to]) {
+            return back;
+        }
+    }
+    most
 }
 
 /// The index of the next directive that is not of the range, from this one on, or the number of all.
@@ -73,142 +97,122 @@ fn next_other(first: u32, past: u64, directives: &[Directive], from: usize) -> u
     directives.len()
 }
 
-/// The index behind the next directive of the other plan, from this one on, if that is the same as one that is not of the range;
-/// no directive of the other plan is beside one of the range.
-fn behind_next(
-    first: u32,
-    past: u64,
-    one: &Directive,
-    others: &[Directive],
-    from: usize,
-) -> Option<usize>
-    ensures { IfSome result (λ to. IsNextToo first past one.now others.now from to) }
+/// Whether an index is that of the first of so many at the end.
+fn is_at(index: usize, past: usize, behind: usize) -> bool
+    requires { behind ≤ past }
+    ensures { IsTrue result → index ≡ past - behind }
 {
-    if is_id_between(first, past, one.id) {
-        return Some(from);
-    }
-    let at = next_other(first, past, others, from);
-    if at >= others.len() {
-        return None;
-    }
-    if !one.is_same(&others[at]) {
-        return None;
-    }
-    Some(at + 1)
+    index == past - behind
 }
 
-/// Whether plans are the same but for the directives of a range.
-pub(crate) fn are_same_otherwise(
-    first: u32,
-    past: u64,
+/// Whether plans are the same but for the directives of a range, where so many of the first and of the last are the same.
+fn are_same_otherwise(
+    parting: &Parting,
     directives: &[Directive],
     others: &[Directive],
+    front: usize,
+    behind: usize,
 ) -> bool
-    ensures { IsTrue result → others_of first past directives.now ≡ others_of first past others.now }
+    requires front { take front directives.now ≡ take front others.now }
+    requires behind { drop (length directives.now - behind) directives.now
+        ≡ drop (length others.now - behind) others.now }
+    requires within { behind ≤ length directives.now }
+    requires old_within { behind ≤ length others.now }
+    ensures { IsTrue result →
+        others_of parting.now.first parting.now.past directives.now
+        ≡ others_of parting.now.first parting.now.past others.now }
 {
-    let mut at = 0;
-    for one in directives {
-        match behind_next(first, past, one, others, at) {
-            Some(next) => at = next,
-            None => return false,
-        }
+    let past = directives.len();
+    let old_past = others.len();
+    let next = next_other(parting.first, parting.past, directives, front);
+    if !is_at(next, past, behind) {
+        return false;
     }
-    next_other(first, past, others, at) >= others.len()
+    let old_next = next_other(parting.first, parting.past, others, front);
+    if !is_at(old_next, old_past, behind) {
+        return false;
+    }
+    true
 }
 
-/// Whether two plans differ in directives of a range alone, none of which is due before a time.
-fn differ_later(first: u32, past: u64, until: Time, plan: &Plan, old_plan: &Plan) -> bool
-    ensures { IsTrue result → DifferLater first past until plan.now old_plan.now }
+/// Whether a directive has no anchor, and a start that is not before a time if it is of a range.
+fn is_plainly_late(parting: &Parting, directive: &Directive) -> bool
+    ensures { IsTrue result →
+        IsFreeAndLate parting.now.first parting.now.past parting.now.until directive.now }
 {
-    let directives = plan.directives.as_slice();
-    let others = old_plan.directives.as_slice();
-    Time::zero() < until
-        && are_same_otherwise(first, past, directives, others)
-        && are_due_later(first, past, until, directives)
-        && are_due_later(first, past, until, others)
+    directive.anchor.is_none()
+        && (parting.until <= directive.start
+            || !is_id_between(parting.first, parting.past, directive.id))
 }
 
-// ---- where they may part
-
-/// How many of the first directives are the same.
-fn same_in_front(directives: &[Directive], others: &[Directive]) -> usize {
-    let mut many: usize = 0;
-    for one in directives {
-        match others.get(many) {
-            Some(other) if one.is_same(other) => many = many.saturating_add(1),
-            _ => return many,
+/// Whether all of these have.
+fn are_plainly_late(parting: &Parting, directives: &[Directive]) -> bool
+    ensures { IsTrue result →
+        EachOf (IsFreeAndLate parting.now.first parting.now.past parting.now.until) directives.now }
+{
+    for directive in directives {
+        if !is_plainly_late(parting, directive) {
+            return false;
         }
     }
-    many
+    true
 }
 
-/// The one at an index that is counted from the end.
-fn from_end(directives: &[Directive], back: usize) -> Option<&Directive> {
-    let past = directives.len().checked_sub(back)?;
-    directives.get(past.checked_sub(1)?)
-}
-
-/// How many of the last directives are the same, where so many of the first are.
-fn same_behind(directives: &[Directive], others: &[Directive], front: usize) -> usize {
-    let most = directives.len().min(others.len()).saturating_sub(front);
-    for back in 0..most {
-        match (from_end(directives, back), from_end(others, back)) {
-            (Some(one), Some(other)) if one.is_same(other) => {}
-            _ => return back,
-        }
-    }
-    most
-}
-
-/// A range with the id of a directive, if there is one.
-fn with_id(range: (u32, u64), directive: Option<&Directive>) -> (u32, u64) {
+/// A parting of which a directive is one, where there is such a directive.
+fn with_directive(parting: Parting, directive: Option<&Directive>) -> Parting {
     match directive {
-        Some(one) => (range.0.min(one.id), range.1.max(u64::from(one.id) + 1)),
-        None => range,
+        Some(one) => Parting {
+            first: parting.first.min(one.id),
+            past: parting.past.max(u64::from(one.id) + 1),
+            until: parting.until.min(one.start),
+        },
+        None => parting,
     }
 }
 
-/// A range with the ids of those between the same directives in front and behind.
-fn with_ids(
-    range: (u32, u64),
+/// A parting of which those are between the same directives in front and behind.
+fn with_between(
+    parting: Parting,
     directives: &[Directive],
     front: usize,
     behind: usize,
-) -> (u32, u64) {
-    if front.saturating_add(behind) >= directives.len() {
-        return range;
+) -> Parting {
+    let mut whole = parting;
+    for at in front..directives.len().saturating_sub(behind) {
+        whole = with_directive(whole, directives.get(at));
     }
-    let range = with_id(range, directives.get(front));
-    with_id(range, from_end(directives, behind))
+    whole
 }
 
-/// The first of a time and of the starts of the directives of a range. Where any directive is anchored it is the start of the plan:
-/// whether an anchor has come is told by all frames alone.
-fn first_start(range: (u32, u64), directives: &[Directive], until: Time) -> Time {
-    let mut least = until;
-    for one in directives {
-        if one.anchor.is_some() {
-            return Time::zero();
-        }
-        if is_id_between(range.0, range.1, one.id) {
-            least = least.min(one.start);
-        }
-    }
-    least
-}
-
-/// Where two plans may part: a range with the ids of the directives in which they differ, and a time at which one of these may be
-/// due.
-pub(crate) fn parting_of(plan: &Plan, old_plan: &Plan) -> (u32, u64, Time) {
+/// Where two plans part, unless a directive of either has an anchor: whether an anchor has come is told by all frames alone. It goes over
+/// both plans once.
+pub(crate) fn parting_of(plan: &Plan, old_plan: &Plan) -> Option<Parting>
+    ensures { PartsBy plan.now old_plan.now result }
+{
     let directives = plan.directives.as_slice();
     let others = old_plan.directives.as_slice();
     let front = same_in_front(directives, others);
     let behind = same_behind(directives, others, front);
-    let range = with_ids((u32::MAX, 0), directives, front, behind);
-    let range = with_ids(range, others, front, behind);
-    let until = first_start(range, directives, plan.duration);
-    (range.0, range.1, first_start(range, others, until))
+    let none = Parting {
+        first: u32::MAX,
+        past: 0,
+        until: plan.duration,
+    };
+    let mine = with_between(none, directives, front, behind);
+    let parting = with_between(mine, others, front, behind);
+    if !are_same_otherwise(&parting, directives, others, front, behind) {
+        return None;
+    }
+    if !are_plainly_late(&parting, directives) {
+        return None;
+    }
+    if !are_plainly_late(&parting, others) {
+        return None;
+    }
+    Some(parting)
 }
+
+// ---- first instants
 
 /// How many of these instants are before a time.
 fn earlier_than(instants: &[Shared<Instant>], until: Time) -> usize
@@ -219,12 +223,26 @@ fn earlier_than(instants: &[Shared<Instant>], until: Time) -> usize
     instants.partition_point(|instant| is_earlier(instant, until))
 }
 
+/// Whether a time is behind the start of a plan.
+fn is_later(until: Time) -> bool
+    ensures { IsTrue result → 0 < until }
+{
+    Time::zero() < until
+}
+
 /// How many of the first instants of the old run are known to be those of the new one, as far as that comes.
-fn shared_instants(model: &Model, plan: &Plan, bound: u64, old: &Run) -> usize
+fn shared_instants(
+    model: &Model,
+    plan: &Plan,
+    bound: u64,
+    old: &Run,
+    parting: &Option<Parting>,
+) -> usize
     requires plan { IsPlanOf model.now plan.now }
     requires fresh { IsFresh model.now old.now.plan old.now.bound old.now }
     requires old_plan { IsPlanOf model.now old.now.plan }
     requires may { MayBeEnded plan.now old.now }
+    requires parting { PartsBy plan.now old.now.plan parting.now }
     ensures { SharesFirst model.now plan.now bound old.now result }
 {
     plans_that_differ_late_run_side_by_side();
@@ -233,23 +251,31 @@ fn shared_instants(model: &Model, plan: &Plan, bound: u64, old: &Run) -> usize
     if bound < old.bound {
         return 0;
     }
-    let old_plan = old.plan.get();
-    let (first, past, until) = parting_of(plan, old_plan);
-    if !differ_later(first, past, until, plan, old_plan) {
+    let Some(place) = parting else {
+        return 0;
+    };
+    if !is_later(place.until) {
         return 0;
     }
-    earlier_than(old.instants.as_slice(), until)
+    earlier_than(old.instants.as_slice(), place.until)
 }
 
 /// Whether a simulation may end with the rest of an old run, and how many of its first instants are shared then.
-pub(crate) fn may_end_from(model: &Model, plan: &Plan, bound: u64, old: &Run) -> Option<usize>
+pub(crate) fn may_end_from(
+    model: &Model,
+    plan: &Plan,
+    bound: u64,
+    old: &Run,
+    parting: &Option<Parting>,
+) -> Option<usize>
     requires plan { IsPlanOf model.now plan.now }
     requires fresh { IsFresh model.now old.now.plan old.now.bound old.now }
     requires old_plan { IsPlanOf model.now old.now.plan }
+    requires parting { PartsBy plan.now old.now.plan parting.now }
     ensures { IfSome result (λ count. MayEndFrom model.now plan.now bound old.now count) }
 {
     if !may_be_ended(plan, old) {
         return None;
     }
-    Some(shared_instants(model, plan, bound, old))
+    Some(shared_instants(model, plan, bound, old, parting))
 }

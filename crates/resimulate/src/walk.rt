@@ -10,7 +10,7 @@ ghost use Rattle.engine_core.specs.EngineStates.{batches_in, instants_in, jobs_i
 ghost use Rattle.fitting.specs.Fitting.{IsOldBatch};
 ghost use Rattle.resimulate.specs.EarlyEnds.{IsRest};
 ghost use Rattle.resimulate.specs.EvenInstants.{PaysForUneven, LooksForUneven};
-ghost use Rattle.resimulate.specs.Partings.{MayEndFrom};
+ghost use Rattle.resimulate.specs.Partings.{AreSameOutside, MayEndFrom};
 ghost use Rattle.resimulate.specs.SharedEnds.{SharesEnds};
 ghost use Rattle.resimulate.specs.Walks.{FindsReady, AreOfNextBatch, BatchDiffers, GoesOn, counts_by};
 
@@ -18,7 +18,7 @@ use crate::bookmarks::Bookmarks;
 use crate::cursor::Cursor;
 use crate::early_ends::{SharedEnd, rest_if_alike};
 use crate::pace::Pace;
-use crate::partings::may_end_from;
+use crate::partings::{Parting, may_end_from, parting_of};
 use aerie_base::{Model, OutOfMemory, Plan, Shared, Steps};
 use engine_core::Engine;
 use fitting::fit_job;
@@ -173,6 +173,7 @@ fn rest_if_due<'a, 'r>(
     engine: &Engine<'a>,
     old: &'r Run,
     cursor: &Cursor<'r>,
+    parting: &Option<Parting>,
     may_end: Option<usize>,
     pace: &mut Pace,
 ) -> Result<Option<SharedEnd<'r>>, OutOfMemory>
@@ -182,6 +183,7 @@ fn rest_if_due<'a, 'r>(
     requires job { jobs_in engine.now.point ≡ [] → ⊥ }
     requires fresh { IsFresh model.now old.now.plan old.now.bound old.now }
     requires old_plan { IsPlanOf model.now old.now.plan }
+    requires outside { AreSameOutside plan.now old.now.plan parting.now }
     requires may { IfSome may_end (λ count. MayEndFrom model.now plan.now bound old.now count) }
     ensures begins { IfOk result (λ found. IfSome found (λ it. batches_in engine.now.point ≡ [])) }
     ensures rest { IfOk result (λ found. IfSome found (λ it.
@@ -198,7 +200,7 @@ fn rest_if_due<'a, 'r>(
     if !is_due(engine, old, cursor, shared, pace) {
         return Ok(None);
     }
-    let found = rest_if_alike(alloc, model, plan, bound, engine, old, shared)?;
+    let found = rest_if_alike(alloc, model, plan, bound, engine, old, parting, shared)?;
     Ok(found)
 }
 
@@ -245,9 +247,10 @@ pub fn resimulate_sharing<S: Stepper, L: Ledger, K: Ledger>(
     let run = old.run();
     let instants = run.instants.as_slice();
     let planned = plan.get();
-    let may_end = may_end_from(model, planned, bound, run);
+    let parting = parting_of(planned, run.plan.get());
+    let may_end = may_end_from(model, planned, bound, run, &parting);
     let mut found = Vec::new(alloc);
-    let many = Some(instants.len());
+    let many = instants.len();
     let mut engine = bookmarks.begin(alloc, model, plan, bound, many, may_end)?;
     let settled = engine.instants().len();
     let mut cursor = Cursor::new(instants, settled);
@@ -256,7 +259,7 @@ pub fn resimulate_sharing<S: Stepper, L: Ledger, K: Ledger>(
         bookmarks.note(alloc, old.model(), &engine);
         cursor.go_to(engine.time());
         let ending = rest_if_due(
-            alloc, model, planned, bound, &engine, run, &cursor, may_end, &mut pace,
+            alloc, model, planned, bound, &engine, run, &cursor, &parting, may_end, &mut pace,
         )?;
         if let Some(ending) = ending {
             let ended = engine.end_with(ending.rest)?;

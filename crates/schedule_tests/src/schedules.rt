@@ -156,6 +156,31 @@ fn no_plan_is_simulated_twice_in_a_row(rt: HostRuntime) {
             &[],
             "g: cardinality Bump(by = 1) count 2 in [0us, 9us);",
         ),
-        "g unmet [4294967294]; 1 trials, 2 runs; 4294967294@0",
+        "g unmet [4294967294] 0 tried for 1, none; 1 trials, 2 runs; 4294967294@0",
+    );
+}
+
+/// A goal that is unmet tells why.
+#[test]
+fn an_unmet_goal_tells_why(rt: HostRuntime) {
+    let alloc = rt.alloc();
+    // no run with such an activity comes to its end
+    gives(
+        &rt,
+        alloc,
+        &short(1, &[BUMP], "g: cardinality Loop() count 1 in [0us, 9us);"),
+        "g unmet [] 9 tried for 0, unfilled; 9 trials, 10 runs; 1@5",
+    );
+    // what is placed for the second goal breaks the first one
+    gives(
+        &rt,
+        alloc,
+        &short(
+            2,
+            &[BUMP],
+            "g: coexistence Bump(by = 0) for starts(Bump) from 0us to 0us; \
+             h: cardinality Bump(by = 3) count 2 in [0us, 9us);",
+        ),
+        "g unmet [2] broken; h met [3]; 2 trials, 3 runs; 1@5 2@5 3@0",
     );
 }

@@ -1,11 +1,33 @@
 //! What a schedule is, as one line of text.
 
 use aerie_base::Directive;
-use goals::GoalStatus;
+use goals::{GoalStatus, Rejection, Unmet};
 use scheduler::Schedule;
 use std::alloc::{AllocError, Global};
 
-/// A goal by its name, whether it is met, and what was placed for it: `g met [2 3]`.
+/// Why the last trial for a gap was rejected.
+fn rejected(last: &Option<Rejection>) -> &'static str {
+    match last {
+        None => "none",
+        Some(Rejection::Unfilled(_)) => "unfilled",
+        Some(Rejection::Violates { .. }) => "violates",
+    }
+}
+
+/// Why a goal is unmet: ` 0 tried for 1, none`, ` broken`, or nothing where it is met.
+fn put_why(alloc: Global, text: &mut String, why: &Option<Unmet>) -> Result<(), AllocError> {
+    match why {
+        None => Ok(()),
+        Some(Unmet::Broken) => text.push_str(" broken"),
+        Some(Unmet::Open(open)) => {
+            let last = rejected(&open.last);
+            let tried = format!(in alloc; " {} tried for {}, {last}", open.tried, open.gap.at)?;
+            text.push_str(tried.as_str())
+        }
+    }
+}
+
+/// A goal by its name, whether it is met, what was placed for it, and why it is unmet: `g met [2 3]`.
 fn put_status(alloc: Global, text: &mut String, status: &GoalStatus) -> Result<(), AllocError> {
     let met = if status.met { "met" } else { "unmet" };
     let head = format!(in alloc; "{} {met} [", status.goal.as_str())?;
@@ -16,7 +38,9 @@ fn put_status(alloc: Global, text: &mut String, status: &GoalStatus) -> Result<(
         text.push_str(word.as_str())?;
         between = " ";
     }
-    text.push_str("]; ")
+    text.push_str("]")?;
+    put_why(alloc, text, &status.why)?;
+    text.push_str("; ")
 }
 
 /// A directive by its id and its start: ` 2@15`.

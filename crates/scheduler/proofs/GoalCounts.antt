@@ -27,16 +27,16 @@ module _ (model : Parts) (constraints : List Constraint) (run_of : Plan → Run)
   abbrev all_of : List Goal → Plan → ℕ → GoalsPlaced
   all_of goals plan left = goals_placed model constraints run_of goals plan left
 
-  pub as_many : (goals : List Goal) (plan : Plan) (left : ℕ) → length (all_of goals plan left).placed ≡ length goals
+  pub as_many : (goals : List Goal) (plan : Plan) (left : ℕ) → length (all_of goals plan left).parts ≡ length goals
   as_many [] plan left = refl
   as_many (goal ∷ rest) plan left =
       let at = goal_placed model constraints run_of goal plan left in ap suc (as_many rest at.plan at.left)
 
   -- where no goal is left, all is placed
-  pub none_more : (goals : List Goal) (at : ℕ) (all : GoalsPlaced) → length goals ≤ at → placed_behind all.placed (all_of (drop at goals) all.plan all.left) ≡ all
+  pub none_more : (goals : List Goal) (at : ℕ) (all : GoalsPlaced) → length goals ≤ at → placed_behind all.parts (all_of (drop at goals) all.plan all.left) ≡ all
   none_more goals at all past =
-      ap (λ (rest : List Goal). placed_behind all.placed (all_of rest all.plan all.left)) (drop_all at goals past)
-      ∙ (λ i. record { plan = all.plan; placed = append-nil all.placed i; left = all.left })
+      ap (λ (rest : List Goal). placed_behind all.parts (all_of rest all.plan all.left)) (drop_all at goals past)
+      ∙ (λ i. record { plan = all.plan; parts = append-nil all.parts i; left = all.left })
 
 -- ---- the schedule
 
@@ -48,7 +48,7 @@ module _ (model : Parts) (bound : ℕ) (constraints : List Constraint) where
   scheduled_is goals plan progress kept e =
       ap (λ (run : Run). record {
         plan = progress.kept.run.plan;
-        goals = statuses_on model run goals progress.placed;
+        goals = statuses_on model run goals progress.parts;
         trials = trial_limit - progress.left;
       }) (run_is model bound progress.kept kept)
       ∙ ap (λ (all : GoalsPlaced). with_statuses model constraints (fresh_run model bound) goals all) e

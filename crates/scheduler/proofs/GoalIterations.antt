@@ -47,7 +47,7 @@ module _ (bound : ℕ) (request : GoalRequest) (placing : held.Placing) (kept : 
       found = search_for bound request placing gap
 
       abbrev after_found : Option Plan → held.Placing
-      after_found plan = placed_after placing (searched_of (kept_run request.model.now bound) (record { plan = plan; left = found.left }))
+      after_found plan = placed_after placing gap (searched_of (kept_run request.model.now bound) (record { plan = plan; last = found.last; left = found.left }))
 
       -- by what is found the goal goes on, or ends
       goes_with : (plan : Option Plan) → found.plan ≡ plan → goal_filled bound request (after_found plan) ≡ goal_filled bound request placing
@@ -55,7 +55,7 @@ module _ (bound : ℕ) (request : GoalRequest) (placing : held.Placing) (kept : 
           sym (goes ∙ none_found request.model.now request.constraints.now (fresh_run request.model.now bound) request.goal.now (shown placing) gap (gap_on (Some gap) some) e)
       goes_with (Some plan) e =
           ap (λ (p : Plan). all_filled request.model.now request.constraints.now (fresh_run request.model.now bound) request.goal.now
-          (record { plan = p; placed = placing.placed ++ placing.kept.run.plan.next_id ∷ []; left = found.left })) (of plan)
+          (record { plan = p; placed = placing.placed ++ placing.kept.run.plan.next_id ∷ []; open_gap = None; left = found.left })) (of plan)
           ∙ sym (goes ∙ one_found request.model.now request.constraints.now (fresh_run request.model.now bound) request.goal.now (shown placing) gap plan (gap_on (Some gap) some) e)
 
       fewer_with : (plan : Option Plan) → found.plan ≡ plan → most_gaps_left (after_found plan) < suc placing.left
@@ -74,16 +74,16 @@ module _ (bound : ℕ) (request : GoalRequest) (placing : held.Placing) (kept : 
           (template_of request is) trial.1)
 
       module _ (search : Search) (is_found : search ≡ searched_of (kept_run request.model.now bound) found) where
-        pub goes_after : goal_filled bound request (placed_after placing search) ≡ goal_filled bound request placing
-        goes_after = ap (λ (s : Search). goal_filled bound request (placed_after placing s)) is_found ∙ goes_with found.plan refl
+        pub goes_after : goal_filled bound request (placed_after placing gap search) ≡ goal_filled bound request placing
+        goes_after = ap (λ (s : Search). goal_filled bound request (placed_after placing gap s)) is_found ∙ goes_with found.plan refl
 
-        pub fewer_after : most_gaps_left (placed_after placing search) < most_gaps_left placing
+        pub fewer_after : most_gaps_left (placed_after placing gap search) < most_gaps_left placing
         fewer_after =
             let some : most_gaps_left placing ≡ suc placing.left = ap (λ (b : Bool). most_gaps_if b placing.left) goes_on in
-            let same : most_gaps_left (placed_after placing search) ≡ most_gaps_left (placed_after placing (searched_of (kept_run request.model.now bound) found)) =
-            ap (λ (s : Search). most_gaps_left (placed_after placing s)) is_found in
+            let same : most_gaps_left (placed_after placing gap search) ≡ most_gaps_left (placed_after placing gap (searched_of (kept_run request.model.now bound) found)) =
+            ap (λ (s : Search). most_gaps_left (placed_after placing gap s)) is_found in
             let less = fewer_with found.plan refl in omega (arith, some, same, less)
 
-        pub kept_after : IsRequest request → IsKeptOf request.model.now bound (placed_after placing search).kept
+        pub kept_after : IsRequest request → IsKeptOf request.model.now bound (placed_after placing gap search).kept
         kept_after is =
-            subst (λ (s : Search). IsKeptOf request.model.now bound (placed_after placing s).kept) (sym is_found) (kept_with found.plan refl is)
+            subst (λ (s : Search). IsKeptOf request.model.now bound (placed_after placing gap s).kept) (sym is_found) (kept_with found.plan refl is)

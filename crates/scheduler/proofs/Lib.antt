@@ -1,6 +1,8 @@
+pub mod Accepting
 pub mod AddedBy
 pub mod ByAdds
 pub mod Filling
+pub mod FirstTimes
 pub mod FreshRunFacts
 pub mod GivenTemplates
 pub mod GoalCounts

@@ -1,5 +1,5 @@
 -- A schedule only adds to its plan, goal by goal.
-use Rattle.std.proofs.Common.{◌≡◌, ℕ, zero, suc, ◌+◌, List, [], ◌∷◌, ◌++◌, Some, None, length, refl, sym, ap, ◌∙◌, arith, append-nil}
+use Rattle.std.proofs.Common.{◌≡◌, ℕ, zero, suc, ◌+◌, List, [], ◌∷◌, ◌++◌, Some, None, length, map, refl, sym, ap, ◌∙◌, arith, append-nil}
 use Rattle.std.specs.List.{concat, range_with_len}
 use Rattle.std.proofs.lemmas.List.{append_assoc, length-append}
 use Rattle.aerie_base.specs.declared.models.model.Parts.{Parts}
@@ -11,6 +11,7 @@ use Rattle.run_data.specs.laws.Orders.{EachOf}
 use Rattle.constraints.specs.declared.types.Constraint.{Constraint}
 use Rattle.goals.specs.declared.types.Goal.{Goal}
 use Rattle.goals.specs.declared.types.Template.{Template}
+use Rattle.scheduler.specs.declared.progress.GoalPart.{GoalPart}
 use Rattle.scheduler.specs.Trials.{directive_with, made_with}
 use Rattle.scheduler.specs.Scheduling.{GoalsPlaced, goal_placed, goals_placed}
 use Rattle.scheduler.specs.Told.{EachWith}
@@ -20,7 +21,7 @@ use Rattle.scheduler.proofs.Placements.{IsOfTrials, goal_placed_by}
 
 -- ---- lists
 
-each_more : {A : Type 0} (P : A → Type 0) (items others : List A) → EachOf P items → EachOf P others → EachOf P (items ++ others)
+pub each_more : {A : Type 0} (P : A → Type 0) (items others : List A) → EachOf P items → EachOf P others → EachOf P (items ++ others)
 each_more P [] others each more = more
 each_more P (item ∷ rest) others each more = (each.0, each_more P rest others each.1 more)
 
@@ -108,19 +109,23 @@ of_trials template = record {
 
 -- ---- all goals
 
+-- the ids that were placed for some goals, those for the first one at first
+abbrev pub placed_in : List GoalPart → List ℕ
+placed_in parts = concat (map (λ part. part.placed) parts)
+
 module _ (model : Parts) (constraints : List Constraint) (run_of : Plan → Run) where
   -- what was placed for a goal stands in a row
-  pub record IsRow (plan : Plan) (goal : Goal) (ids : List ℕ) : Type 0 where
+  pub record IsRow (plan : Plan) (goal : Goal) (part : GoalPart) : Type 0 where
     pub front : List Directive
     pub row : List Directive
     pub back : List Directive
     pub there : plan.directives ≡ front ++ row ++ back
-    pub ids_are : ids_of row ≡ ids
+    pub ids_are : ids_of row ≡ part.placed
     pub each : EachOf (IsOfTemplate goal.template) row
 
   pub record AllAdd (goals : List Goal) (before : Plan) (all : GoalsPlaced) : Type 0 where
-    pub adds : OnlyAdds before all.plan (concat all.placed)
-    pub rows : EachWith (IsRow all.plan) goals all.placed
+    pub adds : OnlyAdds before all.plan (placed_in all.parts)
+    pub rows : EachWith (IsRow all.plan) goals all.parts
 
   pub goals_add : (goals : List Goal) (plan : Plan) (left : ℕ) → AllAdd goals plan (goals_placed model constraints run_of goals plan left)
   goals_add [] plan left = record { adds = adds_nothing plan; rows = tt }
@@ -129,7 +134,7 @@ module _ (model : Parts) (constraints : List Constraint) (run_of : Plan → Run)
       let own = goal_placed_by model constraints run_of goal (AddsFor goal.template) (of_trials goal.template) plan left in
       let others = goals_add rest at.plan at.left in
       let last = goals_placed model constraints run_of rest at.plan at.left in record {
-        adds = adds_then plan at.plan last.plan at.placed (concat last.placed) own.adds others.adds;
+        adds = adds_then plan at.plan last.plan at.placed (placed_in last.parts) own.adds others.adds;
         rows = (
           record {
             front = plan.directives;

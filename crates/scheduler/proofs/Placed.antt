@@ -23,12 +23,15 @@ use Rattle.constraints.specs.declared.types.Constraint.{Constraint}
 use Rattle.goals.specs.declared.gap.Gap.{Gap}
 use Rattle.goals.specs.declared.types.Goal.{Goal}
 use Rattle.goals.specs.declared.types.Template.{Template}
+use Rattle.goals.specs.declared.unmet.Rejection.{Rejection}
 use Rattle.goals.specs.Goals.{first_gap, candidates_of, is_completed}
 use Rattle.span_table.specs.PlannedSpans.{IsOneOf, IsSpanOf, PlannedHaveSpans}
+use Rattle.scheduler.specs.declared.progress.GoalPart.{GoalPart}
 use Rattle.scheduler.specs.declared.scheduled.Schedule.{Schedule}
 use Rattle.scheduler.specs.FreshRuns.{fresh_run}
-use Rattle.scheduler.specs.Trials.{directive_with, made_with, is_accepted, verdict_if, verdict_on, found_by, first_accepted}
-use Rattle.scheduler.specs.Scheduling.{GoalPlaced, GoalsPlaced, with_found, found_for, after_gap, gaps_filled, all_filled, unless_open, ended, goal_placed, goals_placed, goal_status, statuses_on, trial_limit, schedule_of}
+use Rattle.scheduler.specs.Trials.{directive_with, made_with, verdict_by, verdict_on, found_by, first_accepted}
+use Rattle.scheduler.specs.Scheduling.{GoalPlaced, GoalsPlaced, with_found, with_trial, found_for, after_gap, gaps_filled, all_filled, unless_open, ended, goal_placed, goals_placed, goal_status, statuses_on, trial_limit, schedule_of}
+use Rattle.scheduler.specs.Unmet.{rejection_of}
 use Rattle.scheduler.specs.Told.{EachWith, IsTold, IsPlaced, AreAllPlaced, IsLikePlan}
 use Rattle.scheduler.proofs.MadePlans.{placed_there}
 
@@ -110,19 +113,19 @@ module _ (model : Parts) (constraints : List Constraint) (run_of : Plan → Run)
   made_at goal gap plan (time ∷ rest) (suc left) next e =
       by (made_with plan goal.template time) refl e (λ fewer. made_at goal gap plan rest fewer next)
     where
-      judged : (one : Plan) (yes : Bool) → made_with plan goal.template time ≡ Some one →
-          (found_by model constraints run_of (verdict_if model constraints run_of yes one) (first_accepted model constraints run_of goal gap plan rest) left).plan ≡ Some next →
+      judged : (one : Plan) (against : Option Rejection) → made_with plan goal.template time ≡ Some one →
+          (found_by model constraints run_of (verdict_by model constraints run_of against one) (first_accepted model constraints run_of goal gap plan rest) left).plan ≡ Some next →
           ((fewer : ℕ) → (first_accepted model constraints run_of goal gap plan rest fewer).plan ≡ Some next → (time : ℕ) × (made_with plan goal.template time ≡ Some next)) →
           (time : ℕ) × (made_with plan goal.template time ≡ Some next)
-      judged one true is e further = (time, is ∙ e)
-      judged one false is e further = further left e
+      judged one None is e further = (time, is ∙ e)
+      judged one (Some rejection) is e further = further left e
 
       by : (made : Option Plan) → made_with plan goal.template time ≡ made →
           (found_by model constraints run_of (verdict_on model constraints run_of goal gap made) (first_accepted model constraints run_of goal gap plan rest) left).plan ≡ Some next →
           ((fewer : ℕ) → (first_accepted model constraints run_of goal gap plan rest fewer).plan ≡ Some next → (time : ℕ) × (made_with plan goal.template time ≡ Some next)) →
           (time : ℕ) × (made_with plan goal.template time ≡ Some next)
       by None is e further = further (suc left) e
-      by (Some one) is e further = judged one (is_accepted model constraints goal gap (run_of one)) is e further
+      by (Some one) is e further = judged one (rejection_of model constraints goal gap (run_of one)) is e further
 
   -- ---- one goal
 
@@ -133,7 +136,7 @@ module _ (model : Parts) (constraints : List Constraint) (run_of : Plan → Run)
     pub has : EachOf (IsIn at.plan goal.template) at.placed
 
   placed_more : (goal : Goal) (before : Plan) (at : GoalPlaced) (next : Plan) (left time : ℕ) → HasPlaced goal before at → made_with at.plan goal.template time ≡ Some next →
-      HasPlaced goal before (record { plan = next; placed = at.placed ++ at.plan.next_id ∷ []; left = left })
+      HasPlaced goal before (with_trial model constraints run_of at next left)
   placed_more goal before at next left time has e = record {
     grows = λ directive among. made_grows at.plan next goal.template time e directive (has.grows directive among);
     like = like_made before at.plan next goal.template time e has.like;
@@ -146,20 +149,20 @@ module _ (model : Parts) (constraints : List Constraint) (run_of : Plan → Run)
   filled_has zero goal before at has = has
   filled_has (suc gaps) goal before at has = by (first_gap model goal (run_of at.plan)) (λ next. filled_has gaps goal before next)
     where
-      found : (plan : Option Plan) (left : ℕ) → ((next : Plan) → plan ≡ Some next → (time : ℕ) × (made_with at.plan goal.template time ≡ Some next)) →
+      found : (gap : Gap) (plan : Option Plan) (last : Option Rejection) (left : ℕ) → ((next : Plan) → plan ≡ Some next → (time : ℕ) × (made_with at.plan goal.template time ≡ Some next)) →
           ((next : GoalPlaced) → HasPlaced goal before next → HasPlaced goal before (gaps_filled model constraints run_of gaps goal next)) →
-          HasPlaced goal before (with_found model constraints run_of (gaps_filled model constraints run_of gaps goal) at plan left)
-      found None left made further = record { grows = has.grows; like = has.like; has = has.has }
-      found (Some next) left made further =
+          HasPlaced goal before (with_found model constraints run_of (gaps_filled model constraints run_of gaps goal) at gap plan last left)
+      found gap None last left made further = record { grows = has.grows; like = has.like; has = has.has }
+      found gap (Some next) last left made further =
           let trial = made next refl in
-          further (record { plan = next; placed = at.placed ++ at.plan.next_id ∷ []; left = left }) (placed_more goal before at next left trial.0 has trial.1)
+          further (with_trial model constraints run_of at next left) (placed_more goal before at next left trial.0 has trial.1)
 
       by : (gap : Option Gap) → ((next : GoalPlaced) → HasPlaced goal before next → HasPlaced goal before (gaps_filled model constraints run_of gaps goal next)) →
           HasPlaced goal before (after_gap model constraints run_of (gaps_filled model constraints run_of gaps goal) goal at gap)
       by None further = has
       by (Some gap) further =
           let search = found_for model constraints run_of goal at gap in
-          found search.plan search.left (λ next. made_at goal gap at.plan (candidates_of model goal (run_of at.plan) gap) at.left next) further
+          found gap search.plan search.last search.left (λ next. made_at goal gap at.plan (candidates_of model goal (run_of at.plan) gap) at.left next) further
 
   ended_has : (goal : Goal) (before : Plan) (at : GoalPlaced) → HasPlaced goal before at → HasPlaced goal before (ended model constraints run_of goal before at)
   ended_has goal before at has = by goal.rollback (first_gap model goal (run_of at.plan))
@@ -171,18 +174,18 @@ module _ (model : Parts) (constraints : List Constraint) (run_of : Plan → Run)
 
   goal_has : (goal : Goal) (plan : Plan) (left : ℕ) → HasPlaced goal plan (goal_placed model constraints run_of goal plan left)
   goal_has goal plan left =
-      ended_has goal plan (all_filled model constraints run_of goal (record { plan = plan; placed = []; left = left }))
-      (filled_has (suc left) goal plan (record { plan = plan; placed = []; left = left }) (record { grows = λ directive among. among; like = record { model = refl; duration = refl }; has = tt }))
+      ended_has goal plan (all_filled model constraints run_of goal (record { plan = plan; placed = []; open_gap = None; left = left }))
+      (filled_has (suc left) goal plan (record { plan = plan; placed = []; open_gap = None; left = left }) (record { grows = λ directive among. among; like = record { model = refl; duration = refl }; has = tt }))
 
   -- ---- all goals
 
-  abbrev AllIn : Plan → Goal → List ℕ → Type 0
-  AllIn plan goal ids = EachOf (IsIn plan goal.template) ids
+  abbrev AllIn : Plan → Goal → GoalPart → Type 0
+  AllIn plan goal part = EachOf (IsIn plan goal.template) part.placed
 
   pub record HaveAll (goals : List Goal) (before : Plan) (all : GoalsPlaced) : Type 0 where
     pub grows : Grows before all.plan
     pub like : IsLikePlan before all.plan
-    pub each : EachWith (AllIn all.plan) goals all.placed
+    pub each : EachWith (AllIn all.plan) goals all.parts
 
   pub goals_have : (goals : List Goal) (plan : Plan) (left : ℕ) → HaveAll goals plan (goals_placed model constraints run_of goals plan left)
   goals_have [] plan left = record { grows = λ directive among. among; like = record { model = refl; duration = refl }; each = tt }
@@ -232,8 +235,8 @@ module _ (spans : PlannedHaveSpans) (model : Parts) (bound : ℕ) (plan : Plan) 
 
 -- ---- what the statuses tell
 
-told_one : (model : Parts) (run : Run) (goal : Goal) (placed : List ℕ) → IsTold model run goal (goal_status model run goal placed)
-told_one model run goal placed = record { name = refl; met = met run.outcome refl; unmet = unmet run.outcome refl }
+told_one : (model : Parts) (run : Run) (goal : Goal) (part : GoalPart) → IsTold model run goal (goal_status model run goal part)
+told_one model run goal part = record { name = refl; met = met run.outcome refl; unmet = unmet run.outcome refl }
   where
     no_gap : (gap : Option Gap) → is_none gap ≡ true → gap ≡ None
     no_gap None e = refl
@@ -258,21 +261,21 @@ told_one model run goal placed = record { name = refl; met = met run.outcome ref
     unmet (Failed time who fault) o e = inl (other (Failed time who fault) o refl)
     unmet (StepLimit time) o e = inl (other (StepLimit time) o refl)
 
-pub all_told : (model : Parts) (run : Run) (P : Goal → List ℕ → Type 0) (goals : List Goal) (placed : List (List ℕ)) → EachWith P goals placed →
-    EachWith (IsTold model run) goals (statuses_on model run goals placed)
+pub all_told : (model : Parts) (run : Run) (P : Goal → GoalPart → Type 0) (goals : List Goal) (parts : List GoalPart) → EachWith P goals parts →
+    EachWith (IsTold model run) goals (statuses_on model run goals parts)
 all_told model run P [] [] each = tt
-all_told model run P [] (ids ∷ others) each = absurd each
+all_told model run P [] (part ∷ others) each = absurd each
 all_told model run P (goal ∷ rest) [] each = absurd each
-all_told model run P (goal ∷ rest) (ids ∷ others) each = (told_one model run goal ids, all_told model run P rest others each.1)
+all_told model run P (goal ∷ rest) (part ∷ others) each = (told_one model run goal part, all_told model run P rest others each.1)
 
 pub all_placed : (model : Parts) (plan : Plan) (run : Run) → (run.outcome ≡ Completed → (template : Template) (id : ℕ) → IsIn plan template id → IsPlaced model plan run template id) →
-    (goals : List Goal) (placed : List (List ℕ)) → EachWith (λ goal ids. EachOf (IsIn plan goal.template) ids) goals placed →
-    EachWith (AreAllPlaced model plan run) goals (statuses_on model run goals placed)
+    (goals : List Goal) (parts : List GoalPart) → EachWith (λ goal part. EachOf (IsIn plan goal.template) part.placed) goals parts →
+    EachWith (AreAllPlaced model plan run) goals (statuses_on model run goals parts)
 all_placed model plan run gives [] [] each = tt
-all_placed model plan run gives [] (ids ∷ others) each = absurd each
+all_placed model plan run gives [] (part ∷ others) each = absurd each
 all_placed model plan run gives (goal ∷ rest) [] each = absurd each
-all_placed model plan run gives (goal ∷ rest) (ids ∷ others) each = (
-  (λ completed. each_weaker (IsIn plan goal.template) (IsPlaced model plan run goal.template) (gives completed goal.template) ids each.0),
+all_placed model plan run gives (goal ∷ rest) (part ∷ others) each = (
+  (λ completed. each_weaker (IsIn plan goal.template) (IsPlaced model plan run goal.template) (gives completed goal.template) part.placed each.0),
   all_placed model plan run gives rest others each.1,
 )
 
@@ -290,7 +293,7 @@ module _ (model : Parts) (bound : ℕ) (constraints : List Constraint) (goals : 
   unfolding schedule_of
   schedule_told =
       let all = goals_placed model constraints (fresh_run model bound) goals plan trial_limit in
-      all_told model (fresh_run model bound all.plan) (AllIn model constraints (fresh_run model bound) all.plan) goals all.placed
+      all_told model (fresh_run model bound all.plan) (AllIn model constraints (fresh_run model bound) all.plan) goals all.parts
       (goals_have model constraints (fresh_run model bound) goals plan trial_limit).each
 
   pub schedule_placed : ((template : Template) (id : ℕ) → (fresh_run model bound made.plan).outcome ≡ Completed → IsIn made.plan template id →
@@ -299,5 +302,5 @@ module _ (model : Parts) (bound : ℕ) (constraints : List Constraint) (goals : 
   unfolding schedule_of
   schedule_placed gives =
       let all = goals_placed model constraints (fresh_run model bound) goals plan trial_limit in
-      all_placed model all.plan (fresh_run model bound all.plan) (λ completed template id is. gives template id completed is) goals all.placed
+      all_placed model all.plan (fresh_run model bound all.plan) (λ completed template id is. gives template id completed is) goals all.parts
       (goals_have model constraints (fresh_run model bound) goals plan trial_limit).each

@@ -7,9 +7,10 @@ use Rattle.constraints.specs.declared.types.Constraint.{Constraint}
 use Rattle.goals.specs.declared.gap.Gap.{Gap}
 use Rattle.goals.specs.declared.types.Goal.{Goal}
 use Rattle.goals.specs.declared.types.Template.{Template}
+use Rattle.goals.specs.declared.unmet.Rejection.{Rejection}
 use Rattle.goals.specs.Goals.{first_gap, candidates_of}
 use Rattle.scheduler.specs.Trials.{made_with}
-use Rattle.scheduler.specs.Scheduling.{GoalPlaced, with_found, found_for, after_gap, gaps_filled, all_filled, unless_open, ended, goal_placed}
+use Rattle.scheduler.specs.Scheduling.{GoalPlaced, with_found, with_trial, found_for, after_gap, gaps_filled, all_filled, unless_open, ended, goal_placed}
 use Rattle.scheduler.proofs.Placed.{made_at}
 
 -- of a plan, the plan that is made of it, and the ids that were placed on the way
@@ -29,13 +30,13 @@ module _ (model : Parts) (constraints : List Constraint) (run_of : Plan → Run)
       again : GoalPlaced → GoalPlaced
       again = gaps_filled model constraints run_of gaps goal
 
-      found : (plan : Option Plan) (left : ℕ) → ((next : Plan) → plan ≡ Some next → (time : ℕ) × (made_with at.plan goal.template time ≡ Some next)) →
+      found : (gap : Gap) (plan : Option Plan) (last : Option Rejection) (left : ℕ) → ((next : Plan) → plan ≡ Some next → (time : ℕ) × (made_with at.plan goal.template time ≡ Some next)) →
           ((next : GoalPlaced) → R before next.plan next.placed → R before (again next).plan (again next).placed) →
-          R before (with_found model constraints run_of again at plan left).plan (with_found model constraints run_of again at plan left).placed
-      found None left made further = is
-      found (Some next) left made further =
+          R before (with_found model constraints run_of again at gap plan last left).plan (with_found model constraints run_of again at gap plan last left).placed
+      found gap None last left made further = is
+      found gap (Some next) last left made further =
           let trial = made next refl in
-          further (record { plan = next; placed = at.placed ++ at.plan.next_id ∷ []; left = left })
+          further (with_trial model constraints run_of at next left)
           (of.more before at.plan next at.placed trial.0 trial.1 is)
 
       by : (gap : Option Gap) → ((next : GoalPlaced) → R before next.plan next.placed → R before (again next).plan (again next).placed) →
@@ -43,7 +44,7 @@ module _ (model : Parts) (constraints : List Constraint) (run_of : Plan → Run)
       by None further = is
       by (Some gap) further =
           let search = found_for model constraints run_of goal at gap in
-          found search.plan search.left (λ next. made_at model constraints run_of goal gap at.plan (candidates_of model goal (run_of at.plan) gap) at.left next) further
+          found gap search.plan search.last search.left (λ next. made_at model constraints run_of goal gap at.plan (candidates_of model goal (run_of at.plan) gap) at.left next) further
 
   ended_by : (before : Plan) (at : GoalPlaced) → R before at.plan at.placed →
       R before (ended model constraints run_of goal before at).plan (ended model constraints run_of goal before at).placed
@@ -58,5 +59,5 @@ module _ (model : Parts) (constraints : List Constraint) (run_of : Plan → Run)
   pub goal_placed_by : (plan : Plan) (left : ℕ) →
       R plan (goal_placed model constraints run_of goal plan left).plan (goal_placed model constraints run_of goal plan left).placed
   goal_placed_by plan left =
-      ended_by plan (all_filled model constraints run_of goal (record { plan = plan; placed = []; left = left }))
-      (filled_by (suc left) plan (record { plan = plan; placed = []; left = left }) (of.none plan))
+      ended_by plan (all_filled model constraints run_of goal (record { plan = plan; placed = []; open_gap = None; left = left }))
+      (filled_by (suc left) plan (record { plan = plan; placed = []; open_gap = None; left = left }) (of.none plan))

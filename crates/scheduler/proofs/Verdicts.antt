@@ -23,5 +23,5 @@ module _ (model : Parts) (constraints : List Constraint) (run_of : Plan → Run)
           ((fewer : ℕ) → (found_in rest fewer).plan ≡ Some found → (found_in rest fewer).left < fewer) →
           (found_by model constraints run_of verdict (found_in rest) left).left < suc left
       by refused e others = others (suc left) e
-      by rejected e others = let less = others left e in omega (arith, less)
+      by (rejected rejection) e others = let less = others left e in omega (arith, less)
       by (accepted plan) e others = omega arith

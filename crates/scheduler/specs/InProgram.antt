@@ -8,9 +8,11 @@ use Rattle.run_data.specs.KeptRuns.{KeptRun}
 use Rattle.constraints.specs.OfModel.{is_constraint}
 use Rattle.goals.specs.declared.gap.Gap.{Gap}
 use Rattle.goals.specs.declared.types.Goal.{Goal}
+use Rattle.goals.specs.declared.unmet.Rejection.{Rejection}
 use Rattle.goals.specs.Goals.{first_gap}
 use Rattle.goals.specs.OfModel.{is_goal}
 use Rattle.scheduler.specs.declared.placing.Placing as held
+use Rattle.scheduler.specs.declared.progress.GoalPart.{GoalPart}
 use Rattle.scheduler.specs.declared.progress.GoalProgress.{GoalProgress}
 use Rattle.scheduler.specs.declared.requests.GoalRequest.{GoalRequest}
 use Rattle.scheduler.specs.declared.requests.ScheduleRequest.{ScheduleRequest}
@@ -55,19 +57,19 @@ abbrev pub first_accepted_for : ℕ → GoalRequest → Gap → Plan → List �
 first_accepted_for bound request gap plan times left =
     first_accepted request.model.now request.constraints.now (fresh_run request.model.now bound) request.goal.now gap plan times left
 
--- what the program has of a verdict: the run of an accepted plan
+-- what the program has of a verdict: why a trial is rejected, the run of an accepted plan
 abbrev pub trial_of : (Plan → KeptRun) → Verdict → Trial
 trial_of run_of refused = trial.Refused
-trial_of run_of rejected = trial.Rejected
+trial_of run_of (rejected rejection) = trial.Rejected rejection
 trial_of run_of (accepted plan) = trial.Accepted (run_of plan)
 
 abbrev pub searched_of : (Plan → KeptRun) → Found → Search
-searched_of run_of found = record { kept = option_map run_of found.plan; left = found.left }
+searched_of run_of found = record { kept = option_map run_of found.plan; last = found.last; left = found.left }
 
 -- ---- one goal
 
 abbrev pub shown : held.Placing → GoalPlaced
-shown placing = record { plan = placing.kept.run.plan; placed = placing.placed; left = placing.left }
+shown placing = record { plan = placing.kept.run.plan; placed = placing.placed; open_gap = placing.open_gap; left = placing.left }
 
 abbrev pub search_for : ℕ → GoalRequest → held.Placing → Gap → Found
 search_for bound request placing gap =
@@ -75,15 +77,20 @@ search_for bound request placing gap =
 
 abbrev pub placed_with : held.Placing → KeptRun → ℕ → held.Placing
 placed_with placing kept left =
-    record { kept = kept; placed = placing.placed ++ placing.kept.run.plan.next_id ∷ []; left = left; goes_on = true }
+    record { kept = kept; placed = placing.placed ++ placing.kept.run.plan.next_id ∷ []; open_gap = None; left = left; goes_on = true }
 
-abbrev pub placed_by : held.Placing → Option KeptRun → ℕ → held.Placing
-placed_by placing (Some kept) left = placed_with placing kept left
-placed_by placing None left = record placing { left = left; goes_on = false }
+-- the goal ends, and the gap stays open
+abbrev pub placed_open : held.Placing → Gap → Option Rejection → ℕ → held.Placing
+placed_open placing gap last left =
+    record placing { open_gap = Some (record { gap = gap; tried = placing.left - left; last = last }); left = left; goes_on = false }
 
--- the goal goes on, or ends, by what was found
-abbrev pub placed_after : held.Placing → Search → held.Placing
-placed_after placing search = placed_by placing search.kept search.left
+abbrev pub placed_by : held.Placing → Gap → Option KeptRun → Option Rejection → ℕ → held.Placing
+placed_by placing gap (Some kept) last left = placed_with placing kept left
+placed_by placing gap None last left = placed_open placing gap last left
+
+-- the goal goes on, or ends, by what was found for its gap
+abbrev pub placed_after : held.Placing → Gap → Search → held.Placing
+placed_after placing gap search = placed_by placing gap search.kept search.last search.left
 
 abbrev pub filled_if : ℕ → GoalRequest → GoalPlaced → Bool → GoalPlaced
 filled_if bound request at true = all_filled request.model.now request.constraints.now (fresh_run request.model.now bound) request.goal.now at
@@ -117,24 +124,24 @@ IsEither kept one other = (kept ≡ one) ⊎ (kept ≡ other)
 -- ---- all goals
 
 abbrev pub all_shown : GoalProgress → GoalsPlaced
-all_shown progress = record { plan = progress.kept.run.plan; placed = progress.placed; left = progress.left }
+all_shown progress = record { plan = progress.kept.run.plan; parts = progress.parts; left = progress.left }
 
 abbrev pub with_goal : GoalsPlaced → GoalPlaced → GoalsPlaced
-with_goal all at = record { plan = at.plan; placed = all.placed ++ at.placed ∷ []; left = at.left }
+with_goal all at = record { plan = at.plan; parts = all.parts ++ record { placed = at.placed; open_gap = at.open_gap } ∷ []; left = at.left }
 
 -- what was placed for a goal, behind what was placed before
 abbrev pub next_placed : ℕ → GoalRequest → GoalProgress → GoalsPlaced
 next_placed bound request progress =
     with_goal (all_shown progress) (goal_placed_for bound request progress.kept.run.plan progress.left)
 
-abbrev pub placed_behind : List (List ℕ) → GoalsPlaced → GoalsPlaced
-placed_behind front rest = record rest { placed = front ++ rest.placed }
+abbrev pub placed_behind : List GoalPart → GoalsPlaced → GoalsPlaced
+placed_behind front rest = record rest { parts = front ++ rest.parts }
 
 -- the schedule, once all goals are placed
 abbrev pub schedule_after : Parts → List Goal → GoalProgress → Schedule
 schedule_after model goals progress = record {
   plan = progress.kept.run.plan;
-  goals = statuses_on model progress.kept.run goals progress.placed;
+  goals = statuses_on model progress.kept.run goals progress.parts;
   trials = trial_limit - progress.left;
 }
 

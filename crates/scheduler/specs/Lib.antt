@@ -10,3 +10,4 @@ pub mod Scheduling
 pub mod InProgram
 pub mod Told
 pub mod Trials
+pub mod Unmet

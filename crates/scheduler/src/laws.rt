@@ -2,7 +2,7 @@
 
 ghost use Rattle.scheduler.specs.ClientAdds.{TrialIsClientAdd};
 ghost use Rattle.scheduler.specs.OnlyAdds.{SchedulesOnlyAdd};
-ghost use Rattle.scheduler.specs.ScheduleLaws.{FreshRunIs, PlanOfRunIs, TrialIsAdd};
+ghost use Rattle.scheduler.specs.ScheduleLaws.{AcceptedUnlessRejected, FreshRunIs, PlanOfRunIs, TrialIsAdd};
 
 use run_data::laws::{fresh_runs, simulation_ends};
 
@@ -20,6 +20,12 @@ pub fn fresh_runs_are_given()
 pub fn trials_are_adds()
     ensures given { TrialIsAdd }
     ensures client { TrialIsClientAdd }
+{}
+
+/// A trial is accepted, as its run completes, fills the gap and keeps the goal's constraints, exactly where no reason is told for
+/// which it is rejected.
+pub fn trials_are_accepted_unless_rejected()
+    ensures { AcceptedUnlessRejected }
 {}
 
 /// A schedule only adds to its plan, whatever the plan, the goals and the constraints are.

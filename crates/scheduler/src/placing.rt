@@ -4,14 +4,14 @@ ghost use Rattle.std.specs.Prelude.{◌≡◌, ◌<◌, Some, true, false, IfOk}
 ghost use Rattle.goals.specs.Goals.{first_gap};
 ghost use Rattle.scheduler.specs.FreshRuns.{kept_run};
 ghost use Rattle.scheduler.specs.Running.{OnlyRanPlans};
-ghost use Rattle.scheduler.specs.InProgram.{IsEither, IsKeptOf, IsRequest, IsRequestTo, goal_ended, goal_filled, goal_placed_for, placed_after, placed_with, search_for, searched_of, shown, most_gaps_left};
+ghost use Rattle.scheduler.specs.InProgram.{IsEither, IsKeptOf, IsRequest, IsRequestTo, goal_ended, goal_filled, goal_placed_for, placed_after, placed_open, placed_with, search_for, searched_of, shown, most_gaps_left};
 
 use crate::laws::fresh_runs_are_given;
 use crate::requests::GoalRequest;
 use crate::runs_with_spans::RunWithSpans;
 use crate::searching::{Search, first_accepted};
 use aerie_base::{List, OutOfMemory, Steps};
-use goals::{Gap, candidates, missing};
+use goals::{Gap, OpenGap, Rejection, candidates, missing};
 use run_data::Simulator;
 use std::alloc::Global;
 use std::sync::ledger::Ledger;
@@ -23,6 +23,8 @@ pub(crate) struct Placing {
     pub(crate) kept: RunWithSpans,
     /// The ids that were placed for the goal, in order.
     pub(crate) placed: List<u32>,
+    /// The gap that the goal leaves open, once it ends with one.
+    pub(crate) open_gap: Option<OpenGap>,
     /// How many trials are left.
     pub(crate) left: u32,
     /// Whether a gap is to be looked for.
@@ -30,13 +32,32 @@ pub(crate) struct Placing {
 }
 
 impl Placing {
-    /// The goal ends here, with so many trials left.
-    fn closed(self, left: u32) -> Placing
-        ensures { result ≡ record self { left = left; goes_on = false } }
+    /// The goal ends here.
+    fn closed(self) -> Placing
+        ensures { result ≡ record self { goes_on = false } }
     {
         Placing {
             kept: self.kept,
             placed: self.placed,
+            open_gap: self.open_gap,
+            left: self.left,
+            goes_on: false,
+        }
+    }
+
+    /// The goal ends here with the gap open, for which the last trial was rejected so, and with so many trials left.
+    fn open(self, gap: &Gap, last: Option<Rejection>, left: u32) -> Placing
+        ensures { result ≡ placed_open self gap.now last left }
+    {
+        let open_gap = OpenGap {
+            gap: *gap,
+            tried: self.left.saturating_sub(left),
+            last,
+        };
+        Placing {
+            kept: self.kept,
+            placed: self.placed,
+            open_gap: Some(open_gap),
             left,
             goes_on: false,
         }
@@ -55,19 +76,20 @@ impl Placing {
         Ok(Placing {
             kept,
             placed,
+            open_gap: None,
             left,
             goes_on: true,
         })
     }
 
     /// The goal goes on, or ends, by what was found for its gap.
-    fn after(self, found: Search) -> Result<Placing, OutOfMemory>
-        ensures { IfOk result (λ made. made ≡ placed_after self found) }
+    fn after(self, gap: &Gap, found: Search) -> Result<Placing, OutOfMemory>
+        ensures { IfOk result (λ made. made ≡ placed_after self gap.now found) }
     {
-        let Search { kept, left } = found;
+        let Search { kept, last, left } = found;
         match kept {
             Some(kept) => self.with(kept, left),
-            None => Ok(self.closed(left)),
+            None => Ok(self.open(gap, last, left)),
         }
     }
 }
@@ -150,13 +172,10 @@ fn fill_gap<M: Simulator, L: Ledger, K: Ledger>(
     match found {
         Some(gap) => {
             let found = search(alloc, request, &gap, &placing, simulator, steps, looks)?;
-            let made = placing.after(found)?;
+            let made = placing.after(&gap, found)?;
             Ok(made)
         }
-        None => {
-            let left = placing.left;
-            Ok(placing.closed(left))
-        }
+        None => Ok(placing.closed()),
     }
 }
 
@@ -208,6 +227,7 @@ fn ended(
     Ok(Placing {
         kept: before,
         placed: nothing,
+        open_gap: placing.open_gap,
         left: placing.left,
         goes_on: false,
     })
@@ -236,6 +256,7 @@ pub(crate) fn place_goal<M: Simulator, L: Ledger, K: Ledger>(
     let placing = Placing {
         kept,
         placed: List::new(alloc),
+        open_gap: None,
         left,
         goes_on: true,
     };

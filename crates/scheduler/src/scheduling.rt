@@ -47,13 +47,13 @@ fn finished(
 ) -> Result<Schedule, OutOfMemory>
     requires model { progress.now.kept.model ≡ model.now }
     requires goals { IsTrue (list_all (is_goal model.now) goals.now) }
-    requires each { length progress.now.placed ≡ length goals.now }
+    requires each { length progress.now.parts ≡ length goals.now }
     ensures { IfOk result (λ made. made ≡ schedule_after model.now goals.now progress.now) }
 {
     let kept = &progress.kept;
     let plan = copy_plan(alloc, kept.run().plan.get())?;
-    let placed = progress.placed.as_slice();
-    let statuses = statuses(alloc, model, goals, kept.run(), kept.spans(), placed)?;
+    let parts = progress.parts.as_slice();
+    let statuses = statuses(alloc, model, goals, kept.run(), kept.spans(), parts)?;
     Ok(Schedule {
         plan,
         goals: statuses,

@@ -10,7 +10,7 @@ use crate::requests::GoalRequest;
 use crate::runs_with_spans::RunWithSpans;
 use crate::trials::{Trial, tried};
 use aerie_base::{OutOfMemory, Plan, Steps, Time};
-use goals::Gap;
+use goals::{Gap, Rejection};
 use run_data::Simulator;
 use std::alloc::Global;
 use std::sync::ledger::Ledger;
@@ -20,6 +20,8 @@ use std::sync::ledger::Ledger;
 pub(crate) struct Search {
     /// The run of the plan with the first accepted trial, if there is one.
     pub(crate) kept: Option<RunWithSpans>,
+    /// Why the last rejected trial was rejected, if one was.
+    pub(crate) last: Option<Rejection>,
     /// How many trials are left.
     pub(crate) left: u32,
 }
@@ -47,20 +49,29 @@ pub(crate) fn first_accepted<M: Simulator, L: Ledger, K: Ledger>(
         (simulator.new, steps.new, looks.new) }
 {
     let mut left = left;
+    let mut last = None;
     for time in times {
         if left == 0 {
             break;
         }
         match tried(alloc, request, gap, plan, *time, simulator, steps, looks)? {
             Trial::Refused => {}
-            Trial::Rejected => left -= 1,
+            Trial::Rejected(rejection) => {
+                left -= 1;
+                last = Some(rejection);
+            }
             Trial::Accepted(kept) => {
                 return Ok(Search {
                     kept: Some(kept),
+                    last,
                     left: left - 1,
                 });
             }
         }
     }
-    Ok(Search { kept: None, left })
+    Ok(Search {
+        kept: None,
+        last,
+        left,
+    })
 }

@@ -2,6 +2,7 @@
 
 ghost use Rattle.std.specs.Prelude.{◌≡◌, IsTrue, IfOk, IfSome};
 ghost use Rattle.std.specs.List.{list_all};
+ghost use Rattle.aerie_base.specs.TimeOrder.{earlier};
 ghost use Rattle.aerie_base.specs.plans.OfModel.{IsPlanOf};
 ghost use Rattle.run_data.specs.Fresh.{IsFresh};
 ghost use Rattle.constraints.specs.OfModel.{is_constraint};
@@ -10,13 +11,14 @@ ghost use Rattle.plan_edit.specs.Editing.{is_full as is_full_plan, is_outside as
 ghost use Rattle.scheduler.specs.FreshRuns.{kept_run};
 ghost use Rattle.scheduler.specs.Running.{OnlyRanPlans};
 ghost use Rattle.scheduler.specs.InProgram.{IsKeptOf, IsRequest, IsRequestTo, trial_of, verdict_for};
-ghost use Rattle.scheduler.specs.Trials.{is_accepted as accepts, is_kept as is_kept_by, is_kept_well as is_kept_well_by, directive_with, keeps as keeps_all, made_with};
+ghost use Rattle.scheduler.specs.Trials.{directive_with, made_with};
+ghost use Rattle.scheduler.specs.Unmet.{first_begin as begin_of, first_violated as first_violated_of, first_violation as first_violation_of, is_kept as is_kept_by, rejection_of, violated_at as violated_at_by};
 
 use crate::requests::GoalRequest;
 use crate::runs_with_spans::RunWithSpans;
 use aerie_base::{Directive, Model, OutOfMemory, Plan, Shared, Steps, Time, copy_list};
-use constraints::{Constraint, violations};
-use goals::{Gap, Goal, Template, is_filled};
+use constraints::{Constraint, Violation, violations};
+use goals::{Gap, Goal, Rejection, Template, is_filled};
 use plan_edit::copy_plan;
 use run_data::laws::simulation_ends;
 use run_data::{Run, Simulator};
@@ -29,8 +31,8 @@ use std::sync::ledger::Ledger;
 pub(crate) enum Trial {
     /// The directive may not be added there. This counts as no trial.
     Refused,
-    /// The run is not as the goal wants it.
-    Rejected,
+    /// The run is not as the goal wants it, for this reason.
+    Rejected(Rejection),
     /// The run is as the goal wants it.
     Accepted(RunWithSpans),
 }
@@ -121,68 +123,100 @@ fn is_kept(goal: &Goal, constraint: &Constraint) -> bool
     false
 }
 
-/// Whether the constraint is not violated, where the goal names it.
-fn is_kept_well(
+/// Where the first of the violation's intervals begins.
+fn first_begin(violation: &Violation) -> Option<Time>
+    ensures { result ≡ begin_of violation.now.intervals.intervals }
+{
+    let first = violation.intervals.intervals().first()?;
+    Some(first.0)
+}
+
+/// The earlier of two times, of which each may be none.
+fn earlier_of(time: Option<Time>, other: Option<Time>) -> Option<Time>
+    ensures { result ≡ earlier time other }
+{
+    match (time, other) {
+        (Some(time), Some(other)) => Some(time.earlier(other)),
+        (Some(time), None) => Some(time),
+        (None, other) => other,
+    }
+}
+
+/// The first time of all violations.
+fn first_violation(violations: &[Violation]) -> Option<Time>
+    ensures { result ≡ first_violation_of violations.now }
+{
+    let mut first = None;
+    for violation in violations {
+        first = earlier_of(first, first_begin(violation));
+    }
+    first
+}
+
+/// When the run violates the constraint first, where the goal names it.
+fn violated_at(
     alloc: Global,
     model: &Model,
     goal: &Goal,
     run: &Run,
     spans: &[Span],
     constraint: &Constraint,
-) -> Result<bool, OutOfMemory>
+) -> Result<Option<Time>, OutOfMemory>
     requires fresh { IsFresh model.now run.now.plan run.now.bound run.now }
     requires spans { AreSpansOf model.now run.now spans.now }
     requires constraint { IsTrue (is_constraint model.now constraint.now) }
-    ensures { IfOk result (λ well. well ≡ is_kept_well_by model.now goal.now run.now constraint.now) }
+    ensures { IfOk result (λ time. time ≡ violated_at_by model.now goal.now run.now constraint.now) }
 {
     if !is_kept(goal, constraint) {
-        return Ok(true);
+        return Ok(None);
     }
     let found = violations(alloc, model, run, spans, constraint)?;
-    Ok(found.is_empty())
+    Ok(first_violation(found.as_slice()))
 }
 
-/// Whether the run violates none of the constraints that the goal names after `keeping`.
-fn keeps(
+/// The first constraint that the goal names after `keeping` and the run violates, with the first time of its violation.
+fn first_violated(
     alloc: Global,
     model: &Model,
     constraints: &[Constraint],
     goal: &Goal,
     run: &Run,
     spans: &[Span],
-) -> Result<bool, OutOfMemory>
+) -> Result<Option<Rejection>, OutOfMemory>
     requires fresh { IsFresh model.now run.now.plan run.now.bound run.now }
     requires spans { AreSpansOf model.now run.now spans.now }
     requires constraints { IsTrue (list_all (is_constraint model.now) constraints.now) }
-    ensures { IfOk result (λ kept. kept ≡ keeps_all model.now constraints.now goal.now run.now) }
+    ensures { IfOk result (λ why. why ≡ first_violated_of model.now goal.now run.now constraints.now) }
 {
     for constraint in constraints {
-        if !is_kept_well(alloc, model, goal, run, spans, constraint)? {
-            return Ok(false);
+        if let Some(time) = violated_at(alloc, model, goal, run, spans, constraint)? {
+            let constraint = constraint.name.copy(alloc)?;
+            return Ok(Some(Rejection::Violates { constraint, time }));
         }
     }
-    Ok(true)
+    Ok(None)
 }
 
-/// Whether the trial with this run is accepted.
-fn is_accepted(
+/// Why the trial with this run is rejected; none where it is accepted.
+fn rejection(
     alloc: Global,
     request: &GoalRequest,
     gap: &Gap,
     run: &Run,
     spans: &[Span],
-) -> Result<bool, OutOfMemory>
+) -> Result<Option<Rejection>, OutOfMemory>
     requires request { IsRequest request.now }
     requires fresh { IsFresh request.now.model.now run.now.plan run.now.bound run.now }
     requires spans { AreSpansOf request.now.model.now run.now spans.now }
-    ensures { IfOk result (λ yes.
-        yes
-        ≡ accepts request.now.model.now request.now.constraints.now request.now.goal.now gap.now run.now) }
+    ensures { IfOk result (λ why.
+        why
+        ≡ rejection_of request.now.model.now request.now.constraints.now request.now.goal.now gap.now run.now) }
 {
     if !is_filled(alloc, request.model, request.goal, gap, run, spans)? {
-        return Ok(false);
+        let outcome = run.outcome.copy(alloc)?;
+        return Ok(Some(Rejection::Unfilled(outcome)));
     }
-    keeps(
+    first_violated(
         alloc,
         request.model,
         request.constraints,
@@ -240,8 +274,8 @@ pub(crate) fn tried<M: Simulator, L: Ledger, K: Ledger>(
     };
     let next = Shared::new(alloc, next)?;
     let kept = simulated(alloc, &next, simulator, steps, looks)?;
-    if is_accepted(alloc, request, gap, kept.run(), kept.spans())? {
-        return Ok(Trial::Accepted(kept));
+    match rejection(alloc, request, gap, kept.run(), kept.spans())? {
+        Some(rejection) => Ok(Trial::Rejected(rejection)),
+        None => Ok(Trial::Accepted(kept)),
     }
-    Ok(Trial::Rejected)
 }

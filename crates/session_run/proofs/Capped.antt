@@ -4,6 +4,7 @@ use Rattle.goals.specs.declared.status.GoalStatus.{GoalStatus}
 use Rattle.hangar_core.specs.declared.replies.Reply.{Reply}
 use Rattle.report_text.specs.declared.answers.Answer.{Answer}
 use Rattle.report_text.specs.declared.answers.Answer.TheVariants as answer
+use Rattle.report_text.specs.declared.answers.ScheduleReport.{ScheduleReport}
 use Rattle.run_data.specs.Waves.{last_count}
 use Rattle.run_data.specs.laws.Weights.{one_if}
 use Rattle.session_run.specs.declared.summary.Summary.{Summary}
@@ -66,10 +67,10 @@ one_alone : (b : Bool) → one_if b ≡ min (one_if b + 0) last_count
 one_alone true = refl
 one_alone false = refl
 
-pub schedule_counted : (revision trials placed : ℕ) (goals : List GoalStatus) (one : Summary) → placed ≡ min (placed_count goals) last_count → one ≡ counts_otherwise placed false →
-    one ≡ summary_of (answer.Schedule revision goals trials ∷ [])
-schedule_counted revision trials placed goals one is told =
-    told ∙ ap (λ (n : ℕ). counts_otherwise n false) (is ∙ alone (placed_count goals))
+pub schedule_counted : (report : ScheduleReport) (placed : ℕ) (goals : List GoalStatus) (one : Summary) → goals ≡ report.goals → placed ≡ min (placed_count goals) last_count →
+    one ≡ counts_otherwise placed false → one ≡ summary_of (answer.Schedule report ∷ [])
+schedule_counted report placed goals one listed is told =
+    told ∙ ap (λ (n : ℕ). counts_otherwise n false) (is ∙ ap (λ (l : List GoalStatus). min (placed_count l) last_count) listed ∙ alone (placed_count report.goals))
 
 pub reply_counted : (reply : Reply) (refused : Bool) (one : Summary) → refused ≡ is_refusal reply → one ≡ counts_otherwise 0 refused → one ≡ summary_of (answer.Reply reply ∷ [])
 reply_counted reply refused one is told =

@@ -1,6 +1,7 @@
 -- The constraints of each report that is told are of the model of its run.
 use Rattle.std.proofs.Common.{◌≡◌, IfOk, OnOk, ℕ, zero, suc, Bool, true, false, IsTrue, List, [], ◌∷◌, Option, None, Result, Ok, Err, if◌then◌else◌, slice_get, refl}
 use Rattle.std.specs.List.{AllByRecursion, list_all}
+use Rattle.aerie_base.specs.declared.models.model.Parts.{Parts}
 use Rattle.aerie_base.specs.declared.plans.Plan.{Plan}
 use Rattle.constraints.specs.OfModel.{is_constraint}
 use Rattle.goals.specs.declared.status.GoalStatus.{GoalStatus}
@@ -16,7 +17,7 @@ use Rattle.report_text.specs.declared.answers.Answer.TheVariants as answer
 use Rattle.session_run.specs.summary.Summaries.{HasItsConstraints}
 use Rattle.client_work.specs.declared.missions.Mission.{Mission}
 use Rattle.client_work.specs.declared.missions.RuledModel.{RuledModel}
-use Rattle.client_work.specs.Meanings.{are_of_one_model, ruled_or_nothing, scheduled}
+use Rattle.client_work.specs.Meanings.{are_of_one_model, ruled_by, ruled_or_nothing, scheduled}
 use Rattle.client_work.specs.Told.{by_fetched, command_told, count_told, merge_placed, merge_told, merged_or_refused, reply_to, report_of, schedule_told, sequence_told}
 use Rattle.client_work.specs.Working.{IsRuled}
 
@@ -48,23 +49,23 @@ fetched_has (reply.Misfit id number) told each = tt
 fetched_has (reply.Edit refusal) told each = tt
 fetched_has (reply.Stale seen now) told each = tt
 
-schedule_has : (goals : List GoalStatus) (trials : ℕ) (said : Reply) → HasItsConstraints (schedule_told goals trials said)
-schedule_has goals trials (reply.Placed revision) = tt
-schedule_has goals trials (reply.Fetched revision plan kept) = tt
-schedule_has goals trials (reply.Opened revision) = tt
-schedule_has goals trials reply.Dropped = tt
-schedule_has goals trials (reply.Added id revision) = tt
-schedule_has goals trials (reply.Edited revision) = tt
-schedule_has goals trials (reply.Loaded first count revision) = tt
-schedule_has goals trials reply.Attached = tt
-schedule_has goals trials reply.NoBranch = tt
-schedule_has goals trials reply.BranchExists = tt
-schedule_has goals trials reply.TooManyBranches = tt
-schedule_has goals trials reply.NoMapping = tt
-schedule_has goals trials (reply.Unmapped id) = tt
-schedule_has goals trials (reply.Misfit id number) = tt
-schedule_has goals trials (reply.Edit refusal) = tt
-schedule_has goals trials (reply.Stale seen now) = tt
+schedule_has : (mission : Mission) (model : Parts) (goals : List GoalStatus) (trials : ℕ) (said : Reply) → HasItsConstraints (schedule_told mission model goals trials said)
+schedule_has mission model goals trials (reply.Placed revision) = tt
+schedule_has mission model goals trials (reply.Fetched revision plan kept) = tt
+schedule_has mission model goals trials (reply.Opened revision) = tt
+schedule_has mission model goals trials reply.Dropped = tt
+schedule_has mission model goals trials (reply.Added id revision) = tt
+schedule_has mission model goals trials (reply.Edited revision) = tt
+schedule_has mission model goals trials (reply.Loaded first count revision) = tt
+schedule_has mission model goals trials reply.Attached = tt
+schedule_has mission model goals trials reply.NoBranch = tt
+schedule_has mission model goals trials reply.BranchExists = tt
+schedule_has mission model goals trials reply.TooManyBranches = tt
+schedule_has mission model goals trials reply.NoMapping = tt
+schedule_has mission model goals trials (reply.Unmapped id) = tt
+schedule_has mission model goals trials (reply.Misfit id number) = tt
+schedule_has mission model goals trials (reply.Edit refusal) = tt
+schedule_has mission model goals trials (reply.Stale seen now) = tt
 
 placed_has : (added : List ℕ) (said : Reply) → HasItsConstraints (merge_placed added said)
 placed_has added (reply.Placed revision) = tt
@@ -110,8 +111,8 @@ told_has mission ruled count (Simulate branch) replies =
     (λ revision plan. of_model mission.models plan.model ruled)
 told_has mission ruled count (Schedule branch) replies =
     fetched_has (reply_to replies 0)
-    (λ revision plan. schedule_told (scheduled mission.models mission.bound plan).goals (scheduled mission.models mission.bound plan).trials (reply_to replies 1))
-    (λ revision plan. schedule_has (scheduled mission.models mission.bound plan).goals (scheduled mission.models mission.bound plan).trials (reply_to replies 1))
+    (λ revision plan. schedule_told mission (ruled_by mission.models plan).model (scheduled mission.models mission.bound plan).goals (scheduled mission.models mission.bound plan).trials (reply_to replies 1))
+    (λ revision plan. schedule_has mission (ruled_by mission.models plan).model (scheduled mission.models mission.bound plan).goals (scheduled mission.models mission.bound plan).trials (reply_to replies 1))
 told_has mission ruled count (Merge target source base) replies =
     fetched_has (reply_to replies 0)
     (λ _ target_plan. by_fetched (reply_to replies 1) (λ _ source_plan. by_fetched (reply_to replies 2) (λ _ base_plan. merge_told base_plan source_plan target_plan (reply_to replies 3))))

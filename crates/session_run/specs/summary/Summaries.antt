@@ -76,7 +76,7 @@ violations_in other = 0
 
 -- directives that schedules list as placed
 abbrev pub placed_in : Answer → ℕ
-placed_in (answer.Schedule revision goals trials) = placed_count goals
+placed_in (answer.Schedule report) = placed_count report.goals
 placed_in other = 0
 
 abbrev pub refused_in : Answer → ℕ

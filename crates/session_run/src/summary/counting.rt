@@ -129,7 +129,10 @@ pub(crate) fn counted(alloc: Global, answer: &Answer) -> Result<Summary, OutOfMe
 {
     match answer {
         Answer::Report(report) => reported(alloc, report),
-        Answer::Schedule { goals, .. } => Ok(told_otherwise(placed_count(goals.as_slice()), false)),
+        Answer::Schedule(report) => {
+            let placed = placed_count(report.goals.as_slice());
+            Ok(told_otherwise(placed, false))
+        }
         Answer::Reply(reply) => Ok(told_otherwise(0, is_refusal(reply))),
         Answer::OtherModel => Ok(told_otherwise(0, true)),
         Answer::MergeRefused(_) => Ok(told_otherwise(0, true)),

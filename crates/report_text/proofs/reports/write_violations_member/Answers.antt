@@ -11,4 +11,4 @@ unfolding member_tokens
 returns c =
     IfOk-equal _ _ _ _ c.write_violations.ensures
     (rw (c.in_ok-key.ensures)
-    (append_assoc c.args.line.now (key (codes "violations") ∷ []) (data_tokens (violations_data c.args.wording.now c.args.run.now c.args.constraints.now))))
+    (append_assoc c.args.line.now (key (codes "violations") ∷ []) (data_tokens (violations_data c.args.detail c.args.wording.now c.args.run.now c.args.constraints.now))))

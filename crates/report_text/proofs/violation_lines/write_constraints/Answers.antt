@@ -10,6 +10,7 @@ use Rattle.report_text.proofs.violation_lines.write_constraints.Goals as goal
 
 pub write_constraint-requires : goal.write_constraint-requires
 write_constraint-requires c = record {
+  spans = c.requires.spans;
   found =
       c.as_slice-violations.ensures
       ∙ found_at (violations_of c.args.wording.now c.args.run.now) c.args.constraints.now c.args.found.now c.loop-number.number
@@ -18,12 +19,12 @@ write_constraint-requires c = record {
 
 pub loop-number-preserved : goal.loop-number-preserved
 loop-number-preserved c =
-    goes_on (constraint_data c.args.wording.now c.args.run.now) c.args.constraints.now c.loop-number.line c.write_constraint.new.line
+    goes_on (constraint_data c.args.detail c.args.wording.now c.args.run.now) c.args.constraints.now c.loop-number.line c.write_constraint.new.line
     c.loop-number.number c.index-constraints-number.result c.loop-number-test.true c.index-constraints-number.is c.in_ok-write_constraint.ensures
     ∙ c.loop-number.invariant
 
 pub returns : goal.returns
 returns c =
-    ends (constraint_data c.args.wording.now c.args.run.now) c.args.constraints.now c.loop-number.line
-    (c.args.line.now ++ listed_tokens (flat_map (constraint_data c.args.wording.now c.args.run.now) c.args.constraints.now))
+    ends (constraint_data c.args.detail c.args.wording.now c.args.run.now) c.args.constraints.now c.loop-number.line
+    (c.args.line.now ++ listed_tokens (flat_map (constraint_data c.args.detail c.args.wording.now c.args.run.now) c.args.constraints.now))
     c.loop-number.number c.loop-number.auto.number-end c.loop-number-test.false c.loop-number.invariant

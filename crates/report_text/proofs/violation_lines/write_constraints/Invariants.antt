@@ -7,5 +7,5 @@ use Rattle.report_text.proofs.violation_lines.write_constraints.Given as goal
 
 abbrev pub invariant-loop-number : goal.invariant-loop-number
 invariant-loop-number l =
-    l.line ++ listed_tokens (flat_map (constraint_data l.wording l.run) (drop l.number l.constraints))
-    ≡ l.fn.line ++ listed_tokens (flat_map (constraint_data l.wording l.run) l.constraints)
+    l.line ++ listed_tokens (flat_map (constraint_data l.detail l.wording l.run) (drop l.number l.constraints))
+    ≡ l.fn.line ++ listed_tokens (flat_map (constraint_data l.detail l.wording l.run) l.constraints)

@@ -10,4 +10,4 @@ pub returns : goal.returns
 returns c =
     IfOk-equal _ _ _ _ c.end_array.ensures
     (rw (c.in_ok-write_constraints.ensures, c.in_ok-begin_array.ensures)
-    (sym (array_listed c.args.line.now (flat_map (constraint_data c.args.wording.now c.args.run.now) c.args.constraints.now))))
+    (sym (array_listed c.args.line.now (flat_map (constraint_data c.args.detail c.args.wording.now c.args.run.now) c.args.constraints.now))))

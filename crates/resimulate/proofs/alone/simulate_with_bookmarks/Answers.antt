@@ -1,4 +1,4 @@
-use Rattle.std.proofs.Common.{◌≡◌, ◌∙◌, [], IsTrue, sym, subst}
+use Rattle.std.proofs.Common.{◌∙◌, IsTrue, sym, subst}
 use Rattle.std.proofs.lemmas.Bool.{eqb-false}
 use Rattle.aerie_base.specs.declared.models.model.Parts.{Parts}
 use Rattle.aerie_base.specs.models.ValidModel.{valid_model}

@@ -1,6 +1,6 @@
 use Rattle.std.proofs.Common.{◌≡◌, ◌∙◌, ◌+◌, ◌-◌, sym, subst, arith}
 use Rattle.resimulate.specs.OldBatches.{AreEarly}
-use Rattle.resimulate.proofs.OldInstants.{early_none, early_through}
+use Rattle.resimulate.proofs.OldInstants.{early_through}
 use Rattle.resimulate.proofs.cursor.start_for.Goals as goal
 
 pub returns : goal.returns

@@ -8,6 +8,7 @@ use Rattle.run_data.specs.laws.RunCosts.{cost_of_instants}
 use Rattle.engine_core.specs.EngineStates.{instants_in}
 use Rattle.resimulate.specs.EarlyEnds.{EndAtOnce}
 use Rattle.resimulate.specs.Likeness.{TellAlike}
+use Rattle.resimulate.specs.Partings.{AreSameOutside}
 use Rattle.resimulate.proofs.EarlyEnds.{first_same, rest_is}
 use Rattle.resimulate.proofs.EndsInCommon.{shares_both}
 use Rattle.resimulate.proofs.early_ends.rest_if_alike.Goals as goal
@@ -24,7 +25,8 @@ tell_alike-requires c =
     sym c.as_slice-olds.ensures ∙ sym (take-append-drop c.partition_point-at.result c.as_slice-olds.result.now) ∙ (λ i. sym both.front i ++ sym both.back i) in
     record {
       plan = (c.args.plan.now.next_id, is.ids);
-      old_plan = subst (λ (p : Plan). Rise p.directives) (sym c.get.ensures) (c.args.old.now.plan.next_id, c.requires.old_plan.ids);
+      old_plan = subst (λ (p : Plan). Rise p.directives) (sym c.get-old_plan.ensures) (c.args.old.now.plan.next_id, c.requires.old_plan.ids);
+      outside = subst (λ (p : Plan). AreSameOutside c.args.plan.now p c.args.parting.now) (sym c.get-old_plan.ensures) c.requires.outside;
       within = c.least-first.ensures.other;
       old_within = c.least-first.ensures.third;
       shared =
@@ -60,5 +62,5 @@ returns-clause-rest c =
     c.requires.model c.requires.plan c.requires.bound c.requires.job c.requires.begins
     (subst (λ (l : List Instant). EndAtOnce l before) c.instants-instants.ensures (c.end_at_once.ensures c.if-not-end_at_once.false))
     (subst (λ n. n + cost_of_instants rest ≤ c.args.bound) c.spent.ensures (c.can_pay.ensures c.if-not-can_pay.false))
-    (subst (λ (p : Plan). TellAlike c.args.model.now c.args.plan.now p (instants_in c.args.engine.now.point) before) c.get.ensures
-    (subst (λ (l : List Instant). TellAlike c.args.model.now c.args.plan.now c.get.result.now l before) c.instants-instants.ensures (c.in_ok-alike.ensures c.if-not-alike.false)))
+    (subst (λ (p : Plan). TellAlike c.args.model.now c.args.plan.now p (instants_in c.args.engine.now.point) before) c.get-old_plan.ensures
+    (subst (λ (l : List Instant). TellAlike c.args.model.now c.args.plan.now c.get-old_plan.result.now l before) c.instants-instants.ensures (c.in_ok-alike.ensures c.if-not-alike.false)))

@@ -1,6 +1,4 @@
-use Rattle.std.proofs.Common.{◌∙◌, Bool, ap, sym, arith}
-use Rattle.run_data.specs.declared.runs.Instant.{Instant}
-use Rattle.resimulate.specs.OldBatches.{is_earlier}
+use Rattle.std.proofs.Common.{◌∙◌, sym, arith}
 use Rattle.resimulate.proofs.OldInstants.{early_more, first_here, first_past}
 use Rattle.resimulate.proofs.old_batches.first_from.Goals as goal
 

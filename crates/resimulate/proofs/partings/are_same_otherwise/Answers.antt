@@ -1,12 +1,13 @@
-use Rattle.std.proofs.Common.{IfSome, subst}
-use Rattle.resimulate.specs.Partings.{IsNextToo}
-use Rattle.resimulate.proofs.SharedInstants.{decides_next}
+use Rattle.std.proofs.Common.{◌∙◌, drop, ap, sym}
+use Rattle.resimulate.proofs.CommonDirectives.{same_but_between}
 use Rattle.resimulate.proofs.partings.are_same_otherwise.Goals as goal
 
-pub loop-one-init : goal.loop-one-init
-loop-one-init c = λ rest same. same
-
-pub loop-one-preserved : goal.loop-one-preserved
-loop-one-preserved c =
-    decides_next c.args.first c.args.past c.args.directives.now c.args.others.now c.loop-one.one-index c.loop-one.at c.in-Some.next c.one-item.result c.loop-one-test.true c.one-item.is c.loop-one.invariant
-    (subst (λ found. IfSome found (λ to. IsNextToo c.args.first c.args.past c.one-item.result c.args.others.now c.loop-one.at to)) c.in-Some.is c.behind_next.ensures)
+pub returns : goal.returns
+returns c = λ yes.
+    let directives = c.args.directives.now in
+    let others = c.args.others.now in
+    let behind = c.args.behind in
+    let here = c.is_at.ensures c.if-not-is_at.false in
+    let there = c.is_at-2.ensures c.if-not-is_at-2.false in
+    same_but_between c.args.parting.now.first c.args.parting.now.past directives others c.args.front c.next_other-next.result c.next_other-old_next.result c.requires.front
+    (ap (λ n. drop n directives) here ∙ c.requires.behind ∙ ap (λ n. drop n others) (sym there)) c.next_other-next.ensures c.next_other-old_next.ensures

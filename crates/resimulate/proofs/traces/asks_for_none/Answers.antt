@@ -1,4 +1,4 @@
-use Rattle.std.proofs.Common.{◌≡◌, ◌∙◌, ◌||◌, Bool, ap}
+use Rattle.std.proofs.Common.{◌∙◌, ◌||◌, Bool, ap}
 use Rattle.resimulate.specs.Origins.{has_root, origin_number}
 use Rattle.resimulate.proofs.NoRoots.{none_has}
 use Rattle.resimulate.proofs.traces.asks_for_none.Goals as goal

@@ -15,7 +15,9 @@ use Rattle.resimulate.specs.OldBatches.{batch_at, batch_of, instant_at_time}
 use Rattle.engine_core.specs.BatchRuns.{ran_on}
 use Rattle.engine_core.specs.EnginePoints.{some_job, ran_not}
 use Rattle.resimulate.specs.EarlyEnds.{IsRest}
+use Rattle.resimulate.specs.Partings.{AreSameOutside, PartsBy}
 use Rattle.resimulate.specs.SharedEnds.{SharesEnds}
+use Rattle.resimulate.proofs.CommonDirectives.{same_outside}
 use Rattle.resimulate.proofs.EarlyEnds.{ended_fresh, ended_pays, ended_looks}
 use Rattle.resimulate.proofs.EndsInCommon.{shares_nothing}
 use Rattle.resimulate.proofs.Looping.{beside_first, beside_on, beside_less}
@@ -96,6 +98,15 @@ rest_if_due-requires-clause-old_plan g c =
 
 pub rest_if_due-requires-clause-may : goal.rest_if_due-requires-clause-may
 rest_if_due-requires-clause-may g c = c.may_end_from-may_end.ensures
+
+pub may_end_from-may_end-requires-clause-parting : goal.may_end_from-may_end-requires-clause-parting
+may_end_from-may_end-requires-clause-parting g c =
+    subst (λ (p : Plan). PartsBy c.get-planned.result.now p c.parting_of-parting.result) c.get.ensures c.parting_of-parting.ensures
+
+pub rest_if_due-requires-clause-outside : goal.rest_if_due-requires-clause-outside
+rest_if_due-requires-clause-outside g c =
+    subst (λ (p : Plan). AreSameOutside c.get-planned.result.now p c.parting_of-parting.result) c.get.ensures
+    (same_outside c.get-planned.result.now c.get.result.now c.parting_of-parting.result c.parting_of-parting.ensures)
 
 pub may_end_from-may_end-requires-clause-plan : goal.may_end_from-may_end-requires-clause-plan
 may_end_from-may_end-requires-clause-plan g c = subst (IsPlanOf c.args.model.now) (sym c.get-planned.ensures) c.requires.plan

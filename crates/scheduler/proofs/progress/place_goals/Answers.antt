@@ -12,4 +12,4 @@ returns-clause-each g c =
     let all =
     sym (none_more model c.args.constraints.now run_of c.args.goals.now c.loop-goal.goal-index (all_shown c.loop-goal.progress) c.loop-goal-test.false)
     ∙ c.loop-goal.invariant.placed in
-    ap (λ (all : GoalsPlaced). length all.placed) all ∙ as_many model c.args.constraints.now run_of c.args.goals.now c.args.kept.run.plan trial_limit
+    ap (λ (all : GoalsPlaced). length all.parts) all ∙ as_many model c.args.constraints.now run_of c.args.goals.now c.args.kept.run.plan trial_limit

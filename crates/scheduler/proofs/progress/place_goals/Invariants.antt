@@ -9,7 +9,7 @@ use Rattle.scheduler.proofs.progress.place_goals.Given as goal
 abbrev pub invariant-loop-goal : goal.invariant-loop-goal
 invariant-loop-goal g l = record {
   placed :
-      placed_behind l.progress.placed
+      placed_behind l.progress.parts
       (goals_placed l.model l.constraints (fresh_run l.model (g.M.Simulator.bound l.fn.simulator)) (drop l.goal-index l.goals) l.progress.kept.run.plan l.progress.left)
       ≡ goals_placed l.model l.constraints (fresh_run l.model (g.M.Simulator.bound l.fn.simulator)) l.goals l.fn.kept.run.plan trial_limit;
   kept : IsKeptOf l.model (g.M.Simulator.bound l.fn.simulator) l.progress.kept;

@@ -4,4 +4,4 @@ use Rattle.scheduler.proofs.progress.statuses.Given as goal
 
 -- the statuses so far and those of the goals that are left are those of all goals
 abbrev pub invariant-loop-at : goal.invariant-loop-at
-invariant-loop-at l = l.statuses ++ statuses_on l.model l.run (drop l.at l.goals) (drop l.at l.placed) ≡ statuses_on l.model l.run l.goals l.placed
+invariant-loop-at l = l.statuses ++ statuses_on l.model l.run (drop l.at l.goals) (drop l.at l.parts) ≡ statuses_on l.model l.run l.goals l.parts

@@ -8,8 +8,7 @@ use Rattle.session_run.proofs.summary.counting.counted.Goals as goal
 
 pub returns-in-Schedule : goal.returns-in-Schedule
 returns-in-Schedule c =
-    schedule_counted c.in-Schedule.revision c.in-Schedule.trials c.placed_count.result c.as_slice.result.now c.told_otherwise.result c.placed_count.ensures c.told_otherwise.ensures
-    ∙ ap (λ (goals : List GoalStatus). summary_of (answer.Schedule c.in-Schedule.revision goals c.in-Schedule.trials ∷ [])) c.as_slice.ensures
+    schedule_counted c.in-Schedule.report c.placed_count-placed.result c.as_slice.result.now c.told_otherwise.result c.as_slice.ensures c.placed_count-placed.ensures c.told_otherwise.ensures
     ∙ ap (λ (told : Answer). summary_of (told ∷ [])) (sym c.in-Schedule.is)
 
 pub returns-in-Reply : goal.returns-in-Reply
