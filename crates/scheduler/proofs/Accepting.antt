@@ -1,6 +1,5 @@
 -- A trial is accepted where nothing is told against it.
 use Rattle.std.proofs.Common.{◌≡◌, ℕ, Bool, true, false, not, ◌&&◌, ◌||◌, List, [], ◌∷◌, Option, Some, None, is_none, nat_eq, refl, sym, ap, ◌∙◌, if◌then◌else◌}
-use Rattle.std.specs.List.{list_all}
 use Rattle.aerie_base.specs.TimeOrder.{earlier}
 use Rattle.aerie_base.specs.declared.models.model.Parts.{Parts}
 use Rattle.run_data.specs.declared.runs.Run.{Run}
@@ -15,14 +14,12 @@ use Rattle.constraints.specs.declared.types.Window.{Window}
 use Rattle.constraints.specs.declared.violation.Violation.{Violation}
 use Rattle.constraints.specs.Holding.{window_holds, times_of}
 use Rattle.constraints.specs.Violating.{listed, meet, violations_of, violations_of_rule, violations_of_span, violations_of_spans}
-use Rattle.goals.specs.declared.gap.Gap.{Gap}
 use Rattle.goals.specs.declared.types.Goal.{Goal}
-use Rattle.goals.specs.declared.unmet.Rejection.{Rejection}
 use Rattle.goals.specs.declared.unmet.Rejection.TheVariants.{Unfilled}
 use Rattle.goals.specs.Goals.{is_filled}
 use Rattle.scheduler.specs.ScheduleLaws.{AcceptedUnlessRejected}
-use Rattle.scheduler.specs.Trials.{is_accepted, is_kept_well, is_unlisted, keeps}
-use Rattle.scheduler.specs.Unmet.{first_begin, first_violated, first_violation, is_kept, rejection_of, violated_at, violated_or}
+use Rattle.scheduler.specs.Trials.{is_kept_well, is_unlisted, keeps}
+use Rattle.scheduler.specs.Unmet.{first_begin, first_violated, first_violation, is_kept, violated_at, violated_or}
 use Rattle.scheduler.proofs.OnlyAdded.{each_more}
 
 -- ---- each violation that is listed has a first time

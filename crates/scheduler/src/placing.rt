@@ -136,6 +136,7 @@ fn search<M: Simulator, L: Ledger, K: Ledger>(
         alloc,
         request,
         gap,
+        &placing.kept,
         run.plan.get(),
         times.as_slice(),
         placing.left,

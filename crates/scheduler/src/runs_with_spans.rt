@@ -6,6 +6,7 @@ ghost use Rattle.span_table.specs.SpanLaws.{AreSpansOf};
 
 use aerie_base::{OutOfMemory, Shared};
 use run_data::{Kept, Run};
+use span_reuse::spans_beside;
 use span_table::{Span, spans};
 use std::alloc::Global;
 use std::marker::Model;
@@ -41,6 +42,27 @@ impl RunWithSpans {
     {
         let run = kept.get();
         let found = spans(alloc, run.model().get(), run.run())?;
+        let spans = Shared::new(alloc, found)?;
+        Ok(RunWithSpans { kept, spans })
+    }
+
+    /// The run with its spans, which are made from those of another run of the model. After want of memory the run is dropped.
+    pub(crate) fn beside(
+        alloc: Global,
+        kept: Shared<Kept>,
+        base: &RunWithSpans,
+    ) -> Result<RunWithSpans, OutOfMemory>
+        requires { base.now.model ≡ kept.model }
+        ensures { IfOk result (λ made. made ≡ kept) }
+    {
+        let run = kept.get();
+        let found = spans_beside(
+            alloc,
+            run.model().get(),
+            run.run(),
+            base.run(),
+            base.spans(),
+        )?;
         let spans = Shared::new(alloc, found)?;
         Ok(RunWithSpans { kept, spans })
     }

@@ -26,11 +26,12 @@ pub(crate) struct Search {
     pub(crate) left: u32,
 }
 
-/// The first accepted trial among the candidates, as long as a trial is left.
+/// The first accepted trial among the candidates, as long as a trial is left. The run of the plan is known with its spans.
 pub(crate) fn first_accepted<M: Simulator, L: Ledger, K: Ledger>(
     alloc: Global,
     request: &GoalRequest,
     gap: &Gap,
+    base: &RunWithSpans,
     plan: &Plan,
     times: &[Time],
     left: u32,
@@ -40,6 +41,7 @@ pub(crate) fn first_accepted<M: Simulator, L: Ledger, K: Ledger>(
 ) -> Result<Search, OutOfMemory>
     requires shares { M.shares }
     requires request { IsRequestTo (M.model simulator.old) request.now }
+    requires base { base.now.model ≡ request.now.model.now }
     requires plan { IsPlanOf request.now.model.now plan.now }
     ensures found { IfOk result (λ found.
         found
@@ -54,7 +56,9 @@ pub(crate) fn first_accepted<M: Simulator, L: Ledger, K: Ledger>(
         if left == 0 {
             break;
         }
-        match tried(alloc, request, gap, plan, *time, simulator, steps, looks)? {
+        match tried(
+            alloc, request, gap, base, plan, *time, simulator, steps, looks,
+        )? {
             Trial::Refused => {}
             Trial::Rejected(rejection) => {
                 left -= 1;

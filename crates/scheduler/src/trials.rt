@@ -21,7 +21,7 @@ use constraints::{Constraint, Violation, violations};
 use goals::{Gap, Goal, Rejection, Template, is_filled};
 use plan_edit::copy_plan;
 use run_data::laws::simulation_ends;
-use run_data::{Run, Simulator};
+use run_data::{Kept, Run, Simulator};
 use span_table::Span;
 use std::alloc::Global;
 use std::sync::ledger::Ledger;
@@ -226,6 +226,27 @@ fn rejection(
     )
 }
 
+/// The kept fresh run of the plan.
+fn kept_of<M: Simulator, L: Ledger, K: Ledger>(
+    alloc: Global,
+    plan: &Shared<Plan>,
+    simulator: &mut M,
+    steps: &mut Steps<L>,
+    looks: &mut Steps<K>,
+) -> Result<Shared<Kept>, OutOfMemory>
+    requires shares { M.shares }
+    requires plan { IsPlanOf (M.model simulator.old) plan.now }
+    ensures kept { IfOk result (λ kept.
+        kept ≡ kept_run (M.model simulator.old) (M.bound simulator.old) plan.now) }
+    ensures of_model { IfOk result (IsKeptOf (M.model simulator.old) (M.bound simulator.old)) }
+    ensures ran { OnlyRanPlans M.model M.bound M.address (simulator.old, steps.old, looks.old)
+        (simulator.new, steps.new, looks.new) }
+{
+    simulation_ends();
+    let kept = simulator.run(alloc, plan, steps, looks)?;
+    Ok(kept)
+}
+
 /// The kept fresh run of the plan, with its spans.
 pub(crate) fn simulated<M: Simulator, L: Ledger, K: Ledger>(
     alloc: Global,
@@ -242,17 +263,39 @@ pub(crate) fn simulated<M: Simulator, L: Ledger, K: Ledger>(
     ensures ran { OnlyRanPlans M.model M.bound M.address (simulator.old, steps.old, looks.old)
         (simulator.new, steps.new, looks.new) }
 {
-    simulation_ends();
-    let kept = simulator.run(alloc, plan, steps, looks)?;
+    let kept = kept_of(alloc, plan, simulator, steps, looks)?;
     let made = RunWithSpans::of(alloc, kept)?;
     Ok(made)
 }
 
-/// What comes of a candidate for the goal's gap.
+/// The same, where a run of a plan that differs little is known with its spans.
+fn simulated_beside<M: Simulator, L: Ledger, K: Ledger>(
+    alloc: Global,
+    plan: &Shared<Plan>,
+    base: &RunWithSpans,
+    simulator: &mut M,
+    steps: &mut Steps<L>,
+    looks: &mut Steps<K>,
+) -> Result<RunWithSpans, OutOfMemory>
+    requires shares { M.shares }
+    requires plan { IsPlanOf (M.model simulator.old) plan.now }
+    requires base { base.now.model ≡ M.model simulator.old }
+    ensures kept { IfOk result (λ kept.
+        kept ≡ kept_run (M.model simulator.old) (M.bound simulator.old) plan.now) }
+    ensures ran { OnlyRanPlans M.model M.bound M.address (simulator.old, steps.old, looks.old)
+        (simulator.new, steps.new, looks.new) }
+{
+    let kept = kept_of(alloc, plan, simulator, steps, looks)?;
+    let made = RunWithSpans::beside(alloc, kept, base)?;
+    Ok(made)
+}
+
+/// What comes of a candidate for the goal's gap. The run of a plan that differs little is known with its spans.
 pub(crate) fn tried<M: Simulator, L: Ledger, K: Ledger>(
     alloc: Global,
     request: &GoalRequest,
     gap: &Gap,
+    base: &RunWithSpans,
     plan: &Plan,
     time: Time,
     simulator: &mut M,
@@ -261,6 +304,7 @@ pub(crate) fn tried<M: Simulator, L: Ledger, K: Ledger>(
 ) -> Result<Trial, OutOfMemory>
     requires shares { M.shares }
     requires request { IsRequestTo (M.model simulator.old) request.now }
+    requires base { base.now.model ≡ request.now.model.now }
     requires plan { IsPlanOf request.now.model.now plan.now }
     ensures trial { IfOk result (λ trial.
         trial
@@ -273,7 +317,7 @@ pub(crate) fn tried<M: Simulator, L: Ledger, K: Ledger>(
         return Ok(Trial::Refused);
     };
     let next = Shared::new(alloc, next)?;
-    let kept = simulated(alloc, &next, simulator, steps, looks)?;
+    let kept = simulated_beside(alloc, &next, base, simulator, steps, looks)?;
     match rejection(alloc, request, gap, kept.run(), kept.spans())? {
         Some(rejection) => Ok(Trial::Rejected(rejection)),
         None => Ok(Trial::Accepted(kept)),

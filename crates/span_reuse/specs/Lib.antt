@@ -1,0 +1,4 @@
+pub mod Left
+pub mod Putting
+pub mod Roots
+pub mod Telling
