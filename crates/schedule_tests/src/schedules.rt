@@ -176,9 +176,9 @@ fn an_unmet_goal_tells_why(rt: HostRuntime) {
         &rt,
         alloc,
         &short(
-            2,
+            1,
             &[BUMP],
-            "g: coexistence Bump(by = 0) for starts(Bump) from 0us to 0us; \
+            "g: coexistence Bump(by = 0) for start of Bump from 0us to 0us; \
              h: cardinality Bump(by = 3) count 2 in [0us, 9us);",
         ),
         "g unmet [2] broken; h met [3]; 2 trials, 3 runs; 1@5 2@5 3@0",
