@@ -36,13 +36,13 @@ first_chain a x f e g =
     first_is a f
     ∙ ap not (upto rank_total a x f (not-true (is_gt (rank a x)) (sym (first_is a x) ∙ e)) (not-true (is_gt (rank x f)) (sym (first_is x f) ∙ g)))
 
-turned : (o r : Ordering) → r ≡ ordering_reverse o → not (is_gt o) ≡ false → not (is_gt r) ≡ true
-turned Less r s e = absurd (true≢false e)
-turned Equal r s e = absurd (true≢false e)
-turned Greater r s e = ap (λ o. not (is_gt o)) s
+reversed : (o r : Ordering) → r ≡ ordering_reverse o → not (is_gt o) ≡ false → not (is_gt r) ≡ true
+reversed Less r s e = absurd (true≢false e)
+reversed Equal r s e = absurd (true≢false e)
+reversed Greater r s e = ap (λ o. not (is_gt o)) s
 
 first_else : (a b : SpanOf) → comes_first a b ≡ false → comes_first b a ≡ true
-first_else a b e = first_is b a ∙ turned (rank a b) (rank b a) (rank_total.antisymm b a) (sym (first_is a b) ∙ e)
+first_else a b e = first_is b a ∙ reversed (rank a b) (rank b a) (rank_total.antisymm b a) (sym (first_is a b) ∙ e)
 
 tie : (o r : Ordering) → r ≡ ordering_reverse o → not (is_gt o) ≡ true → not (is_gt r) ≡ true → o ≡ Equal
 tie Less r s e f = absurd (false≢true (sym (ap (λ o. not (is_gt o)) s) ∙ f))

@@ -5,8 +5,8 @@ use Rattle.run_data.specs.Spans.{SpanOf, comes_first, put_span}
 use Rattle.span_table.specs.declared.span.Span.{Span}
 use Rattle.span_table.specs.AsDefined.{defined_span}
 use Rattle.span_reuse.specs.Putting.{put_each}
-use Rattle.span_reuse.specs.declared.roots.Root.{Root}
-use Rattle.span_reuse.specs.Roots.{is_among, is_outside, spans_of_those}
+use Rattle.span_reuse.specs.declared.roots.TaskRoot.{TaskRoot}
+use Rattle.span_reuse.specs.Roots.{comes_from_one, is_outside_roots, spans_of_those}
 use Rattle.span_reuse.proofs.SideBySide.{map_both}
 use Rattle.span_reuse.proofs.SomeTasks.{filter_both}
 
@@ -33,8 +33,8 @@ module _ (span : Span) where
 
 -- ---- copies
 
-pub none_copied : (roots : List Root) (copies : List SpanOf) (span : SpanOf) → is_among roots span.path ≡ true →
-    copies ≡ copies ++ spans_of_those (is_outside roots) (span ∷ [])
+pub none_copied : (roots : List TaskRoot) (copies : List SpanOf) (span : SpanOf) → comes_from_one roots span.path ≡ true →
+    copies ≡ copies ++ spans_of_those (is_outside_roots roots) (span ∷ [])
 none_copied roots copies span among =
     sym (nothing_behind copies) ∙ ap (λ b. copies ++ cond (not b) (span ∷ []) []) (sym among)
   where
@@ -42,8 +42,8 @@ none_copied roots copies span among =
     nothing_behind [] = refl
     nothing_behind (first ∷ spans) = ap (λ l. first ∷ l) (nothing_behind spans)
 
-pub one_copied : (roots : List Root) (copies : List SpanOf) (span : SpanOf) → is_among roots span.path ≡ false →
-    copies ++ span ∷ [] ≡ copies ++ spans_of_those (is_outside roots) (span ∷ [])
+pub one_copied : (roots : List TaskRoot) (copies : List SpanOf) (span : SpanOf) → comes_from_one roots span.path ≡ false →
+    copies ++ span ∷ [] ≡ copies ++ spans_of_those (is_outside_roots roots) (span ∷ [])
 one_copied roots copies span outside = ap (λ b. copies ++ cond (not b) (span ∷ []) []) (sym outside)
 
 -- in a loop: the copies so far, and what is copied of those behind

@@ -6,7 +6,7 @@ use Rattle.aerie_base.specs.Paths.{is_path}
 use Rattle.run_data.specs.declared.frames.Status.{Status}
 use Rattle.run_data.specs.declared.frames.Status.TheVariants.{Done, Faulted}
 use Rattle.run_data.specs.Spans.{Timed, is_done, returned}
-use Rattle.span_reuse.specs.Roots.{frames_of}
+use Rattle.span_reuse.specs.Roots.{frames_passing}
 
 -- a status that tells no more than whether the body has ended, and what it returned
 abbrev pub plain_status : Bool → Option Value → Status
@@ -18,8 +18,8 @@ abbrev pub ending_told : Status → Status
 ending_told status = plain_status (is_done status) (returned status)
 
 -- a frame that tells no more of spans than this one, and no less
-abbrev pub told : Timed → Timed
-told entry = (
+abbrev pub told_of_spans : Timed → Timed
+told_of_spans entry = (
   entry.0,
   record {
     path = entry.1.path;
@@ -32,8 +32,8 @@ told entry = (
 )
 
 -- the frames of the tasks whose paths pass a test tell the same
-abbrev pub TellAlike : (List ℕ → Bool) → List Timed → List Timed → Type 0
-TellAlike test frames others = map told (frames_of test frames) ≡ map told (frames_of test others)
+abbrev pub TellSameSpans : (List ℕ → Bool) → List Timed → List Timed → Type 0
+TellSameSpans test frames others = map told_of_spans (frames_passing test frames) ≡ map told_of_spans (frames_passing test others)
 
 -- the frames are of paths
 abbrev pub AreOfPaths : List Timed → Type 0

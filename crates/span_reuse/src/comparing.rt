@@ -3,10 +3,10 @@
 ghost use Rattle.std.specs.Prelude.{◌≡◌, ◌≤◌, ◌+◌, ℕ, IsTrue, IfOk, IfSome, None, OnOk, false, length, map, option_map};
 ghost use Rattle.run_data.specs.Spans.{timed};
 ghost use Rattle.span_reuse.specs.Left.{DifferIn, ExcludesMet, NotesPair, met};
-ghost use Rattle.span_reuse.specs.Telling.{ending_told, told};
+ghost use Rattle.span_reuse.specs.Telling.{ending_told, told_of_spans};
 
 use crate::frame_cursor::FrameCursor;
-use crate::roots::Root;
+use crate::roots::TaskRoot;
 use aerie_base::{OutOfMemory, Time, Value, same_list};
 use run_data::{Frame, Run, Status};
 use std::alloc::Global;
@@ -42,7 +42,7 @@ fn end_alike(status: &Status, other: &Status) -> bool
 
 /// Whether two frames at these times are known to tell the same.
 fn tell_alike(time: Time, frame: &Frame, other_time: Time, other: &Frame) -> bool
-    ensures { IsTrue result → told (time, frame.now) ≡ told (other_time, other.now) }
+    ensures { IsTrue result → told_of_spans (time, frame.now) ≡ told_of_spans (other_time, other.now) }
 {
     if time != other_time || !frame.path().is_same(other.path()) {
         return false;
@@ -60,8 +60,8 @@ fn tell_alike(time: Time, frame: &Frame, other_time: Time, other: &Frame) -> boo
 /// Whether two frames, if they were met, are known to tell the same.
 fn are_alike(time: Time, frame: Option<&Frame>, other_time: Time, other: Option<&Frame>) -> bool
     ensures { IsTrue result →
-        map told (met time (option_map (λ frame. frame.now) frame.entry))
-        ≡ map told (met other_time (option_map (λ frame. frame.now) other.entry)) }
+        map told_of_spans (met time (option_map (λ frame. frame.now) frame.entry))
+        ≡ map told_of_spans (met other_time (option_map (λ frame. frame.now) other.entry)) }
 {
     let Some(frame) = frame else {
         return false;
@@ -73,12 +73,12 @@ fn are_alike(time: Time, frame: Option<&Frame>, other_time: Time, other: Option<
 }
 
 /// Notes the root of a frame, if one was met.
-fn put_root(roots: &mut Vec<Root>, frame: Option<&Frame>) -> Result<(), OutOfMemory>
+fn put_root(roots: &mut Vec<TaskRoot>, frame: Option<&Frame>) -> Result<(), OutOfMemory>
     ensures { OnOk result (ExcludesMet roots.old.items roots.new.items (option_map (λ frame. frame.now) frame.entry)) }
 {
     match frame {
         Some(frame) => {
-            roots.push(Root::of(frame.path()))?;
+            roots.push(TaskRoot::of(frame.path()))?;
             Ok(())
         }
         None => Ok(()),
@@ -87,7 +87,7 @@ fn put_root(roots: &mut Vec<Root>, frame: Option<&Frame>) -> Result<(), OutOfMem
 
 /// Notes the roots of two frames that were met, unless they tell the same.
 fn note_pair(
-    roots: &mut Vec<Root>,
+    roots: &mut Vec<TaskRoot>,
     time: Time,
     frame: Option<&Frame>,
     other_time: Time,
@@ -127,7 +127,7 @@ pub(crate) fn differing(
     alloc: Global,
     run: &Run,
     base: &Run,
-) -> Result<Option<Vec<Root>>, OutOfMemory>
+) -> Result<Option<Vec<TaskRoot>>, OutOfMemory>
     ensures { IfOk result (λ found. IfSome found (λ roots.
         DifferIn roots.items (timed run.now.instants) (timed base.now.instants))) }
 {

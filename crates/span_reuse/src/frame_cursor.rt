@@ -2,9 +2,9 @@
 
 ghost use Rattle.std.specs.Prelude.{◌≡◌, ◌<◌, ◌∷◌, [], MatchOption, IsTrue, false, option_map, length};
 ghost use Rattle.run_data.specs.Spans.{timed};
-ghost use Rattle.span_reuse.specs.Left.{MeetsNext, frames_left, turns_left};
+ghost use Rattle.span_reuse.specs.Left.{MeetsNext, frames_left, iterations_left};
 
-use crate::roots::{Root, is_among};
+use crate::roots::{TaskRoot, is_among};
 use aerie_base::{List, Shared, Time};
 use run_data::{Frame, Instant};
 
@@ -42,10 +42,10 @@ impl<'r> FrameCursor<'r> {
     }
 
     /// Turns to the next batch, or to the next instant, if there is one.
-    fn turn(&mut self) -> bool
+    fn advance(&mut self) -> bool
         requires { self.old.batch.now ≡ [] }
         ensures left { frames_left self.new ≡ frames_left self.old }
-        ensures fewer { IsTrue result → turns_left self.new < turns_left self.old }
+        ensures fewer { IsTrue result → iterations_left self.new < iterations_left self.old }
         ensures none { result ≡ false → frames_left self.old ≡ [] }
     {
         if let Some((batch, batches)) = self.batches.split_first() {
@@ -70,7 +70,7 @@ impl<'r> FrameCursor<'r> {
         ensures none { self.new.batch.now ≡ [] → frames_left self.new ≡ [] }
     {
         while self.batch.is_empty() {
-            if !self.turn() {
+            if !self.advance() {
                 return;
             }
         }
@@ -92,7 +92,7 @@ impl<'r> FrameCursor<'r> {
     }
 
     /// The next frame of a task that comes from none of these.
-    pub(crate) fn next_outside(&mut self, roots: &[Root]) -> Option<&'r Frame>
+    pub(crate) fn next_outside(&mut self, roots: &[TaskRoot]) -> Option<&'r Frame>
         ensures next { MeetsNext roots.now (frames_left self.old) (frames_left self.new) self.new.time
             (option_map (λ frame. frame.now) result) }
     {

@@ -2,10 +2,10 @@
 
 ghost use Rattle.std.specs.Prelude.{◌≡◌, ◌++◌, ◌∷◌, [], IfOk, OnOk};
 ghost use Rattle.run_data.specs.Spans.{timed};
-ghost use Rattle.span_reuse.specs.Roots.{frames_of, is_among as comes_from_one};
+ghost use Rattle.span_reuse.specs.Roots.{frames_passing, comes_from_one};
 
 use crate::frame_cursor::FrameCursor;
-use crate::roots::{Root, is_among};
+use crate::roots::{TaskRoot, is_among};
 use aerie_base::{List, OutOfMemory, Plan, Shared, Time};
 use run_data::{Frame, Instant, Outcome, Run};
 use std::alloc::Global;
@@ -33,13 +33,13 @@ fn instant_of(alloc: Global, time: Time, frame: &Frame) -> Result<Shared<Instant
 /// Puts a frame in an instant of its own behind the others, where its task comes from one of these.
 fn put_among(
     alloc: Global,
-    roots: &[Root],
+    roots: &[TaskRoot],
     made: &mut List<Shared<Instant>>,
     time: Time,
     frame: &Frame,
 ) -> Result<(), OutOfMemory>
     ensures { OnOk result (timed made.new
-        ≡ timed made.old ++ frames_of (comes_from_one roots.now) ((time, frame.now) ∷ [])) }
+        ≡ timed made.old ++ frames_passing (comes_from_one roots.now) ((time, frame.now) ∷ [])) }
 {
     if !is_among(roots, frame.path()) {
         return Ok(());
@@ -51,10 +51,10 @@ fn put_among(
 /// The frames of the tasks that come from these, each in an instant of its own.
 fn instants_of(
     alloc: Global,
-    roots: &[Root],
+    roots: &[TaskRoot],
     instants: &[Shared<Instant>],
 ) -> Result<List<Shared<Instant>>, OutOfMemory>
-    ensures { IfOk result (λ made. timed made ≡ frames_of (comes_from_one roots.now) (timed instants.now)) }
+    ensures { IfOk result (λ made. timed made ≡ frames_passing (comes_from_one roots.now) (timed instants.now)) }
 {
     let mut made = List::new(alloc);
     let mut cursor = FrameCursor::new(instants);
@@ -78,8 +78,8 @@ fn empty_plan(alloc: Global, plan: &Plan) -> Result<Shared<Plan>, OutOfMemory> {
 }
 
 /// The frames of the tasks that come from these, as a run of their own, of which only the frames mean something.
-pub(crate) fn run_of(alloc: Global, roots: &[Root], run: &Run) -> Result<Run, OutOfMemory>
-    ensures { IfOk result (λ made. timed made.instants ≡ frames_of (comes_from_one roots.now) (timed run.now.instants)) }
+pub(crate) fn run_of(alloc: Global, roots: &[TaskRoot], run: &Run) -> Result<Run, OutOfMemory>
+    ensures { IfOk result (λ made. timed made.instants ≡ frames_passing (comes_from_one roots.now) (timed run.now.instants)) }
 {
     let instants = instants_of(alloc, roots, run.instants.as_slice())?;
     let plan = empty_plan(alloc, run.plan.get())?;

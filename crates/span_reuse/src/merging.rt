@@ -4,9 +4,9 @@ ghost use Rattle.std.specs.Prelude.{◌≡◌, ◌≤◌, ◌++◌, ◌∷◌, [
 ghost use Rattle.run_data.specs.Spans.{comes_first as precedes, put_span};
 ghost use Rattle.span_table.specs.AsDefined.{defined_span};
 ghost use Rattle.span_reuse.specs.Putting.{put_each};
-ghost use Rattle.span_reuse.specs.Roots.{is_outside, spans_of_those};
+ghost use Rattle.span_reuse.specs.Roots.{is_outside_roots, spans_of_those};
 
-use crate::roots::{Root, is_among};
+use crate::roots::{TaskRoot, is_among};
 use aerie_base::OutOfMemory;
 use span_table::Span;
 use std::alloc::Global;
@@ -15,12 +15,12 @@ use std::cmp::Ordering;
 /// Puts a copy of a span behind the others, where its task comes from none of these.
 fn put_outside(
     alloc: Global,
-    roots: &[Root],
+    roots: &[TaskRoot],
     copies: &mut Vec<Span>,
     span: &Span,
 ) -> Result<(), OutOfMemory>
     ensures { OnOk result (map defined_span copies.new.items
-        ≡ map defined_span copies.old.items ++ spans_of_those (is_outside roots.now) (defined_span span.now ∷ [])) }
+        ≡ map defined_span copies.old.items ++ spans_of_those (is_outside_roots roots.now) (defined_span span.now ∷ [])) }
 {
     if is_among(roots, &span.path) {
         return Ok(());
@@ -32,12 +32,12 @@ fn put_outside(
 /// Copies of the spans of tasks that come from none of these, with room for so many more.
 pub(crate) fn copies_outside(
     alloc: Global,
-    roots: &[Root],
+    roots: &[TaskRoot],
     spans: &[Span],
     more: usize,
 ) -> Result<Vec<Span>, OutOfMemory>
     ensures { IfOk result (λ copies.
-        map defined_span copies.items ≡ spans_of_those (is_outside roots.now) (map defined_span spans.now)) }
+        map defined_span copies.items ≡ spans_of_those (is_outside_roots roots.now) (map defined_span spans.now)) }
 {
     let mut copies = Vec::with_capacity(alloc, spans.len().saturating_add(more))?;
     for span in spans {

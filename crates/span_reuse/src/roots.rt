@@ -2,13 +2,13 @@
 
 ghost use Rattle.std.specs.Prelude.{◌≡◌};
 ghost use Rattle.aerie_base.specs.Paths.{comes_from_daemon, id_of};
-ghost use Rattle.span_reuse.specs.Roots.{is_among as comes_from_one, is_root, same_flag};
+ghost use Rattle.span_reuse.specs.Roots.{comes_from_one, is_root, same_flag};
 
 use aerie_base::Path;
 
 /// The directive or daemon that a task comes from.
 #[derive(Clone, Copy)]
-pub(crate) struct Root {
+pub(crate) struct TaskRoot {
     /// Whether it is a daemon.
     daemon: bool,
     /// Its id.
@@ -22,12 +22,12 @@ fn same_flag(flag: bool, other: bool) -> bool
     if flag { other } else { !other }
 }
 
-impl Root {
+impl TaskRoot {
     /// That of the task of a path.
-    pub(crate) fn of(path: &Path) -> Root
+    pub(crate) fn of(path: &Path) -> TaskRoot
         ensures { result ≡ record { daemon = comes_from_daemon path.now; id = id_of path.now } }
     {
-        Root {
+        TaskRoot {
             daemon: path.daemon(),
             id: path.id(),
         }
@@ -42,7 +42,7 @@ impl Root {
 }
 
 /// Whether the task of a path comes from one of these.
-pub(crate) fn is_among(roots: &[Root], path: &Path) -> bool
+pub(crate) fn is_among(roots: &[TaskRoot], path: &Path) -> bool
     ensures { result ≡ comes_from_one roots.now path.now }
 {
     for root in roots {

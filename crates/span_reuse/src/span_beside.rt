@@ -9,7 +9,7 @@ ghost use Rattle.span_reuse.specs.Left.{DifferIn};
 use crate::comparing::differing;
 use crate::gathering::run_of;
 use crate::merging::{copies_outside, with_each};
-use crate::roots::Root;
+use crate::roots::TaskRoot;
 use aerie_base::{Model, OutOfMemory};
 use run_data::Run;
 use run_data::laws::instants_rise;
@@ -26,7 +26,7 @@ fn updated(
     run: &Run,
     base: &Run,
     base_spans: &[Span],
-    roots: &[Root],
+    roots: &[TaskRoot],
 ) -> Result<Vec<Span>, OutOfMemory>
     requires differ { DifferIn roots.now (timed run.now.instants) (timed base.now.instants) }
     requires base { map defined_span base_spans.now ≡ spans_of model.now base.now }

@@ -1,6 +1,6 @@
 use Rattle.std.proofs.Common.{List, ◌∙◌, ap, sym, subst}
 use Rattle.run_data.specs.Spans.{Timed, timed}
-use Rattle.span_reuse.specs.Left.{ComesFrom, frames_left}
+use Rattle.span_reuse.specs.Left.{RestDecides, frames_left}
 use Rattle.span_reuse.proofs.SideBySide.{end_with, fewer_left, from_the_beginning, step_on}
 use Rattle.span_reuse.proofs.comparing.differing.Goals as goal
 
@@ -9,8 +9,8 @@ loop-here-init c =
     let all = timed c.args.run.now.instants in
     let whole = timed c.args.base.now.instants in
     let roots = c.in_ok-roots.roots.items in
-    subst (λ (l : List Timed). ComesFrom roots all whole l (frames_left c.new-there.result)) (sym (c.new-here.ensures ∙ ap timed c.as_slice.ensures))
-    (subst (λ (l : List Timed). ComesFrom roots all whole all l) (sym (c.new-there.ensures ∙ ap timed c.as_slice-2.ensures)) (from_the_beginning roots all whole))
+    subst (λ (l : List Timed). RestDecides roots all whole l (frames_left c.new-there.result)) (sym (c.new-here.ensures ∙ ap timed c.as_slice.ensures))
+    (subst (λ (l : List Timed). RestDecides roots all whole all l) (sym (c.new-there.ensures ∙ ap timed c.as_slice-2.ensures)) (from_the_beginning roots all whole))
 
 pub returns-then-are_none : goal.returns-then-are_none
 returns-then-are_none c =
