@@ -1,8 +1,8 @@
 //! The text of a duration.
 
-ghost use Rattle.std.specs.Prelude.{◌≡◌, ◌≤◌, ◌+◌, ◌*◌, ℕ, Some, IsTrue, IfOk, length, string_bytes, take};
+ghost use Rattle.std.specs.Prelude.{◌≡◌, ◌≤◌, ◌+◌, ◌*◌, ℕ, nat_eq, Some, IsTrue, IfOk, length, string_bytes, take};
 ghost use Rattle.std.specs.Char.{is_ascii_digit};
-ghost use Rattle.std.specs.List.{list_all};
+ghost use Rattle.std.specs.List.{list_all, starts_with};
 ghost use Rattle.std.specs.Str.Parse.{digits_value};
 ghost use Rattle.aerie_base.specs.Ranges.{time_of};
 ghost use Rattle.aerie_base.specs.Durations.{begins_part, begins_unit, digit_count, duration_len, duration_of, duration_text, parts_len, parts_micros, unit_micros, unit_text};
@@ -112,7 +112,24 @@ fn begins_part(unit: Unit, count: usize, bytes: &[u8]) -> bool
     requires { count ≡ digit_count bytes.now }
     ensures { result ≡ begins_part unit bytes.now }
 {
-    0 < count && bytes[count..].starts_with(unit_text(unit).as_bytes())
+    0 < count && stands_in_front(unit, &bytes[count..])
+}
+
+/// Whether this unit stands in front. Most texts differ in their first letter, so only where it agrees are the letters behind it compared.
+fn stands_in_front(unit: Unit, bytes: &[u8]) -> bool
+    ensures { result ≡ starts_with nat_eq bytes.now (unit_text unit) }
+{
+    match bytes.first() {
+        Some(letter) => match unit {
+            Unit::Day => *letter == b'd',
+            Unit::Hour => *letter == b'h',
+            Unit::Minute => *letter == b'm' && bytes[1..].starts_with("in".as_bytes()),
+            Unit::Second => *letter == b's',
+            Unit::Millisecond => *letter == b'm' && bytes[1..].starts_with("s".as_bytes()),
+            Unit::Microsecond => *letter == b'u' && bytes[1..].starts_with("s".as_bytes()),
+        },
+        None => false,
+    }
 }
 
 /// What so many digits in front come to in microseconds, in this unit, or `None` above the longest duration.
