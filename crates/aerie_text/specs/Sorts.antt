@@ -145,13 +145,13 @@ reserved_words =
 abbrev pub reserved_from : ℕ → List (List ℕ × Sort)
 reserved_from letter = filter (λ entry. begins_with (λ first. first == letter) entry.0) reserved_words
 
--- the symbols, each with its sort
+-- the symbols, each with its sort; the order tells no more than how soon one is found
 abbrev pub symbols : List (List ℕ × Sort)
 symbols =
-    (codes "{", sort.OpenBrace) ∷ (codes "}", sort.CloseBrace) ∷ (codes "(", sort.OpenParenthesis) ∷
-    (codes ")", sort.CloseParenthesis) ∷ (codes "[", sort.OpenBracket) ∷ (codes "]", sort.CloseBracket) ∷
-    (codes ",", sort.Comma) ∷ (codes ";", sort.Semicolon) ∷ (codes ":", sort.Colon) ∷ (codes ".", sort.Dot) ∷
-    (codes "=", sort.Assign) ∷ (codes "+", sort.Plus) ∷ (codes "-", sort.Minus) ∷ (codes "*", sort.Star) ∷
+    (codes ";", sort.Semicolon) ∷ (codes "(", sort.OpenParenthesis) ∷ (codes ")", sort.CloseParenthesis) ∷
+    (codes "=", sort.Assign) ∷ (codes ",", sort.Comma) ∷ (codes ".", sort.Dot) ∷ (codes "{", sort.OpenBrace) ∷
+    (codes "}", sort.CloseBrace) ∷ (codes "[", sort.OpenBracket) ∷ (codes "]", sort.CloseBracket) ∷
+    (codes ":", sort.Colon) ∷ (codes "+", sort.Plus) ∷ (codes "-", sort.Minus) ∷ (codes "*", sort.Star) ∷
     (codes "/", sort.Slash) ∷ (codes "%", sort.Percent) ∷ (codes "!", sort.Exclamation) ∷ (codes "<", sort.Less) ∷
     (codes ">", sort.Greater) ∷ (codes ":=", sort.ColonAssign) ∷ (codes "+=", sort.PlusAssign) ∷
     (codes "==", sort.DoubleEqual) ∷ (codes "!=", sort.NotEqual) ∷ (codes "<=", sort.LessEqual) ∷

@@ -272,19 +272,19 @@ const W_WORDS: [(&str, Sort); 3] = [
     ("window", Sort::Window),
 ];
 
-/// The symbols, each with its sort.
+/// The symbols, each with its sort. Those that stand most often come first, since a symbol is looked for in this order.
 const SYMBOLS: [(&str, Sort); 28] = [
-    ("{", Sort::OpenBrace),
-    ("}", Sort::CloseBrace),
+    (";", Sort::Semicolon),
     ("(", Sort::OpenParenthesis),
     (")", Sort::CloseParenthesis),
+    ("=", Sort::Assign),
+    (",", Sort::Comma),
+    (".", Sort::Dot),
+    ("{", Sort::OpenBrace),
+    ("}", Sort::CloseBrace),
     ("[", Sort::OpenBracket),
     ("]", Sort::CloseBracket),
-    (",", Sort::Comma),
-    (";", Sort::Semicolon),
     (":", Sort::Colon),
-    (".", Sort::Dot),
-    ("=", Sort::Assign),
     ("+", Sort::Plus),
     ("-", Sort::Minus),
     ("*", Sort::Star),
