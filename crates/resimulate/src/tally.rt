@@ -1,13 +1,17 @@
-//! What was simulated since the last bookmark, against what one more costs. A bookmark copies each task that is live and holds each
-//! instant, so it is made only where the frames since the last one took some fifty times as much.
+//! What was simulated since the last bookmark, against what one more costs. A bookmark copies each task that goes on, lists each
+//! directive that waits for its start and holds each instant, so it is made only where the frames since the last one took some fifty
+//! times as much.
 
 use aerie_base::{List, Shared};
 use run_data::{Frame, Instant, Item, Status};
 
-/// How many instants cost a bookmark as much as one live task.
+/// How many directives that wait cost a bookmark as much as one task that goes on.
+const WAITING_FOR_TASK: usize = 8;
+
+/// How many instants cost it as much.
 const INSTANTS_FOR_TASK: usize = 3;
 
-/// What else a bookmark costs, in live tasks.
+/// What else a bookmark costs, in tasks that go on.
 const LEAST_PRICE: usize = 32;
 
 /// The frames since the last bookmark, and the tasks that are live now. Daemons are not counted.
@@ -17,8 +21,10 @@ pub(crate) struct Tally {
     instants: usize,
     /// How many frames they have since the last bookmark.
     frames: usize,
-    /// How many tasks are live behind them.
-    live: usize,
+    /// How many directives wait for their start behind them.
+    waiting: usize,
+    /// How many tasks have begun and go on.
+    begun: usize,
 }
 
 /// How many children some items make.
@@ -32,6 +38,13 @@ fn children_of(items: &List<Item>) -> usize {
     many
 }
 
+/// Whether a step is the first of a directive's task. One that comes back to the first place of its body counts again: this is an
+/// estimate.
+fn begins_directive(frame: &Frame) -> bool {
+    let path = frame.path();
+    frame.before().at == 0 && path.children().is_empty() && !path.daemon()
+}
+
 /// Whether a step ends the body of its task.
 fn is_last(status: &Status) -> bool {
     matches!(status, Status::Done(_) | Status::Faulted(_))
@@ -43,7 +56,8 @@ impl Tally {
         let mut tally = Tally {
             instants: 0,
             frames: 0,
-            live: directives,
+            waiting: directives,
+            begun: 0,
         };
         tally.go_to(instants);
         tally.start_over();
@@ -53,9 +67,13 @@ impl Tally {
     /// Counts a frame.
     fn count(&mut self, frame: &Frame) {
         self.frames = self.frames.saturating_add(1);
-        self.live = self.live.saturating_add(children_of(frame.items()));
+        if begins_directive(frame) {
+            self.waiting = self.waiting.saturating_sub(1);
+            self.begun = self.begun.saturating_add(1);
+        }
+        self.begun = self.begun.saturating_add(children_of(frame.items()));
         if is_last(frame.status()) {
-            self.live = self.live.saturating_sub(1);
+            self.begun = self.begun.saturating_sub(1);
         }
     }
 
@@ -79,7 +97,8 @@ impl Tally {
     /// Whether so much was simulated since the last bookmark that one more costs little against it.
     pub(crate) fn pays_for_bookmark(&self) -> bool {
         let price = self
-            .live
+            .begun
+            .saturating_add(self.waiting / WAITING_FOR_TASK)
             .saturating_add(self.instants / INSTANTS_FOR_TASK)
             .saturating_add(LEAST_PRICE);
         self.frames >= price
