@@ -1,14 +1,19 @@
-//! The benches of a client.
+//! What a client keeps from command to command: benches, and what was found on the run that it reported last.
 
-ghost use Rattle.std.specs.Prelude.{◌≡◌, ◌≤◌, [], IfOk, IfSome};
+ghost use Rattle.std.specs.Prelude.{◌≡◌, ◌≤◌, [], IsTrue, IfOk, IfSome};
+ghost use Rattle.std.specs.List.{list_all};
 ghost use Rattle.aerie_base.specs.Ranges.{step_limit};
 ghost use Rattle.aerie_base.specs.plans.OfModel.{IsPlanOf};
+ghost use Rattle.constraints.specs.OfModel.{is_constraint};
+ghost use Rattle.findings.specs.Found.{AreFindings};
+ghost use Rattle.profiles.specs.OfRuns.{AreProfilesOf};
 ghost use Rattle.run_data.specs.Fresh.{IsFresh};
 ghost use Rattle.run_data.specs.RunFrames.{PaysForRun};
 ghost use Rattle.run_data.specs.Waves.{RoseAlike};
 ghost use Rattle.bench.specs.Benches.{IsMadeFor, IsSameBench};
 ghost use Rattle.scheduler.specs.Scheduling.{schedule_of};
 ghost use Rattle.scheduler.specs.Told.{IsLikePlan};
+ghost use Rattle.span_table.specs.SpanLaws.{AreSpansOf};
 ghost use Rattle.client_work.specs.Benches.{AreBenches, IsBenchAt, IsPassedOn};
 ghost use Rattle.client_work.specs.Counts.{PaysBeside};
 ghost use Rattle.client_work.specs.Working.{IsRuled};
@@ -16,20 +21,25 @@ ghost use Rattle.client_work.specs.Working.{IsRuled};
 use crate::missions::RuledModel;
 use aerie_base::{List, Model, OutOfMemory, Plan, Shared, Steps};
 use bench::{Bench, Desk, HandedRuns};
+use constraints::Constraint;
+use findings::{Findings, ReportedRun, find_after};
 use history_store::Store;
 use run_data::Kept;
 use scheduler::{Schedule, schedule};
+use span_table::Span;
 use std::alloc::Global;
 use std::sync::Wait;
 use std::sync::ledger::Ledger;
 use std::thread::Threads;
 
-/// The benches of a client: one for each model of which it has simulated a plan. Contracts see the bound under which they simulate.
+/// The benches of a client: one for each model of which it has simulated a plan, and the run that was reported last, with what was
+/// found on it. Contracts see the bound under which they simulate.
 #[derive(Drop)]
 pub struct Benches {
     benches: List<Bench>,
     bound: u64,
     pieces: u32,
+    reported: Option<ReportedRun>,
 }
 
 impl std::marker::Model for Benches {
@@ -63,6 +73,41 @@ impl Benches {
             benches: List::new(alloc),
             bound,
             pieces: pieces.clamp(1, 64),
+            reported: None,
+        }
+    }
+
+    /// What is found on a run with these constraints. What was found on the run that was reported before serves again.
+    pub(crate) fn find(
+        &mut self,
+        alloc: Global,
+        run: &Shared<Kept>,
+        constraints: &[Constraint],
+    ) -> Result<Findings, OutOfMemory>
+        requires { IsTrue (list_all (is_constraint run.now.model) constraints.now) }
+        ensures found { IfOk result (AreFindings run.now.model run.now.run constraints.now) }
+        ensures same_bound { self.new ≡ self.old }
+    {
+        let before = self.reported.take();
+        find_after(alloc, run, before, constraints)
+    }
+
+    /// Keeps what was found on a run that is reported.
+    pub(crate) fn keep_found(&mut self, run: Shared<Kept>, findings: Findings)
+        requires spans { AreSpansOf run.model run.run findings.spans }
+        requires profiles { AreProfilesOf run.model run.run findings.profiles }
+        ensures same_bound { self.new ≡ self.old }
+    {
+        self.reported = Some(ReportedRun::new(run, findings));
+    }
+
+    /// The spans of a run, where it is the one that was reported last.
+    pub(crate) fn spans_of(&self, run: &Kept) -> Option<&[Span]>
+        ensures { IfSome result (λ spans. AreSpansOf run.now.model run.now.run spans.now) }
+    {
+        match &self.reported {
+            Some(reported) => reported.spans_of(run),
+            None => None,
         }
     }
 

@@ -34,7 +34,15 @@ pub fn work_on<R: Threads + Wait + Sync, G: Gate, L: Ledger, K: Ledger>(
     let mission = assignment.workplace.mission;
     let number = assignment.whose.command;
     let answer = carry_out(alloc, assignment, command, worker)?;
-    let line = told_line(alloc, mission, name, number, command, &answer)?;
+    let line = told_line(
+        alloc,
+        mission,
+        name,
+        number,
+        command,
+        &answer,
+        worker.benches,
+    )?;
     Ok(line)
 }
 

@@ -5,10 +5,10 @@ ghost use Rattle.std.specs.String.{string_bytes};
 ghost use Rattle.client_work.specs.Lines.{model_told as model_of_told, told_line as line_of_told};
 ghost use Rattle.client_work.specs.Working.{CanBeTold};
 
+use crate::benches::Benches;
 use crate::missions::Mission;
 use aerie_base::{Model, Name, OutOfMemory};
 use commands::Command;
-use findings::find;
 use hangar_core::Reply;
 use report_text::{Answer, Heading, reply_line, report_line};
 use std::alloc::Global;
@@ -27,7 +27,7 @@ fn model_told<'a>(mission: &'a Mission, answer: &'a Answer) -> &'a Model
     }
 }
 
-/// The line of a client's command with a number, of which this is told.
+/// The line of a client's command with a number, of which this is told. What is found for a report is kept for the next one.
 pub(crate) fn told_line(
     alloc: Global,
     mission: &Mission,
@@ -35,10 +35,12 @@ pub(crate) fn told_line(
     number: u32,
     command: &Command,
     answer: &Answer,
+    benches: &mut Benches,
 ) -> Result<String, OutOfMemory>
     requires { CanBeTold mission.now answer.now }
-    ensures { IfOk result (λ line.
+    ensures line { IfOk result (λ line.
         string_bytes line ≡ line_of_told mission.now client.now number command.now answer.now) }
+    ensures benches { benches.new ≡ benches.old }
 {
     let model = model_told(mission, answer);
     let heading = Heading {
@@ -51,8 +53,10 @@ pub(crate) fn told_line(
     match answer {
         Answer::Report(report) => {
             let constraints = report.constraints.get().as_slice();
-            let findings = find(alloc, model, report.run.get().run(), constraints)?;
-            report_line(alloc, &heading, report, &findings)
+            let findings = benches.find(alloc, &report.run, constraints)?;
+            let line = report_line(alloc, &heading, report, &findings)?;
+            benches.keep_found(report.run.share()?, findings);
+            Ok(line)
         }
         _ => reply_line(alloc, &heading, answer),
     }

@@ -23,7 +23,7 @@ use hangar_lock::Pass;
 use report_text::{Answer, Report, SequenceReport};
 use run_data::Kept;
 use scheduler::laws::fresh_runs_are_given;
-use seq_expand::expand;
+use seq_expand::{expand, expand_beside};
 use std::alloc::Global;
 use std::sync::Wait;
 use std::sync::ledger::Ledger;
@@ -156,24 +156,24 @@ pub(crate) fn reported<R: Threads + Wait + Sync, G: Gate, L: Ledger, K: Ledger>(
     }
 }
 
-/// The commands that a run gives by the rules of its model.
+/// The commands that a run gives by the rules of its model. Its spans are not found again where it was reported before.
 fn sequence_of<'a>(
     alloc: Global,
     mission: &Mission,
     found: &FetchedBranch,
     run: Shared<Kept>,
+    benches: &Benches,
 ) -> Result<Answer, OutOfMemory>
     requires plan { IsPlanOfMission mission.now found.now.plan }
     requires run { run ≡ simulated mission.now.models mission.now.bound found.now.plan }
     ensures { IfOk result (λ answer. answer ≡ sequence_told mission.now found.now.revision found.now.plan) }
 {
     let ruled = mission.ruled(&found.plan);
-    let sequence = expand(
-        alloc,
-        ruled.model.get(),
-        ruled.sequence.get(),
-        run.get().run(),
-    )?;
+    let (model, rules) = (ruled.model.get(), ruled.sequence.get());
+    let sequence = match benches.spans_of(run.get()) {
+        Some(spans) => expand_beside(alloc, model, rules, run.get().run(), spans)?,
+        None => expand(alloc, model, rules, run.get().run())?,
+    };
     Ok(Answer::Expanded(SequenceReport {
         start: mission.start,
         run,
@@ -209,7 +209,7 @@ fn expansion_of<R: Threads + Wait + Sync, G: Gate, L: Ledger, K: Ledger>(
         worker.looks,
     )?;
     attach(alloc, assignment, branch, &made.run, worker.pass)?;
-    let answer = sequence_of(alloc, mission, found, made.run)?;
+    let answer = sequence_of(alloc, mission, found, made.run, worker.benches)?;
     Ok(answer)
 }
 

@@ -8,11 +8,12 @@ ghost use Rattle.profiles.specs.OfRuns.{AreProfilesOf};
 ghost use Rattle.run_data.specs.Fresh.{IsFresh};
 ghost use Rattle.span_table.specs.SpanLaws.{AreSpansOf};
 
-use aerie_base::{List, Model, OutOfMemory};
+use crate::reported_run::ReportedRun;
+use aerie_base::{List, Model, OutOfMemory, Shared};
 use constraints::{Constraint, Violation, violations_beside};
-use profiles::{Profile, profiles};
-use run_data::Run;
-use span_table::{Span, spans};
+use profiles::Profile;
+use run_data::{Kept, Run};
+use span_table::Span;
 use std::alloc::Global;
 
 /// What is found on a run.
@@ -26,19 +27,23 @@ pub struct Findings {
     pub violations: List<List<Violation>>,
 }
 
-/// What is found on a fresh run of a model with these constraints, each thing once.
-pub fn find(
+/// What is found on a kept run with these constraints, each thing once. What was found on the run that was reported before serves
+/// again: all of it on the same run, and on another run of its model the spans of what both have in common.
+pub fn find_after(
     alloc: Global,
-    model: &Model,
-    run: &Run,
+    kept: &Shared<Kept>,
+    before: Option<ReportedRun>,
     constraints: &[Constraint],
 ) -> Result<Findings, OutOfMemory>
-    requires fresh { IsFresh model.now run.now.plan run.now.bound run.now }
-    requires constraints { IsTrue (list_all (is_constraint model.now) constraints.now) }
-    ensures { IfOk result (AreFindings model.now run.now constraints.now) }
+    requires constraints { IsTrue (list_all (is_constraint kept.now.model) constraints.now) }
+    ensures { IfOk result (AreFindings kept.now.model kept.now.run constraints.now) }
 {
-    let spans = List::from_vec(spans(alloc, model, run)?);
-    let profiles = profiles(alloc, model, run)?;
+    let (model, run) = (kept.get().model().get(), kept.get().run());
+    let ReportedRun {
+        spans,
+        profiles,
+        ..
+    } = ReportedRun::after(alloc, kept, before)?;
     let violations = violations_of(
         alloc,
         model,

@@ -5,7 +5,9 @@
 mod cells;
 mod findings;
 mod pairs;
+mod reported_run;
 
 pub use cells::cells_at;
-pub use findings::{Findings, find};
+pub use findings::{Findings, find_after};
 pub use pairs::{PairedInterval, paired_intervals};
+pub use reported_run::ReportedRun;

@@ -4,6 +4,7 @@ ghost use Rattle.std.specs.Prelude.{◌≡◌, IfOk, map, not, IsTrue};
 ghost use Rattle.std.specs.List.{filter, list_all};
 ghost use Rattle.run_data.specs.Fresh.{IsFresh};
 ghost use Rattle.span_table.specs.AsDefined.{defined_span};
+ghost use Rattle.span_table.specs.SpanLaws.{AreSpansOf};
 ghost use Rattle.seq_expand.specs.Expanding.{sequence_of, is_in_plan};
 ghost use Rattle.seq_expand.specs.OfModel.{have_shifts};
 ghost use Rattle.seq_expand.specs.Sending.{sent_by_spans as sent_by_all};
@@ -83,7 +84,23 @@ pub fn expand(
     ensures { IfOk result (λ sequence. sequence ≡ sequence_of model.now rules.now run.now) }
 {
     let spans = spans(alloc, model, run)?;
-    let sent = sent_by_spans(alloc, rules, &spans)?;
+    expand_beside(alloc, model, rules, run, &spans)
+}
+
+/// The same where the spans of the run are at hand.
+pub fn expand_beside(
+    alloc: Global,
+    model: &Model,
+    rules: &Sequencing,
+    run: &Run,
+    spans: &[Span],
+) -> Result<Sequence, OutOfMemory>
+    requires spans { AreSpansOf model.now run.now spans.now }
+    requires rules { IsTrue (list_all have_shifts rules.now.rules) }
+    ensures { IfOk result (λ sequence. sequence ≡ sequence_of model.now rules.now run.now) }
+{
+    let _ = model;
+    let sent = sent_by_spans(alloc, rules, spans)?;
     let Parted { within, outside } = parted_by_time(alloc, run.plan.get().duration, sent)?;
     let commands = List::from_vec(by_time(within)?);
     let close = close_positions(alloc, rules.spacings.as_slice(), commands.as_slice())?;

@@ -8,6 +8,6 @@ mod rules;
 mod sending;
 mod sequence;
 
-pub use expanding::expand;
+pub use expanding::{expand, expand_beside};
 pub use rules::{SendStep, SendTest, SendWord, Sequencing, SpanRule};
 pub use sequence::{Sent, Sequence};
