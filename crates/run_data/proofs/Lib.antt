@@ -15,6 +15,7 @@ mod EffectKinds
 mod EndedByCount
 mod Ending
 mod FittingFrames
+mod FollowedStates
 mod FramePaths
 mod FreshRuns
 mod Generations

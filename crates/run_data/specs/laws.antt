@@ -6,6 +6,7 @@ pub mod EndedTaskLaws
 pub mod EndedTasks
 pub mod Ending
 pub mod FittingFrames
+pub mod FollowedStates
 pub mod FramesByPath
 pub mod FreshRuns
 pub mod Generations
