@@ -22,10 +22,9 @@ use Rattle.run_data.specs.laws.LivePartLaws.{SameLive, same_of, live_of, same_du
 use Rattle.run_data.specs.laws.OpenTasks.{rested_open}
 use Rattle.run_data.specs.laws.OrderedTables.{IsOrderedTable}
 use Rattle.run_data.specs.laws.RestOfRuns.{AlikeSettled}
-use Rattle.run_data.specs.laws.RunCosts.{cost_of_batches, cost_of_instants}
 use Rattle.run_data.proofs.AlikeSteps.{append_none, step_is_alike}
 use Rattle.run_data.proofs.ReachedStates.{reached_is_of_model}
-use Rattle.run_data.proofs.RestOfRuns.{Settles, PlaceSettles, step_settles, instants_cost, spent_is_cost}
+use Rattle.run_data.proofs.RestOfRuns.{PlaceSettles, step_settles}
 use Rattle.run_data.proofs.RestOfSettled.{settled_moves}
 
 -- ---- transitions
@@ -168,7 +167,7 @@ module _ (model : Parts) (plan old_plan : Plan) (bound old_bound : ℕ) (valid :
 module _ (model : Parts) (plan old_plan : Plan) (bound old_bound : ℕ) (at other later : SimulationState) (valid : IsTrue (valid_model model))
     (is : IsPlanOf model plan) (old_is : IsPlanOf model old_plan) (lasts : plan.duration ≡ old_plan.duration)
     (reached : IsReached model plan bound (more at)) (old_reached : IsReached model old_plan old_bound (more other)) (alike : AlikeSettled at other)
-    (comes : IsReached model old_plan old_bound (more later)) (none : later.batches ≡ []) (fit : at.spent + cost_of_instants (settled_since other later) ≤ bound)
+    (comes : IsReached model old_plan old_bound (more later)) (fit : at.spent + later.spent ≤ bound + other.spent)
     (count : ℕ) (far : iterate SimulationState Run (next_state model old_plan old_bound) count (next_state model old_plan old_bound other) ≡ more later) where
   abbrev Goal : Type 0
   Goal = IsFollowed model plan bound at other later
@@ -190,17 +189,6 @@ module _ (model : Parts) (plan old_plan : Plan) (bound old_bound : ℕ) (at othe
       one : length (other.instants ++ instant_at other ∷ []) ≡ suc (length other.instants)
       one = let sum = length-append other.instants (instant_at other ∷ []) in omega (arith, sum)
 
-  -- what was spent until the later state, which no batch has begun
-  later_cost : (settled : List Instant) → later.instants ≡ (other.instants ++ instant_at other ∷ []) ++ settled → later.spent ≡ other.spent + cost_of_instants settled
-  later_cost settled e =
-      let all = spent_is_cost model old_plan old_bound later comes in
-      let first = spent_is_cost model old_plan old_bound other old_reached in
-      let empty : cost_of_batches later.batches ≡ 0 = ap cost_of_batches none in
-      let sum : cost_of_instants later.instants ≡ cost_of_instants (other.instants ++ instant_at other ∷ []) + cost_of_instants settled =
-      ap cost_of_instants e ∙ instants_cost (other.instants ++ instant_at other ∷ []) settled in
-      let last : cost_of_instants (other.instants ++ instant_at other ∷ []) ≡ cost_of_instants other.instants + (cost_of_batches other.batches + 0) = instants_cost other.instants (instant_at other ∷ []) in
-      omega (arith, all, first, empty, sum, last)
-
   -- to a later time
   time_goes : (time : ℕ) (cells : List CellState) (out : Option ℕ) → IsReached model plan bound (to_time model plan bound at time cells out) → IsReached model old_plan old_bound (to_time model old_plan old_bound other time cells out) →
       iterate SimulationState Run (next_state model old_plan old_bound) count (to_time model old_plan old_bound other time cells out) ≡ more later → Goal
@@ -208,8 +196,6 @@ module _ (model : Parts) (plan old_plan : Plan) (bound old_bound : ℕ) (at othe
   time_goes time cells None here there e =
       let ahead = grows model old_plan old_bound count _ later e in
       let settled : settled_since other later ≡ ahead.settled = since ahead.settled ahead.is in
-      let cost = later_cost ahead.settled ahead.is in
-      let same_cost : cost_of_instants (settled_since other later) ≡ cost_of_instants ahead.settled = ap cost_of_instants settled in
       let goes = all_comes model plan old_plan bound old_bound valid is old_is lasts count _ _ later here there
       (record {
         time = refl;
@@ -218,14 +204,13 @@ module _ (model : Parts) (plan old_plan : Plan) (bound old_bound : ℕ) (at othe
         touched = refl;
         tables = live_of (on_each (rested time) at.table) (on_each (rested time) other.table) (order_each (rested time) at.table order) (order_each (rested time) other.table second)
             (same_each (rested time) (λ path task. rested_open time task.phase) (λ path task. refl) at.table other.table same);
-      }) e (omega (arith, fit, cost, same_cost)) in
-      let behind : goes.settled ≡ ahead.settled = append_cancel_left (other.instants ++ instant_at other ∷ []) goes.settled ahead.settled (sym goes.old_instants ∙ ahead.is) in
-      let spent = goes.spent in record {
+      }) e fit in
+      let behind : goes.settled ≡ ahead.settled = append_cancel_left (other.instants ++ instant_at other ∷ []) goes.settled ahead.settled (sym goes.old_instants ∙ ahead.is) in record {
         next = goes.next;
         reached = goes.reached;
         alike = goes.alike;
         instants = goes.instants ∙ ap (λ l. (at.instants ++ instant_at at ∷ []) ++ l) (behind ∙ sym settled) ∙ append_assoc at.instants (instant_at at ∷ []) (settled_since other later);
-        spent = omega (arith, spent, cost, same_cost);
+        spent = goes.spent;
       }
 
   -- at the end there is no later state
@@ -255,7 +240,7 @@ module _ (model : Parts) (plan old_plan : Plan) (bound old_bound : ℕ) (at othe
           ∙ ap (below old_plan.duration) (same_due at.table other.table order second same other.time old_plan.duration other.cells)
 
 pub settled_is_followed : SettledIsFollowed
-settled_is_followed model plan old_plan bound old_bound at other later both alike comes none less fit =
+settled_is_followed model plan old_plan bound old_bound at other later both alike comes less fit =
     by (comes_later model old_plan old_bound other later both.old_reached comes less)
   where
     by : (left : ℕ) × (iterate SimulationState Run (next_state model old_plan old_bound) left (more other) ≡ more later) → IsFollowed model plan bound at other later
@@ -263,4 +248,4 @@ settled_is_followed model plan old_plan bound old_bound at other later both alik
         let same : length other.instants ≡ length later.instants = ap (λ (s : SimulationState). length s.instants) (one_state model old_plan old_bound other later e) in
         absurd (omega (arith, less, same))
     by (suc count, e) =
-        goes model plan old_plan bound old_bound at other later both.valid both.is_plan both.old_is_plan both.lasts both.reached both.old_reached alike comes none fit count e
+        goes model plan old_plan bound old_bound at other later both.valid both.is_plan both.old_is_plan both.lasts both.reached both.old_reached alike comes fit count e

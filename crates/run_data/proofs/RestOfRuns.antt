@@ -32,7 +32,7 @@ batches_cost : (batches : List (List Frame)) (frames : List Frame) → cost_of_b
 batches_cost [] frames = omega arith
 batches_cost (first ∷ rest) frames = omega (arith, batches_cost rest frames)
 
-pub instants_cost : (first rest : List Instant) → cost_of_instants (first ++ rest) ≡ cost_of_instants first + cost_of_instants rest
+instants_cost : (first rest : List Instant) → cost_of_instants (first ++ rest) ≡ cost_of_instants first + cost_of_instants rest
 instants_cost [] rest = omega arith
 instants_cost (one ∷ others) rest = omega (arith, instants_cost others rest)
 
