@@ -9,6 +9,7 @@ mod EndedBatches
 mod EngineSteps
 mod FrameByFrame
 mod GatheredFrames
+mod MovedBookmarks
 mod PassedPoints
 mod PassingTime
 mod ResumedBookmarks

@@ -55,13 +55,13 @@ module _ (model : Parts) (simulation : Simulation) (aside : IsSetAside model sim
   abbrev at : SimulationState
   at = state_of simulation.history simulation.present
 
-  goes_on : simulation.ending ≡ None
+  pub goes_on : simulation.ending ≡ None
   goes_on = open_with_job simulation.request simulation.history simulation.present simulation.ending aside.job
 
   pub point_is : ◌≡◌ {A = Next SimulationState Run} (point_in simulation) (more at)
   point_is = ap (point_by simulation.request simulation.history simulation.present) goes_on
 
-  tasks : AreTasksAt simulation.request.plan.duration simulation.present
+  pub tasks : AreTasksAt simulation.request.plan.duration simulation.present
   tasks = subst (AreTasksBefore simulation.request.plan.duration simulation.present) goes_on aside.course.tasks
 
   pub in_step : IsInStep simulation.present.tasks

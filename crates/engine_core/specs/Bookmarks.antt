@@ -1,6 +1,10 @@
 -- A simulation that was set aside at the beginning of an instant, and copies of it.
-use Rattle.std.specs.Prelude.{◌≡◌, [], None}
+use Rattle.std.specs.Prelude.{◌≡◌, ℕ, List, [], None}
 use Rattle.aerie_base.specs.declared.models.model.Parts.{Parts}
+use Rattle.run_data.specs.declared.runs.Instant.{Instant}
+use Rattle.run_data.specs.declared.runs.Run.{Run}
+use Rattle.run_data.specs.Fresh.{SimulationState}
+use Rattle.run_data.specs.Transitions.{Next, more, finished}
 use Rattle.live_tasks.specs.InStep.{table_in, IsInStep}
 use Rattle.live_tasks.specs.Waking.{KeepsWakes}
 use Rattle.engine_core.specs.EngineStates.{jobs_in, batches_in}
@@ -30,3 +34,8 @@ pub record IsCopyFor (of : Request) (simulation copy : Simulation) : Type 0 wher
   pub history : copy.history ≡ simulation.history
   pub present : IsCopyOf simulation.present copy.present
   pub open_ : copy.ending ≡ None
+
+-- a point behind other instants, at other costs
+abbrev pub point_behind : List Instant → ℕ → Next SimulationState Run → Next SimulationState Run
+point_behind instants spent (more at) = more (record at { instants = instants; spent = spent })
+point_behind instants spent (finished run) = finished run

@@ -8,8 +8,8 @@ ghost use Rattle.run_data.specs.laws.Orders.{EachOf};
 ghost use Rattle.live_tasks.specs.InStep.{IsInStep};
 ghost use Rattle.parting.specs.IdRanges.{is_id_between};
 ghost use Rattle.parting.specs.PlainLateness.{IsPlainlyLate};
-ghost use Rattle.engine_core.specs.EngineStates.{jobs_in, time_in, batches_in, instants_in, spent_in, IsEngineState};
-ghost use Rattle.engine_core.specs.Bookmarks.{IsSetAside, IsCopyOf, IsCopyFor};
+ghost use Rattle.engine_core.specs.EngineStates.{jobs_in, time_in, batches_in, instants_in, spent_in, IsEngineState, IsReachedPruned};
+ghost use Rattle.engine_core.specs.Bookmarks.{IsSetAside, IsCopyOf, IsCopyFor, point_behind};
 ghost use Rattle.engine_core.specs.Simulations.{engine_state_of};
 
 use crate::engine::{Engine, engine_at};
@@ -19,6 +19,7 @@ use crate::simulation::{Request, Simulation};
 use aerie_base::{List, Model, OutOfMemory, Plan, Shared, Time};
 use live_tasks::ready_jobs::ReadyJobs;
 use parting::laws::{edited_plans_resume, live_tasks_are_exchanged};
+use run_data::Instant;
 use run_data::laws::{instants_begin_untouched, reached_states_are_of_the_model};
 use std::alloc::Global;
 
@@ -153,6 +154,50 @@ impl Bookmark {
         ensures { result ≡ length (instants_in self.now.point) }
     {
         self.simulation.instants().len()
+    }
+
+    /// The instants that are settled before it. It takes no memory.
+    pub fn settled(&self) -> &[Shared<Instant>]
+        ensures { result.now ≡ instants_in self.now.point }
+    {
+        self.simulation.instants()
+    }
+
+    /// What the costs of the batches before it come to. It takes no memory.
+    pub fn spent(&self) -> u64
+        ensures { result ≡ spent_in self.now.point }
+    {
+        self.simulation.spent()
+    }
+
+    /// The same place in the simulation of another plan that comes there as well, behind other instants and at other costs. It takes no
+    /// memory.
+    pub fn moved(
+        self,
+        plan: Shared<Plan>,
+        bound: u64,
+        instants: List<Shared<Instant>>,
+        spent: u64,
+    ) -> Bookmark
+        requires plan { IsPlanOf self.model plan }
+        requires bound { bound ≤ step_limit }
+        requires lasts { plan.duration ≡ self.plan.duration }
+        requires comes { IsReachedPruned self.model plan bound (point_behind instants spent self.point) }
+        ensures { result ≡ record {
+          model = self.model;
+          plan = plan;
+          bound = bound;
+          point = point_behind instants spent self.point;
+        } }
+    {
+        let Bookmark {
+            model,
+            mut simulation,
+        } = self;
+        simulation.request = Request { plan, bound };
+        simulation.history.instants = instants;
+        simulation.present.spent = spent;
+        Bookmark::new(model, simulation)
     }
 
     /// The simulation of another plan, from here on. The two plans differ in directives of a range of ids alone, none of which is due
