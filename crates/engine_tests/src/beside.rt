@@ -20,7 +20,7 @@ use task_step::Direct;
 use test_worlds::{Outline, Planned, model_in, plan_of};
 
 /// Echo reads what Bump did; a parent's child sees what its parent set.
-const ECHOED: &str = "\
+pub(crate) const ECHOED: &str = "\
 model echoed {
   counter n = 0;
   counter copy = 0;
@@ -44,7 +44,7 @@ struct Told {
 }
 
 /// A plan of the model.
-fn planned_in(alloc: Global, model: &Model, planned: &[Planned]) -> Option<Shared<Plan>>
+pub(crate) fn planned_in(alloc: Global, model: &Model, planned: &[Planned]) -> Option<Shared<Plan>>
     ensures { IfSome result (λ plan. IsPlanOf model.now plan) }
 {
     let outline = Outline {
@@ -56,7 +56,7 @@ fn planned_in(alloc: Global, model: &Model, planned: &[Planned]) -> Option<Share
 }
 
 /// The kept run of a plan.
-fn kept<L: Ledger, K: Ledger>(
+pub(crate) fn kept<L: Ledger, K: Ledger>(
     alloc: Global,
     model: &Shared<Model>,
     plan: &Shared<Plan>,

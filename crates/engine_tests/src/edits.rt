@@ -12,7 +12,7 @@ const EDITS: usize = 300;
 const DIRECTIVES: usize = 12;
 
 /// The next of numbers that look random.
-fn next(number: u64) -> u64 {
+pub(crate) fn next(number: u64) -> u64 {
     number
         .wrapping_mul(6_364_136_223_846_793_005)
         .wrapping_add(1_442_695_040_888_963_407)

@@ -21,7 +21,7 @@ use Rattle.run_data.specs.laws.SettledInstants.{IsSettledInstant, InstantsAreSet
 use Rattle.engine_core.specs.EngineStates.{EngineState, IsReachedPruned, IsEngineState, jobs_in, batches_in, instants_in, spent_in}
 use Rattle.engine_core.specs.PrunedPoints.{has_whole, run_reached}
 use Rattle.resimulate.specs.AlikeByFrames.{instants_with, FramesTellAlike}
-use Rattle.resimulate.specs.EarlyEnds.{MayBeEnded, EndAtOnce, IsRest}
+use Rattle.resimulate.specs.EarlyEnds.{MayBeEnded, EndAtOnce, IsRest, AreAlikeBehind}
 use Rattle.resimulate.specs.EvenInstants.{PassesEven, frames_of_others, PaysForUneven, LooksForUneven}
 use Rattle.resimulate.specs.LastChanges.{LastChangesTellCells}
 use Rattle.resimulate.specs.Likeness.{TellAlike}
@@ -67,16 +67,17 @@ each_at P before all (first ∷ front) rest one e each =
     subst (λ l. P l one) (append_assoc before (first ∷ []) front)
     (each_at P (before ++ first ∷ []) (front ++ (one ∷ rest)) front rest one refl (subst (EachAfter P before) e each).1)
 
--- ---- the run
+-- ---- where the two are alike
 
-module _ (follow : InstantsFollowSettled) (settled : InstantsAreSettled) (taken : RestIsTakenOverSettled) (frames_tell : FramesTellAlike) (cells_tell : LastChangesTellCells)
+module _ (follow : InstantsFollowSettled) (settled : InstantsAreSettled) (frames_tell : FramesTellAlike) (cells_tell : LastChangesTellCells)
     (model : Parts) (plan : Plan) (bound : ℕ) (valid : IsTrue (valid_model model)) (is : IsPlanOf model plan)
-    (old : Run) (is_old : IsPlanOf model old.plan) (may : MayBeEnded plan old) (fresh : IsFresh model old.plan old.bound old) (before rest : List Instant) (parts : old.instants ≡ before ++ rest) where
-  ended : (later : SimulationState) (follows : FollowsSettled model plan bound later) → EndAtOnce later.instants before → later.spent + cost_of_instants rest ≤ bound → TellAlike model plan old.plan later.instants before →
-      IsFresh model plan bound (completed_run plan bound (later.instants ++ rest))
-  ended later follows once paid tell =
-      subst (λ l. IsFresh model plan bound (completed_run plan bound l)) (sym (ap (λ l. l ++ rest) follows.instants ∙ append_assoc at.instants (instant_at at ∷ []) rest))
-      (taken model plan old.plan bound old.bound at other old rest both alike fresh may.completed is_rest (let spent = follows.spent in omega (arith, paid, spent)))
+    (old : Run) (is_old : IsPlanOf model old.plan) (lasts : plan.duration ≡ old.plan.duration) (fresh : IsFresh model old.plan old.bound old) (before rest : List Instant) (parts : old.instants ≡ before ++ rest) where
+  abbrev Behind : List Instant → ℕ → Type 0
+  Behind instants spent = AreAlikeBehind model plan old.plan bound old.bound instants spent before
+
+  ended : (later : SimulationState) (follows : FollowsSettled model plan bound later) → EndAtOnce later.instants before → TellAlike model plan old.plan later.instants before → Behind later.instants later.spent
+  ended later follows once tell =
+      record { at = at; other = other; both = both; alike = alike; settles = follows.instants; spends = follows.spent; old_settles = sym others }
     where
       at : SimulationState
       at = follows.at
@@ -95,9 +96,6 @@ module _ (follow : InstantsFollowSettled) (settled : InstantsAreSettled) (taken 
       others : instants_with other ≡ before
       others = (λ i. instant.instants_before i ++ instant.is_instant i ∷ []) ∙ sym parted.1
 
-      is_rest : old.instants ≡ other.instants ++ (instant_at other ∷ rest)
-      is_rest = parts ∙ ap (λ l. l ++ rest) (sym others) ∙ append_assoc other.instants (instant_at other ∷ []) rest
-
       mine : (front : List Instant) × (later.instants ≡ front ++ once.last ∷ [])
       mine = ends_with later.instants once.last once.is_last
 
@@ -107,7 +105,7 @@ module _ (follow : InstantsFollowSettled) (settled : InstantsAreSettled) (taken 
           ∙ ap (λ (i : Instant). i.time) (sym instant.is_instant)
 
       both : BothReach model plan old.plan bound old.bound at other
-      both = record { valid = valid; is_plan = is; old_is_plan = is_old; lasts = may.lasts; reached = follows.is_reached; old_reached = instant.is_reached }
+      both = record { valid = valid; is_plan = is; old_is_plan = is_old; lasts = lasts; reached = follows.is_reached; old_reached = instant.is_reached }
 
       told : TellAlike model plan old.plan (instants_with at) (instants_with other)
       told = subst (λ l. TellAlike model plan old.plan l (instants_with other)) follows.instants (subst (TellAlike model plan old.plan later.instants) (sym others) tell)
@@ -121,35 +119,48 @@ module _ (follow : InstantsFollowSettled) (settled : InstantsAreSettled) (taken 
         tables = frames_tell model plan old.plan bound old.bound at other both follows.is_settled instant.is_settled told.0;
       }
 
-  begun : (later : SimulationState) → IsReached model plan bound (more later) → later.batches ≡ [] → EndAtOnce later.instants before → later.spent + cost_of_instants rest ≤ bound →
-      TellAlike model plan old.plan later.instants before → IsFresh model plan bound (completed_run plan bound (later.instants ++ rest))
-  begun later reached none once paid tell = by (follow model plan bound later reached none)
+  begun : (later : SimulationState) → IsReached model plan bound (more later) → later.batches ≡ [] → EndAtOnce later.instants before →
+      TellAlike model plan old.plan later.instants before → Behind later.instants later.spent
+  begun later reached none once tell = by (follow model plan bound later reached none)
     where
-      by : (later.instants ≡ []) ⊎ FollowsSettled model plan bound later → IsFresh model plan bound (completed_run plan bound (later.instants ++ rest))
+      by : (later.instants ≡ []) ⊎ FollowsSettled model plan bound later → Behind later.instants later.spent
       by (inl empty) =
           let clash : None ≡ Some once.last = sym (ap (λ (l : List Instant). slice_get l (length l - 1)) empty) ∙ once.is_last in absurd (cc)
-      by (inr follows) = ended later follows once paid tell
+      by (inr follows) = ended later follows once tell
 
   -- an engine of the plan
   point_ends : (point : Next SimulationState Run) → IsReachedPruned model plan bound point → (jobs_in point ≡ [] → ⊥) → batches_in point ≡ [] → EndAtOnce (instants_in point) before →
-      spent_in point + cost_of_instants rest ≤ bound → TellAlike model plan old.plan (instants_in point) before → IsFresh model plan bound (completed_run plan bound (instants_in point ++ rest))
-  point_ends (finished run) comes some none once paid tell = absurd (some refl)
-  point_ends (more at) comes some none once paid tell =
+      TellAlike model plan old.plan (instants_in point) before → Behind (instants_in point) (spent_in point)
+  point_ends (finished run) comes some none once tell = absurd (some refl)
+  point_ends (more at) comes some none once tell =
       let from = has_whole model plan bound at comes in
-      subst (λ (s : SimulationState). IsFresh model plan bound (completed_run plan bound (s.instants ++ rest))) from.is
+      subst (λ (s : SimulationState). Behind s.instants s.spent) from.is
       (begun from.whole from.reached (ap (λ (s : SimulationState). s.batches) from.is ∙ none) (subst (λ (s : SimulationState). EndAtOnce s.instants before) (sym from.is) once)
-      (subst (λ (s : SimulationState). s.spent + cost_of_instants rest ≤ bound) (sym from.is) paid) (subst (λ (s : SimulationState). TellAlike model plan old.plan s.instants before) (sym from.is) tell))
+      (subst (λ (s : SimulationState). TellAlike model plan old.plan s.instants before) (sym from.is) tell))
 
-pub rest_is : InstantsFollowSettled → InstantsAreSettled → RestIsTakenOverSettled → FramesTellAlike → LastChangesTellCells → (model : Parts) (plan : Plan) (bound : ℕ) → IsTrue (valid_model model) →
+pub alike_behind : InstantsFollowSettled → InstantsAreSettled → FramesTellAlike → LastChangesTellCells → (model : Parts) (plan : Plan) (bound : ℕ) → IsTrue (valid_model model) →
     (old : Run) → IsPlanOf model old.plan → MayBeEnded plan old → IsFresh model old.plan old.bound old → (before rest : List Instant) → old.instants ≡ before ++ rest → (engine : EngineState) → IsEngineState engine →
     engine.model ≡ model → engine.plan ≡ plan → engine.bound ≡ bound → (jobs_in engine.point ≡ [] → ⊥) → batches_in engine.point ≡ [] → EndAtOnce (instants_in engine.point) before →
-    spent_in engine.point + cost_of_instants rest ≤ bound → TellAlike model plan old.plan (instants_in engine.point) before → IsRest model plan bound engine rest
-rest_is follow settled taken frames_tell cells_tell model plan bound valid old is_old may fresh before rest parts engine stands same_model same_plan same_bound =
-    point_ends follow settled taken frames_tell cells_tell model plan bound valid
-    (subst (λ (m : Parts). IsPlanOf m plan) same_model (subst (IsPlanOf engine.model) same_plan stands.plan)) old is_old may fresh before rest parts engine.point
+    TellAlike model plan old.plan (instants_in engine.point) before →
+    AreAlikeBehind model plan old.plan bound old.bound (instants_in engine.point) (spent_in engine.point) before
+alike_behind follow settled frames_tell cells_tell model plan bound valid old is_old may fresh before rest parts engine stands same_model same_plan same_bound =
+    point_ends follow settled frames_tell cells_tell model plan bound valid
+    (subst (λ (m : Parts). IsPlanOf m plan) same_model (subst (IsPlanOf engine.model) same_plan stands.plan)) old is_old may.lasts fresh before rest parts engine.point
     (subst (λ (m : Parts). IsReachedPruned m plan bound engine.point) same_model
     (subst (λ (p : Plan). IsReachedPruned engine.model p bound engine.point) same_plan
     (subst (λ n. IsReachedPruned engine.model engine.plan n engine.point) same_bound stands.reached)))
+
+-- ---- the run
+
+pub rest_behind : RestIsTakenOverSettled → (model : Parts) (plan : Plan) (bound : ℕ) (old : Run) → MayBeEnded plan old → IsFresh model old.plan old.bound old → (before rest : List Instant) → old.instants ≡ before ++ rest →
+    (instants : List Instant) (spent : ℕ) → AreAlikeBehind model plan old.plan bound old.bound instants spent before → spent + cost_of_instants rest ≤ bound →
+    IsFresh model plan bound (completed_run plan bound (instants ++ rest))
+rest_behind taken model plan bound old may fresh before rest parts instants spent behind paid =
+    subst (λ l. IsFresh model plan bound (completed_run plan bound l)) (sym (ap (λ l. l ++ rest) behind.settles ∙ append_assoc behind.at.instants (instant_at behind.at ∷ []) rest))
+    (taken model plan old.plan bound old.bound behind.at behind.other old rest behind.both behind.alike fresh may.completed is_rest (let spends = behind.spends in omega (arith, paid, spends)))
+  where
+    is_rest : old.instants ≡ behind.other.instants ++ (instant_at behind.other ∷ rest)
+    is_rest = parts ∙ ap (λ l. l ++ rest) behind.old_settles ∙ append_assoc behind.other.instants (instant_at behind.other ∷ []) rest
 
 -- the first instants are those of the old run, where they are shared
 first_at : (model : Parts) (plan : Plan) (bound : ℕ) (old : Run) (count : ℕ) → SharesFirst model plan bound old count → (point : Next SimulationState Run) → IsReachedPruned model plan bound point → (number : ℕ) →

@@ -19,3 +19,5 @@ mod Likenesses
 mod SharedInstants
 mod CommonDirectives
 mod EarlyEnds
+mod FollowedMarks
+mod MarkLists

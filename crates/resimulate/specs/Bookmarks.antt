@@ -23,3 +23,24 @@ pub record IsEngineOf (model : Parts) (plan : Plan) (bound : ℕ) (engine : Engi
   pub same_plan : engine.plan ≡ plan
   pub same_bound : engine.bound ≡ bound
   pub stands : IsEngineState engine
+
+-- ---- the bookmarks of one simulation
+
+-- what they are of: the simulation of a plan of a model under a bound
+pub record MarkedSimulation : Type 0 where
+  pub model : Parts
+  pub plan : Plan
+  pub bound : ℕ
+
+-- a bookmark of that simulation
+pub record IsMarkOf (model : Parts) (plan : Plan) (bound : ℕ) (mark : EngineState) : Type 0 where
+  pub same_model : mark.model ≡ model
+  pub same_plan : mark.plan ≡ plan
+  pub same_bound : mark.bound ≡ bound
+
+abbrev pub IsMarkIn : MarkedSimulation → EngineState → Type 0
+IsMarkIn of mark = IsMarkOf of.model of.plan of.bound mark
+
+-- bookmarks of this simulation
+abbrev pub IsMarked : Parts → Plan → ℕ → MarkedSimulation → Type 0
+IsMarked model plan bound of = of ≡ record { model = model; plan = plan; bound = bound }

@@ -18,3 +18,5 @@ pub mod PartingCases
 pub mod ExchangingCases
 pub mod JoiningCases
 pub mod BookmarkCases
+pub mod Followed
+pub mod FollowedCases

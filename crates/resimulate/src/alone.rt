@@ -8,7 +8,7 @@ ghost use Rattle.run_data.specs.RunFrames.{PaysForRun, LooksForRun};
 ghost use Rattle.run_data.specs.Waves.{RoseAlike};
 ghost use Rattle.engine_core.specs.EngineStates.{OfSameModels};
 
-use crate::bookmarks::Bookmarks;
+use crate::bookmarks::{Bookmarks, MarkedStart};
 use crate::tally::Tally;
 use aerie_base::{Model, OutOfMemory, Plan, Shared, Steps};
 use run_data::laws::{
@@ -49,12 +49,17 @@ pub fn simulate_with_bookmarks<S: Stepper, L: Ledger, K: Ledger>(
     reached_states_are_of_the_model();
     what_has_ended_may_be_left_out();
     let _ = model.get().cells();
-    let mut engine = bookmarks.begin(alloc, model.get(), plan, bound, 0, None)?;
+    let MarkedStart {
+        mut engine,
+        mut marks,
+        ..
+    } = bookmarks.begin(alloc, model.get(), model, plan, bound)?;
     let directives = plan.get().directives.as_slice().len();
     let mut tally = Tally::new(directives, engine.instants());
     while !engine.ready().is_empty() {
-        bookmarks.note_if_paid_for(alloc, model, &engine, &mut tally);
+        marks.note_if_paid_for(alloc, &engine, &mut tally);
         engine = engine.step(alloc, stepper, steps, looks)?;
     }
+    bookmarks.keep(marks);
     Ok(engine.finish())
 }

@@ -5,8 +5,8 @@ ghost use Rattle.aerie_base.specs.plans.OfModel.{IsPlanOf};
 ghost use Rattle.run_data.specs.declared.runs.Outcome.TheVariants.{Completed};
 ghost use Rattle.run_data.specs.Fresh.{IsFresh};
 ghost use Rattle.run_data.specs.laws.RunCosts.{cost_of_instants};
-ghost use Rattle.engine_core.specs.EngineStates.{batches_in, instants_in, jobs_in};
-ghost use Rattle.resimulate.specs.EarlyEnds.{EndAtOnce, IsRest, MayBeEnded};
+ghost use Rattle.engine_core.specs.EngineStates.{batches_in, instants_in, jobs_in, spent_in};
+ghost use Rattle.resimulate.specs.EarlyEnds.{AreAlikeBehind, EndAtOnce, IsRest, MayBeEnded};
 ghost use Rattle.resimulate.specs.Partings.{AreSameOutside, MayEndFrom};
 ghost use Rattle.resimulate.specs.SharedEnds.{SharesEnds};
 
@@ -26,6 +26,8 @@ use std::alloc::Global;
 pub(crate) struct SharedEnd<'r> {
     /// How many of the first instants of both are known to be the same.
     pub(crate) first: usize,
+    /// The instants of the old run behind which the two are alike.
+    pub(crate) before: &'r [Shared<Instant>],
     /// The last instants of both.
     pub(crate) rest: &'r [Shared<Instant>],
 }
@@ -113,6 +115,9 @@ pub(crate) fn rest_if_alike<'a, 'r>(
         IsRest model.now plan.now bound engine.now it.rest.now)) }
     ensures shares { IfOk result (λ found. IfSome found (λ it. SharesEnds
         old.now.instants (instants_in engine.now.point ++ it.rest.now) it.first (length it.rest.now))) }
+    ensures alike { IfOk result (λ found. IfSome found (λ it.
+        AreAlikeBehind model.now plan.now old.now.plan bound old.now.bound
+        (instants_in engine.now.point) (spent_in engine.now.point) it.before.now)) }
 {
     instants_follow_settled_states();
     frames_tell_alike();
@@ -142,5 +147,9 @@ pub(crate) fn rest_if_alike<'a, 'r>(
     if !alike {
         return Ok(None);
     }
-    Ok(Some(SharedEnd { first, rest }))
+    Ok(Some(SharedEnd {
+        first,
+        before,
+        rest,
+    }))
 }

@@ -6,15 +6,15 @@ ghost use Rattle.aerie_base.specs.plans.OfModel.{IsPlanOf};
 ghost use Rattle.run_data.specs.Fresh.{IsFresh};
 ghost use Rattle.run_data.specs.Waves.{RoseAlike};
 ghost use Rattle.engine_core.specs.BatchGenerations.{Ran};
-ghost use Rattle.engine_core.specs.EngineStates.{batches_in, instants_in, jobs_in, OfSameModels};
+ghost use Rattle.engine_core.specs.EngineStates.{batches_in, instants_in, jobs_in, spent_in, OfSameModels};
 ghost use Rattle.fitting.specs.Fitting.{IsOldBatch};
-ghost use Rattle.resimulate.specs.EarlyEnds.{IsRest};
+ghost use Rattle.resimulate.specs.EarlyEnds.{AreAlikeBehind, IsRest};
 ghost use Rattle.resimulate.specs.EvenInstants.{PaysForUneven, LooksForUneven};
 ghost use Rattle.resimulate.specs.Partings.{AreSameOutside, MayEndFrom};
 ghost use Rattle.resimulate.specs.SharedEnds.{SharesEnds};
 ghost use Rattle.resimulate.specs.Walks.{FindsReady, AreOfNextBatch, BatchDiffers, GoesOn, counts_by};
 
-use crate::bookmarks::Bookmarks;
+use crate::bookmarks::{Bookmarks, MarkedStart};
 use crate::cursor::Cursor;
 use crate::early_ends::{SharedEnd, rest_if_alike};
 use crate::pace::Pace;
@@ -190,6 +190,9 @@ fn rest_if_due<'a, 'r>(
         IsRest model.now plan.now bound engine.now it.rest.now)) }
     ensures shares { IfOk result (λ found. IfSome found (λ it. SharesEnds
         old.now.instants (instants_in engine.now.point ++ it.rest.now) it.first (length it.rest.now))) }
+    ensures alike { IfOk result (λ found. IfSome found (λ it.
+        AreAlikeBehind model.now plan.now old.now.plan bound old.now.bound
+        (instants_in engine.now.point) (spent_in engine.now.point) it.before.now)) }
 {
     let Some(shared) = may_end else {
         return Ok(None);
@@ -250,18 +253,26 @@ pub fn resimulate_sharing<S: Stepper, L: Ledger, K: Ledger>(
     let parting = parting_of(planned, run.plan.get());
     let may_end = may_end_from(model, planned, bound, run, &parting);
     let mut found = Vec::new(alloc);
-    let many = instants.len();
-    let mut engine = bookmarks.begin(alloc, model, plan, bound, many, may_end)?;
+    let MarkedStart {
+        mut engine,
+        mut marks,
+        late,
+    } = bookmarks.begin(alloc, model, old.model(), plan, bound)?;
     let settled = engine.instants().len();
+    marks.spread(settled, instants.len(), may_end);
     let mut cursor = Cursor::new(instants, settled);
     let mut pace = Pace::new(instants.len(), planned.directives.as_slice().len(), settled);
     while !engine.ready().is_empty() {
-        bookmarks.note(alloc, old.model(), &engine);
+        marks.note(alloc, &engine);
         cursor.go_to(engine.time());
         let ending = rest_if_due(
             alloc, model, planned, bound, &engine, run, &cursor, &parting, may_end, &mut pace,
         )?;
         if let Some(ending) = ending {
+            if let Some(late) = late {
+                marks.follow(alloc, late, model, run, &engine, ending.before);
+            }
+            bookmarks.keep(marks);
             let ended = engine.end_with(ending.rest)?;
             let last = ending.rest.len();
             return Ok(SharingRun {
@@ -275,6 +286,7 @@ pub fn resimulate_sharing<S: Stepper, L: Ledger, K: Ledger>(
             alloc, model, bound, engine, beside, &mut found, &mut pace, stepper, steps, looks,
         )?;
     }
+    bookmarks.keep(marks);
     let made = engine.finish();
     Ok(SharingRun {
         run: made,

@@ -30,8 +30,9 @@ returns-in_err-engine-clause-opened g c = rose_not (g.S.Stepper.opened c.args.st
 pub loop-run-init : goal.loop-run-init
 loop-run-init g c = record {
   beside =
-      beside_first c.args.model.now c.args.plan.now c.args.bound c.args.old.now.run (g.S.Stepper.records c.args.stepper.now) c.args.steps.now c.args.looks.now c.in_ok-engine.engine
-      c.in_ok-engine.ensures;
+      beside_first c.args.model.now c.args.plan.now c.args.bound c.args.old.now.run (g.S.Stepper.records c.args.stepper.now) c.args.steps.now c.args.looks.now c.in_ok-engine.field-0.engine
+      c.in_ok-engine.ensures.engine;
+  marks = c.spread.ensures ∙ c.in_ok-engine.ensures.marks;
   cursor = c.new-cursor.ensures ∙ c.as_slice-instants.ensures ∙ ap (λ (r : Run). r.instants) c.run-run.ensures.value;
   ran =
       ran_not (g.S.Stepper.is_of c.args.stepper.now) (g.S.Stepper.records c.args.stepper.now) (g.S.Stepper.address c.args.stepper.now) (g.S.Stepper.opened c.args.stepper.now)
@@ -68,6 +69,7 @@ loop-run-preserved g c =
           beside_on c.args.model.now c.args.plan.now c.args.bound old (g.S.Stepper.records c.args.stepper.now) c.args.steps.now c.args.looks.now c.loop-run.engine c.loop-run.steps c.loop-run.looks
           c.loop-run.invariant.beside some c.in_ok-engine-2.engine _ (g.S.Stepper.records c.loop-run.stepper) c.loop-run.invariant.ran.records c.next_batch.new.steps c.next_batch.new.looks
           c.in_ok-engine-2.ensures.goes_on rise (c.batch-beside.ensures ∙ ap (batch_of (length c.batches.result.now)) here ∙ (λ i. batch_at (c.time.ensures i) (many i) old.instants));
+      marks = c.note.ensures ∙ c.loop-run.invariant.marks;
       cursor = c.go_to.ensures.instants ∙ c.loop-run.invariant.cursor;
       ran = ran_on c.loop-run.invariant.ran c.next_batch.ensures.ran;
     }

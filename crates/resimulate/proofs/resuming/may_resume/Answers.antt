@@ -5,7 +5,7 @@ use Rattle.run_data.specs.laws.Orders.{EachOf}
 use Rattle.parting.specs.IdRanges.{is_id_between}
 use Rattle.parting.specs.PlainLateness.{IsPlainlyLate}
 use Rattle.resimulate.proofs.SharedInstants.{differ_late, plainly_late}
-use Rattle.resimulate.proofs.bookmarks.may_resume.Goals as goal
+use Rattle.resimulate.proofs.resuming.may_resume.Goals as goal
 
 pub returns : goal.returns
 returns c agreed =
