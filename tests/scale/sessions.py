@@ -243,6 +243,13 @@ def moves(number):
     return ORBITER + orbit_plan(number) + client(["simulate main", *commands])
 
 
+def scattered(number):
+    """the same, but each move stands far from the one before it"""
+    places = moved(number)
+    commands = [it for at in range(20) for it in (places[at * 7 % 20], "simulate main")]
+    return ORBITER + orbit_plan(number) + client(["simulate main", *commands])
+
+
 def moves_quiet(number):
     """the same moves with one simulation before them"""
     return ORBITER + orbit_plan(number) + client(["simulate main", *moved(number)])
