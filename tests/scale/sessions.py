@@ -244,7 +244,7 @@ def moves(number):
 
 
 def scattered(number):
-    """the same, but each move stands far from the one before it"""
+    """the same moves, each far from the one before it"""
     places = moved(number)
     commands = [it for at in range(20) for it in (places[at * 7 % 20], "simulate main")]
     return ORBITER + orbit_plan(number) + client(["simulate main", *commands])
@@ -310,7 +310,7 @@ def downlinks(number):
 
 
 ALL = [orbit, judged, shifted, lasting, same, waits, rising, chain, star, children, calls, daemon, wide, edits, turns, load, merge, series, sequence, branches]
-ALL += [moves, moves_quiet, repeats, alone, together, goals, marks, downlinks]
+ALL += [moves, scattered, moves_quiet, repeats, alone, together, goals, marks, downlinks]
 KINDS = {it.__name__: it for it in ALL}
 
 
