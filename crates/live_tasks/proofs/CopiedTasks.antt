@@ -15,7 +15,7 @@ use Rattle.live_tasks.specs.Endings.{IsNumberAmong, AreLive}
 use Rattle.live_tasks.specs.Followers.{AreFollowers}
 use Rattle.live_tasks.specs.InStep.{slots_in, IsInStep}
 use Rattle.live_tasks.specs.ListedSlots.{ListsExactly}
-use Rattle.live_tasks.specs.Listing.{DelayEnd, ends_at, HaveAllReady, AreReadyAlone, AreDelays, AreOnlyListed}
+use Rattle.live_tasks.specs.Listing.{DelayEnd, has_delay, ends_at, HaveAllReady, AreReadyAlone, IsDelayHeap, AreDelays, AreOnlyListed}
 use Rattle.live_tasks.specs.Slots.{Slots, table_of}
 use Rattle.live_tasks.specs.WakeTimes.{numbered_wait, kept_time, is_stale, wake_cmp, has_wake}
 use Rattle.live_tasks.specs.Waits.{watcher_of, KeepsRight}
@@ -36,10 +36,13 @@ same_slots (found ∷ rest) (one ∷ copy) e = λ i. same_slot found one e.0 i �
 
 -- ---- lists
 
-pub copied_listed : (slots new : Slots) (readies more : List ℕ) (ends after : List DelayEnd) → new ≡ slots → more ≡ readies → AreDelays new after → AreOnlyListed slots readies ends →
-    AreOnlyListed new more after
-copied_listed slots new readies more ends after same again delays listed = record {
-  all = record { readies_ = subst (λ s. HaveAllReady s more) (sym same) (subst (HaveAllReady slots) (sym again) listed.all.readies_); delays_ = delays };
+pub copied_listed : (slots new : Slots) (readies more : List ℕ) (ends after : List DelayEnd) → new ≡ slots → more ≡ readies → ((time number : ℕ) → has_delay after time number ≡ has_delay ends time number) →
+    (IsDelayHeap ends → IsDelayHeap after) → AreOnlyListed slots readies ends → AreOnlyListed new more after
+copied_listed slots new readies more ends after same again delays heap listed = record {
+  all = record {
+    readies_ = subst (λ s. HaveAllReady s more) (sym same) (subst (HaveAllReady slots) (sym again) listed.all.readies_);
+    delays_ = subst (λ s. AreDelays s after) (sym same) (record { heap = heap listed.all.delays_.heap; exact = λ time number. delays time number ∙ listed.all.delays_.exact time number });
+  };
   alone = subst (λ s. AreReadyAlone s more) (sym same) (subst (AreReadyAlone slots) (sym again) listed.alone);
 }
 

@@ -37,6 +37,15 @@ not_there : (one : DelayEnd) (ends : List DelayEnd) → AllByRecursion (λ other
 not_there one [] none = refl
 not_there one (first ∷ rest) none = (λ i. none.0 i || not_there one rest none.1 i)
 
+-- ---- the same in another order
+
+module _ (ends later : List DelayEnd) (moved : IsPermutation ends later) where
+  pub has_same : (time number : ℕ) → has_delay later time number ≡ has_delay ends time number
+  has_same time number = sym (list_any-IsPermutation (is_same_end (delay_end time number)) ends later moved)
+
+  pub same_once : IsDistinct is_same_end ends → IsDistinct is_same_end later
+  same_once once = IsDistinct-IsPermutation is_same_end flips _ _ moved once
+
 -- ---- one more
 
 module _ (ends later : List DelayEnd) (until number : ℕ) (delay : Option ℕ) (is : delay ≡ Some until) (moved : IsPermutation (delay_end until number ∷ ends) later) where

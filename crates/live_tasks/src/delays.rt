@@ -1,6 +1,6 @@
 //! The ends of delays: only the first of them is ever taken out, so they stand in a heap.
 
-ghost use Rattle.std.specs.Prelude.{◌≡◌, ◌<◌, ℕ, false, None, length, IfSome, OnOk};
+ghost use Rattle.std.specs.Prelude.{◌≡◌, ◌<◌, ℕ, false, None, length, IfOk, IfSome, OnOk};
 ghost use Rattle.std.specs.BinaryHeap.{heap_items};
 ghost use Rattle.live_tasks.specs.LeastTimes.{IsNoneBefore, IsLeastTime};
 ghost use Rattle.live_tasks.specs.Listing.{has_delay, IsDelayHeap, HasDelayToo, StaysHeap, IsFirstEnd, HasDelayNoMore};
@@ -17,6 +17,20 @@ pub fn no_delays(alloc: Global) -> BinaryHeap<Reverse<(u64, usize)>>
     ensures heap { IsDelayHeap (heap_items result) }
 {
     BinaryHeap::new(alloc)
+}
+
+/// The same ends of delays once more.
+pub fn copy_delays(
+    alloc: Global,
+    delays: &BinaryHeap<Reverse<(u64, usize)>>,
+) -> Result<BinaryHeap<Reverse<(u64, usize)>>, OutOfMemory>
+    ensures same { IfOk result (λ copy. (time number : ℕ) →
+        has_delay (heap_items copy) time number ≡ has_delay (heap_items delays.now) time number) }
+    ensures heap { IfOk result (λ copy.
+        IsDelayHeap (heap_items delays.now) → IsDelayHeap (heap_items copy)) }
+{
+    let ends = Vec::from_slice(alloc, delays.as_slice())?;
+    Ok(BinaryHeap::from(ends))
 }
 
 /// Puts the end of a delay, if there is one, among others with the number of its task.

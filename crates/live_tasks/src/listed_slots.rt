@@ -14,7 +14,7 @@ ghost use Rattle.live_tasks.specs.Listing.{is_ready_slot, is_newly_ready, listed
 ghost use Rattle.live_tasks.specs.LeastTimes.{IsNoneBefore};
 ghost use Rattle.live_tasks.specs.ListedSlots.{ListsExactly, ListsAll, KeepsAll, KeepsExactly, KeepsWaits, AreWaitsKeptFor, slot_in};
 
-use crate::delays::{end_first, first_due, list_delay, no_delays};
+use crate::delays::{copy_delays, end_first, first_due, list_delay, no_delays};
 use crate::readies::{ReadyTask, in_order, numbers_of, of_numbers, rise};
 use crate::slots::{
     Slot, count, delay, fall_due, insert, is_ready, leave_out, rest, step, take_out, tell,
@@ -95,7 +95,7 @@ impl ListedSlots {
     {
         let slots = self.slots.clone()?;
         let readies = Vec::from_slice(alloc, self.readies.as_slice())?;
-        let delays = delays_of(alloc, &slots)?;
+        let delays = copy_delays(alloc, &self.delays)?;
         let waits = self.waits.copy(alloc)?;
         Ok(ListedSlots {
             slots,

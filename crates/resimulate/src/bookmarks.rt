@@ -1,14 +1,16 @@
 //! From where the simulation of an edited plan may begin: bookmarks of the last simulations.
 
-ghost use Rattle.std.specs.Prelude.{◌≡◌, ◌≤◌, IfOk, IfSome};
+ghost use Rattle.std.specs.Prelude.{◌≡◌, ◌≤◌, IfOk, IfSome, OnSome};
 ghost use Rattle.aerie_base.specs.Ranges.{step_limit};
 ghost use Rattle.aerie_base.specs.plans.OfModel.{IsPlanOf};
-ghost use Rattle.resimulate.specs.Bookmarks.{IsEngineOf, IsMarked};
+ghost use Rattle.resimulate.specs.Bookmarks.{AreOfOld, IsEngineOf, IsMarked, IsMarkedBy, IsPartedFrom};
+ghost use Rattle.resimulate.specs.Partings.{PartsBy};
 
 use crate::marks::Marks;
-use crate::partings::parting_of;
+use crate::partings::{Parting, parting_of};
 use aerie_base::{Model, OutOfMemory, Plan, Shared};
 use engine_core::Engine;
+use run_data::Run;
 use std::alloc::Global;
 
 /// Of how many simulations bookmarks are kept at most.
@@ -16,7 +18,7 @@ const MOST: usize = 16;
 
 /// The last simulations, set aside at the beginnings of some instants: of each the bookmarks that stand before the edits that came
 /// later, the earlier ones in front. What stands before the last bookmark that is before an edit is not simulated again. Bookmarks of
-/// the last simulation behind the edit are taken over by the next one where it is alike with the last.
+/// the old run behind the edit are taken over by the next simulation where it is alike with that run.
 #[derive(Drop)]
 pub struct Bookmarks {
     simulations: Vec<Marks>,
@@ -29,8 +31,48 @@ pub(crate) struct MarkedStart<'a> {
     pub(crate) engine: Engine<'a>,
     /// Its bookmarks, none yet.
     pub(crate) marks: Marks,
-    /// Those of the last simulation that are not before the edit, the last one first.
+    /// Those of the old run that are not before the edit, the last one first.
     pub(crate) late: Option<Marks>,
+}
+
+/// An old run, and where a plan parts from its plan.
+#[derive(Clone, Copy)]
+pub(crate) struct OldRun<'r> {
+    pub(crate) run: &'r Run,
+    pub(crate) parting: Option<Parting>,
+}
+
+/// The old run, if bookmarks are of its simulation.
+fn old_run_of<'r>(
+    marks: &Marks,
+    model: &Model,
+    plan: &Plan,
+    old: Option<OldRun<'r>>,
+) -> Option<OldRun<'r>>
+    requires { IfSome old (IsPartedFrom plan.now) }
+    ensures same { OnSome result (result ≡ old) }
+    ensures of { IfSome result (IsMarkedBy model.now marks.now) }
+    ensures parted { IfSome result (IsPartedFrom plan.now) }
+{
+    let it = old?;
+    if marks.is_of(model, it.run) {
+        Some(it)
+    } else {
+        None
+    }
+}
+
+/// Where a plan parts from that of the bookmarks, which is known where they are of the old run.
+fn parting_from(plan: &Plan, marks: &Marks, model: &Model, old: &Option<OldRun>) -> Option<Parting>
+    requires of { IfSome old.now (IsMarkedBy model.now marks.now) }
+    requires parted { IfSome old.now (IsPartedFrom plan.now) }
+    ensures { PartsBy plan.now marks.now.plan result }
+{
+    let _ = model;
+    match old {
+        Some(it) => it.parting,
+        None => parting_of(plan, marks.plan.get()),
+    }
 }
 
 /// An engine that was found, or else that of a plan before its first batch.
@@ -84,30 +126,36 @@ impl Bookmarks {
     }
 
     /// The engine of a plan at the last bookmark at which its simulation may begin, if there is one. Later bookmarks are dropped, but for
-    /// those of the last simulation.
-    fn resume<'a>(
+    /// those of the old run.
+    #[allow(clippy::too_many_arguments)]
+    fn resume<'a, 'r>(
         &mut self,
         alloc: Global,
         model: &'a Model,
         plan: &Shared<Plan>,
         bound: u64,
+        old: Option<OldRun<'r>>,
         late: &mut Option<Marks>,
     ) -> Result<Option<Engine<'a>>, OutOfMemory>
         requires plan { IsPlanOf model.now plan.now }
         requires bound { bound ≤ step_limit }
-        ensures { IfOk result (λ found. IfSome found (IsEngineOf model.now plan.now bound)) }
+        requires parted { IfSome old (IsPartedFrom plan.now) }
+        requires late { AreOfOld model.now old late.old }
+        ensures found { IfOk result (λ found. IfSome found (IsEngineOf model.now plan.now bound)) }
+        ensures late { AreOfOld model.now old late.new }
     {
         for _simulation in 0..self.simulations.len() {
             let Some(mut marks) = self.simulations.pop() else {
                 return Ok(None);
             };
-            let Some(parting) = parting_of(plan.get(), marks.plan.get()) else {
+            let same = old_run_of(&marks, model, plan.get(), old);
+            let Some(parting) = parting_from(plan.get(), &marks, model, &same) else {
                 self.simulations.clear();
                 return Ok(None);
             };
             let mut behind = marks.none_yet(alloc)?;
             marks.move_late(parting.until, &mut behind);
-            if late.is_none() {
+            if same.is_some() {
                 *late = Some(behind);
             }
             let found = marks.resumed(alloc, model, plan, bound, &parting)?;
@@ -119,24 +167,29 @@ impl Bookmarks {
         Ok(None)
     }
 
-    /// The simulation of a plan, from the last bookmark on at which it may begin, or else from its start on.
-    pub(crate) fn begin<'a>(
+    /// The simulation of a plan, from the last bookmark on at which it may begin, or else from its start on; beside an old run, where
+    /// there is one.
+    #[allow(clippy::too_many_arguments)]
+    pub(crate) fn begin<'a, 'r>(
         &mut self,
         alloc: Global,
         model: &'a Model,
         shared: &Shared<Model>,
         plan: &Shared<Plan>,
         bound: u64,
+        old: Option<OldRun<'r>>,
     ) -> Result<MarkedStart<'a>, OutOfMemory>
         requires model { shared.now ≡ model.now }
         requires plan { IsPlanOf model.now plan.now }
         requires bound { bound ≤ step_limit }
+        requires parted { IfSome old (IsPartedFrom plan.now) }
         ensures engine { IfOk result (λ begun. IsEngineOf model.now plan.now bound begun.engine) }
         ensures marks { IfOk result (λ begun. IsMarked model.now plan.now bound begun.marks) }
+        ensures late { IfOk result (λ begun. AreOfOld model.now old begun.late) }
     {
         let marks = Marks::new(alloc, shared.share()?, plan.share()?, bound);
         let mut late = None;
-        let found = self.resume(alloc, model, plan, bound, &mut late)?;
+        let found = self.resume(alloc, model, plan, bound, old, &mut late)?;
         let engine = found_or_first(alloc, model, plan, bound, found)?;
         Ok(MarkedStart {
             engine,

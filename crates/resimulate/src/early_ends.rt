@@ -8,16 +8,19 @@ ghost use Rattle.run_data.specs.laws.RunCosts.{cost_of_instants};
 ghost use Rattle.engine_core.specs.EngineStates.{batches_in, instants_in, jobs_in, spent_in};
 ghost use Rattle.resimulate.specs.EarlyEnds.{AreAlikeBehind, EndAtOnce, IsRest, MayBeEnded};
 ghost use Rattle.resimulate.specs.Partings.{AreSameOutside, MayEndFrom};
-ghost use Rattle.resimulate.specs.SharedEnds.{SharesEnds};
+ghost use Rattle.resimulate.specs.SharedEnds.{ShareFirst, SharesEnds};
 
 use crate::alike::tell_alike;
-use crate::costs::left_after_instants;
+use crate::costs::can_end;
 use crate::laws::{frames_tell_alike, instants_follow_settled_states, last_changes_tell_cells};
 use crate::old_batches::is_earlier;
 use crate::partings::Parting;
 use aerie_base::{Model, OutOfMemory, Plan, Shared};
 use engine_core::Engine;
-use run_data::laws::{rest_of_old_run_is_taken_over, tasks_are_traced_by_their_frames};
+use run_data::laws::{
+    reached_states_are_of_the_model, rest_of_old_run_is_taken_over,
+    tasks_are_traced_by_their_frames,
+};
 use run_data::{Instant, Outcome, Run};
 use std::alloc::Global;
 
@@ -66,19 +69,6 @@ fn end_at_once(instants: &[Shared<Instant>], others: &[Shared<Instant>]) -> bool
     }
 }
 
-/// Whether what is left of a bound pays for some instants.
-fn can_pay(spent: u64, rest: &[Shared<Instant>], bound: u64) -> bool
-    ensures { IsTrue result → spent + cost_of_instants rest.now ≤ bound }
-{
-    if spent > bound {
-        return false;
-    }
-    match left_after_instants(bound - spent, rest) {
-        Some(_) => true,
-        None => false,
-    }
-}
-
 /// The least of three.
 fn least(one: usize, other: usize, third: usize) -> usize
     ensures one { result ≤ one }
@@ -118,10 +108,13 @@ pub(crate) fn rest_if_alike<'a, 'r>(
     ensures alike { IfOk result (λ found. IfSome found (λ it.
         AreAlikeBehind model.now plan.now old.now.plan bound old.now.bound
         (instants_in engine.now.point) (spent_in engine.now.point) it.before.now)) }
+    ensures first { IfOk result (λ found. IfSome found (λ it.
+        ShareFirst (instants_in engine.now.point) it.before.now it.first)) }
 {
     instants_follow_settled_states();
     frames_tell_alike();
     last_changes_tell_cells();
+    reached_states_are_of_the_model();
     tasks_are_traced_by_their_frames();
     rest_of_old_run_is_taken_over();
     let _ = model.cells();
@@ -136,15 +129,23 @@ pub(crate) fn rest_if_alike<'a, 'r>(
     if !end_at_once(instants, before) {
         return Ok(None);
     }
-    if !can_pay(engine.spent(), rest, bound) {
-        return Ok(None);
-    }
     let first = least(shared, instants.len(), before.len());
     let old_plan = old.plan.get();
     let alike = tell_alike(
         alloc, model, plan, old_plan, parting, instants, before, first,
     )?;
     if !alike {
+        return Ok(None);
+    }
+    if !can_end(
+        bound,
+        old.bound,
+        engine.spent(),
+        instants,
+        before,
+        rest,
+        first,
+    ) {
         return Ok(None);
     }
     Ok(Some(SharedEnd {

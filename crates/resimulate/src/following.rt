@@ -7,31 +7,15 @@ ghost use Rattle.engine_core.specs.EngineStates.{instants_in, jobs_in, spent_in}
 ghost use Rattle.resimulate.specs.Bookmarks.{IsMarkOf, IsMarked};
 ghost use Rattle.resimulate.specs.EarlyEnds.{AreAlikeBehind};
 ghost use Rattle.resimulate.specs.Followed.{ComeBehind, IsSpentThere};
+ghost use Rattle.resimulate.specs.SharedEnds.{ShareFirst};
 
-use crate::costs::left_after_instants;
+use crate::costs::cost_of_others;
 use crate::marks::Marks;
 use aerie_base::{List, Model, OutOfMemory, Plan, Shared};
 use engine_core::{Bookmark, Engine};
 use run_data::laws::{reached_states_are_of_the_model, rest_of_old_run_is_taken_over};
 use run_data::{Instant, Run};
 use std::alloc::Global;
-
-/// Whether bookmarks are of the simulation of a run.
-fn are_of(marks: &Marks, model: &Model, run: &Run) -> bool
-    ensures { IsTrue result → IsMarked model.now run.now.plan run.now.bound marks.now }
-{
-    marks.bound == run.bound
-        && marks.model.get().is_same(model)
-        && marks.plan.get().is_same(run.plan.get())
-}
-
-/// What instants cost, unless that is beyond all numbers.
-fn cost_of(instants: &[Shared<Instant>]) -> Option<u64>
-    ensures { IfSome result (λ cost. cost ≡ cost_of_instants instants.now) }
-{
-    let left = left_after_instants(u64::MAX, instants)?;
-    Some(u64::MAX - left)
-}
 
 /// Puts instants behind others. They are shared.
 fn put_shared(
@@ -112,7 +96,9 @@ fn followed(
 
 impl Marks {
     /// Takes over the bookmarks of an old run that stand behind these instants of it, where an engine of this simulation is alike with
-    /// the old one. The last ones stand in front. Where there is no memory for them there are fewer.
+    /// the old one, with which it shares so many of the first instants. The last bookmarks stand in front. Where there is no memory for
+    /// them there are fewer.
+    #[allow(clippy::too_many_arguments)]
     pub(crate) fn follow<'a>(
         &mut self,
         alloc: Global,
@@ -121,22 +107,24 @@ impl Marks {
         old: &Run,
         engine: &Engine<'a>,
         old_instants: &[Shared<Instant>],
+        first: usize,
     )
         requires model { self.old.model ≡ model.now }
+        requires late { IsMarked model.now old.now.plan old.now.bound late }
         requires bound { self.old.bound ≤ step_limit }
         requires job { jobs_in engine.now.point ≡ [] → ⊥ }
         requires alike { AreAlikeBehind model.now self.old.plan old.now.plan self.old.bound old.now.bound
             (instants_in engine.now.point) (spent_in engine.now.point) old_instants.now }
+        requires first { ShareFirst (instants_in engine.now.point) old_instants.now first }
         ensures { self.new ≡ self.old }
     {
-        if !are_of(&late, model, old) {
-            return;
-        }
-        let Some(old_spent) = cost_of(old_instants) else {
-            return;
-        };
+        rest_of_old_run_is_taken_over();
+        let (_, _) = (model, old);
         let instants = engine.instants();
         let spent = engine.spent();
+        let Some(old_spent) = cost_of_others(spent, instants, old_instants, first) else {
+            return;
+        };
         let mut late = late;
         for _bookmark in 0..late.bookmarks.len() {
             let Some(bookmark) = late.take_last() else {

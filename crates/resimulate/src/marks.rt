@@ -2,18 +2,19 @@
 
 ghost use Rattle.std.specs.Prelude.{◌≡◌, [], IsTrue, IfOk, IfSome};
 ghost use Rattle.engine_core.specs.EngineStates.{batches_in, jobs_in};
-ghost use Rattle.resimulate.specs.Bookmarks.{IsMarkIn};
+ghost use Rattle.resimulate.specs.Bookmarks.{IsMarkIn, IsMarked};
 
 use crate::tally::Tally;
 use aerie_base::{Model, OutOfMemory, Plan, Shared};
 use engine_core::{Bookmark, Engine};
+use run_data::Run;
 use std::alloc::Global;
 
 /// How many bookmarks are spread over the instants of a simulation.
-const SPREAD: usize = 16;
+const SPREAD: usize = 8;
 
 /// How many are kept at most. Each holds the tasks that are live there.
-const MOST: usize = 24;
+const MOST: usize = 16;
 
 /// How many instants lie between the bookmark that is close before an edit and the place where the two plans part.
 const MARGIN: usize = 32;
@@ -114,6 +115,15 @@ impl Marks {
         self.begun = begun;
         self.spacing = spacing_for(instants);
         self.close = close_before(shared);
+    }
+
+    /// Whether they are of the simulation of a run.
+    pub(crate) fn is_of(&self, model: &Model, run: &Run) -> bool
+        ensures { IsTrue result → IsMarked model.now run.now.plan run.now.bound self.now }
+    {
+        self.bound == run.bound
+            && self.model.get().is_same(model)
+            && self.plan.get().is_same(run.plan.get())
     }
 
     /// Whether there is none.

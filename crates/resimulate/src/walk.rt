@@ -11,10 +11,10 @@ ghost use Rattle.fitting.specs.Fitting.{IsOldBatch};
 ghost use Rattle.resimulate.specs.EarlyEnds.{AreAlikeBehind, IsRest};
 ghost use Rattle.resimulate.specs.EvenInstants.{PaysForUneven, LooksForUneven};
 ghost use Rattle.resimulate.specs.Partings.{AreSameOutside, MayEndFrom};
-ghost use Rattle.resimulate.specs.SharedEnds.{SharesEnds};
+ghost use Rattle.resimulate.specs.SharedEnds.{ShareFirst, SharesEnds};
 ghost use Rattle.resimulate.specs.Walks.{FindsReady, AreOfNextBatch, BatchDiffers, GoesOn, counts_by};
 
-use crate::bookmarks::{Bookmarks, MarkedStart};
+use crate::bookmarks::{Bookmarks, MarkedStart, OldRun};
 use crate::cursor::Cursor;
 use crate::early_ends::{SharedEnd, rest_if_alike};
 use crate::pace::Pace;
@@ -193,6 +193,8 @@ fn rest_if_due<'a, 'r>(
     ensures alike { IfOk result (λ found. IfSome found (λ it.
         AreAlikeBehind model.now plan.now old.now.plan bound old.now.bound
         (instants_in engine.now.point) (spent_in engine.now.point) it.before.now)) }
+    ensures first { IfOk result (λ found. IfSome found (λ it.
+        ShareFirst (instants_in engine.now.point) it.before.now it.first)) }
 {
     let Some(shared) = may_end else {
         return Ok(None);
@@ -257,7 +259,14 @@ pub fn resimulate_sharing<S: Stepper, L: Ledger, K: Ledger>(
         mut engine,
         mut marks,
         late,
-    } = bookmarks.begin(alloc, model, old.model(), plan, bound)?;
+    } = bookmarks.begin(
+        alloc,
+        model,
+        old.model(),
+        plan,
+        bound,
+        Some(OldRun { run, parting }),
+    )?;
     let settled = engine.instants().len();
     marks.spread(settled, instants.len(), may_end);
     let mut cursor = Cursor::new(instants, settled);
@@ -270,7 +279,15 @@ pub fn resimulate_sharing<S: Stepper, L: Ledger, K: Ledger>(
         )?;
         if let Some(ending) = ending {
             if let Some(late) = late {
-                marks.follow(alloc, late, model, run, &engine, ending.before);
+                marks.follow(
+                    alloc,
+                    late,
+                    model,
+                    run,
+                    &engine,
+                    ending.before,
+                    ending.first,
+                );
             }
             bookmarks.keep(marks);
             let ended = engine.end_with(ending.rest)?;

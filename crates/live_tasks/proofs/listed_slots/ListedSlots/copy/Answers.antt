@@ -11,7 +11,7 @@ returns-clause-slots c = same_slots c.args.self.now.slots.slots c.in_ok-slots.sl
 pub returns-clause-listed : goal.returns-clause-listed
 returns-clause-listed c =
     copied_listed c.args.self.now.slots.slots c.in_ok-slots.slots.slots c.args.self.now.readies.items _ _ _ (same_slots c.args.self.now.slots.slots c.in_ok-slots.slots.slots c.in_ok-slots.ensures.cases.slots)
-    (c.in_ok-readies.ensures.items ∙ c.as_slice.ensures.value) c.in_ok-delays.ensures c.requires
+    (c.in_ok-readies.ensures.items ∙ c.as_slice.ensures.value) c.in_ok-delays.ensures.same c.in_ok-delays.ensures.heap c.requires
 
 pub returns-clause-waits : goal.returns-clause-waits
 returns-clause-waits c = λ now horizon cells kept.
