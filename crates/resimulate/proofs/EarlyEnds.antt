@@ -27,6 +27,7 @@ use Rattle.resimulate.specs.LastChanges.{LastChangesTellCells}
 use Rattle.resimulate.specs.Likeness.{TellAlike}
 use Rattle.resimulate.specs.Partings.{SharesFirst}
 use Rattle.resimulate.specs.SettledBefore.{FollowsSettled, InstantsFollowSettled}
+use Rattle.resimulate.specs.SharedEnds.{ShareFirst}
 use Rattle.resimulate.proofs.BesideCounts.{IsWithin, CountsAt}
 use Rattle.resimulate.proofs.SharedInstants.{take_front}
 use Rattle.resimulate.proofs.Looping.{IsBeside, cost_by, cost_adds, looks_by, looks_adds}
@@ -171,7 +172,7 @@ first_at model plan bound old count shares (more at) comes number less within =
     subst (λ (s : SimulationState). take number s.instants ≡ take number old.instants) from.is
     (shares (more from.whole) from.reached number less (subst (λ (s : SimulationState). number ≤ length s.instants) (sym from.is) within))
 
-pub first_same : (model : Parts) (plan : Plan) (bound : ℕ) (old : Run) (count : ℕ) → SharesFirst model plan bound old count → (engine : EngineState) → IsEngineState engine →
+first_same : (model : Parts) (plan : Plan) (bound : ℕ) (old : Run) (count : ℕ) → SharesFirst model plan bound old count → (engine : EngineState) → IsEngineState engine →
     engine.model ≡ model → engine.plan ≡ plan → engine.bound ≡ bound → (number : ℕ) → number ≤ count → number ≤ length (instants_in engine.point) → (before rest : List Instant) →
     old.instants ≡ before ++ rest → number ≤ length before → take number (instants_in engine.point) ≡ take number before
 first_same model plan bound old count shares engine stands same_model same_plan same_bound number less within before rest parts within_before =
@@ -180,6 +181,15 @@ first_same model plan bound old count shares engine stands same_model same_plan 
     (subst (λ (p : Plan). IsReachedPruned engine.model p bound engine.point) same_plan
     (subst (λ n. IsReachedPruned engine.model engine.plan n engine.point) same_bound stands.reached))) number less within
     ∙ ap (take number) parts ∙ take_front number before rest within_before
+
+pub first_shared : (model : Parts) (plan : Plan) (bound : ℕ) (old : Run) (count : ℕ) → SharesFirst model plan bound old count → (engine : EngineState) → IsEngineState engine →
+    engine.model ≡ model → engine.plan ≡ plan → engine.bound ≡ bound → (number : ℕ) → number ≤ count → number ≤ length (instants_in engine.point) → (before rest : List Instant) →
+    old.instants ≡ before ++ rest → number ≤ length before → ShareFirst (instants_in engine.point) before number
+first_shared model plan bound old count shares engine stands same_model same_plan same_bound number less within before rest parts within_before = record {
+  within = within;
+  old_within = within_before;
+  same = first_same model plan bound old count shares engine stands same_model same_plan same_bound number less within before rest parts within_before;
+}
 
 -- ---- the counts
 

@@ -9,27 +9,19 @@ use Rattle.run_data.specs.Fresh.{SimulationState, instant_at, IsReached}
 use Rattle.run_data.specs.Transitions.{Next, more, finished}
 use Rattle.run_data.specs.laws.FollowedStates.{settled_since, IsFollowed, SettledIsFollowed}
 use Rattle.run_data.specs.laws.PrunedStates.{pruned}
-use Rattle.run_data.specs.laws.RunCosts.{cost_of_batches, cost_of_instants, SpentIsCost}
+use Rattle.run_data.specs.laws.RunCosts.{cost_of_instants, SpentIsCost}
 use Rattle.engine_core.specs.Bookmarks.{point_behind}
 use Rattle.engine_core.specs.EngineStates.{IsReachedPruned, jobs_in, instants_in, spent_in}
 use Rattle.engine_core.specs.PrunedPoints.{has_whole}
 use Rattle.resimulate.specs.EarlyEnds.{AreAlikeBehind}
 use Rattle.resimulate.specs.Followed.{ComeBehind, IsSpentThere}
-
-cost_append : (first rest : List Instant) → cost_of_instants (first ++ rest) ≡ cost_of_instants first + cost_of_instants rest
-cost_append [] rest = omega arith
-cost_append (one ∷ first) rest = omega (arith, cost_append first rest)
+use Rattle.resimulate.proofs.InstantCosts.{cost_at}
 
 module _ (followed : SettledIsFollowed) (costs : SpentIsCost) (model : Parts) (plan old_plan : Plan) (bound old_bound : ℕ) (instants : List Instant) (spent : ℕ) (old_instants : List Instant)
     (behind : AreAlikeBehind model plan old_plan bound old_bound instants spent old_instants) (old_spent : ℕ) (cost : old_spent ≡ cost_of_instants old_instants) where
   -- until the instant at hand the old simulation spent what the instants cost
   old_is : old_spent ≡ behind.other.spent
-  old_is =
-      let all = costs model old_plan old_bound behind.other behind.both.old_reached in
-      let last : cost_of_instants (behind.other.instants ++ instant_at behind.other ∷ []) ≡ cost_of_instants behind.other.instants + (cost_of_batches behind.other.batches + 0) =
-      cost_append behind.other.instants (instant_at behind.other ∷ []) in
-      let same = ap cost_of_instants behind.old_settles in
-      omega (arith, cost, all, last, same)
+  old_is = cost ∙ ap cost_of_instants behind.old_settles ∙ cost_at costs model old_plan old_bound behind.other behind.both.old_reached
 
   many : length old_instants ≡ suc (length behind.other.instants)
   many =

@@ -18,6 +18,7 @@ mod CellChanges
 mod Likenesses
 mod SharedInstants
 mod CommonDirectives
+mod InstantCosts
 mod EarlyEnds
 mod FollowedMarks
 mod MarkLists

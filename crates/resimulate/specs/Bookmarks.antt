@@ -1,14 +1,13 @@
 -- When the simulation of a plan may begin at a bookmark of another one.
-use Rattle.std.specs.Prelude.{◌≡◌, ℕ, ◌<◌, IfSome, Option}
+use Rattle.std.specs.Prelude.{◌≡◌, ℕ, ◌<◌, Option, None, Some}
 use Rattle.aerie_base.specs.declared.models.model.Parts.{Parts}
 use Rattle.aerie_base.specs.declared.plans.Plan.{Plan}
+use Rattle.run_data.specs.declared.runs.Run.{Run}
 use Rattle.run_data.specs.laws.LateDifferences.{DifferLate}
 use Rattle.run_data.specs.laws.Orders.{EachOf}
 use Rattle.parting.specs.IdRanges.{is_id_between}
 use Rattle.parting.specs.PlainLateness.{IsPlainlyLate}
 use Rattle.engine_core.specs.EngineStates.{EngineState, IsEngineState, time_in}
-use Rattle.resimulate.specs.Partings.{PartsBy}
-use Rattle.resimulate.specs.declared.bookmarks.OldRun.{OldRun}
 
 -- A bookmark of the same model, whose plan differs from this one in directives of a range alone: none of them has an anchor, and none
 -- is due before a time behind the bookmark's.
@@ -47,16 +46,7 @@ IsMarkIn of mark = IsMarkOf of.model of.plan of.bound mark
 abbrev pub IsMarked : Parts → Plan → ℕ → MarkedSimulation → Type 0
 IsMarked model plan bound of = of ≡ record { model = model; plan = plan; bound = bound }
 
--- ---- an old run
-
--- they are of the simulation of an old run
-abbrev pub IsMarkedBy : Parts → MarkedSimulation → OldRun → Type 0
-IsMarkedBy model of old = IsMarked model old.run.now.plan old.run.now.bound of
-
--- a plan parts from that of an old run as is told
-abbrev pub IsPartedFrom : Plan → OldRun → Type 0
-IsPartedFrom plan old = PartsBy plan old.run.now.plan old.parting
-
--- the bookmarks that are there are of the old run that is there
-abbrev pub AreOfOld : Parts → Option OldRun → Option MarkedSimulation → Type 0
-AreOfOld model old late = IfSome late (λ of. IfSome old (IsMarkedBy model of))
+-- of the simulation of an old run, which is there
+abbrev pub AreOfOld : Parts → Option Run → MarkedSimulation → Type 0
+AreOfOld model None of = ⊥
+AreOfOld model (Some run) of = IsMarked model run.plan run.bound of

@@ -1,6 +1,6 @@
 //! Whether the instants of two runs tell that their simulations are alike behind them.
 
-ghost use Rattle.std.specs.Prelude.{◌≡◌, ◌≤◌, ◌++◌, false, IsTrue, IfOk, OnOk, [], length, take};
+ghost use Rattle.std.specs.Prelude.{◌≡◌, ◌++◌, false, IsTrue, IfOk, OnOk, []};
 ghost use Rattle.aerie_base.specs.plans.OfModel.{Rise};
 ghost use Rattle.aerie_base.specs.Paths.{root};
 ghost use Rattle.resimulate.specs.AlikeByFrames.{FramesAgree};
@@ -9,6 +9,7 @@ ghost use Rattle.resimulate.specs.Likeness.{IsLikeUnbegun, KeepsRoots, NoneOpenA
 ghost use Rattle.resimulate.specs.Likeness.{StandsUnnoted, TellAlike, TracesAgree};
 ghost use Rattle.resimulate.specs.Origins.{origin_number};
 ghost use Rattle.resimulate.specs.Partings.{AreSameOutside};
+ghost use Rattle.resimulate.specs.SharedEnds.{ShareFirst};
 ghost use Rattle.resimulate.specs.Traces.{trace_of};
 ghost use Rattle.resimulate.specs.UnbegunTasks.{IsInPlan};
 
@@ -452,9 +453,7 @@ pub(crate) fn tell_alike(
     requires plan { Rise plan.now.directives }
     requires old_plan { Rise old_plan.now.directives }
     requires outside { AreSameOutside plan.now old_plan.now parting.now }
-    requires within { shared ≤ length instants.now }
-    requires old_within { shared ≤ length others.now }
-    requires shared { take shared instants.now ≡ take shared others.now }
+    requires first { ShareFirst instants.now others.now shared }
     ensures { IfOk result (λ yes. IsTrue yes → TellAlike model.now plan.now old_plan.now instants.now others.now) }
 {
     let parts = instants.split_at(shared);

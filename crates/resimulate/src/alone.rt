@@ -53,7 +53,7 @@ pub fn simulate_with_bookmarks<S: Stepper, L: Ledger, K: Ledger>(
         mut engine,
         mut marks,
         ..
-    } = bookmarks.begin(alloc, model.get(), model, plan, bound, None)?;
+    } = bookmarks.begin(alloc, model.get(), model, plan, bound, None, &None)?;
     let directives = plan.get().directives.as_slice().len();
     let mut tally = Tally::new(directives, engine.instants());
     while !engine.ready().is_empty() {

@@ -1,9 +1,9 @@
 //! From where the simulation of an edited plan may begin: bookmarks of the last simulations.
 
-ghost use Rattle.std.specs.Prelude.{◌≡◌, ◌≤◌, IfOk, IfSome, OnSome};
+ghost use Rattle.std.specs.Prelude.{◌≡◌, ◌≤◌, IsTrue, IfOk, IfSome, option_map};
 ghost use Rattle.aerie_base.specs.Ranges.{step_limit};
 ghost use Rattle.aerie_base.specs.plans.OfModel.{IsPlanOf};
-ghost use Rattle.resimulate.specs.Bookmarks.{AreOfOld, IsEngineOf, IsMarked, IsMarkedBy, IsPartedFrom};
+ghost use Rattle.resimulate.specs.Bookmarks.{AreOfOld, IsEngineOf, IsMarked};
 ghost use Rattle.resimulate.specs.Partings.{PartsBy};
 
 use crate::marks::Marks;
@@ -35,43 +35,30 @@ pub(crate) struct MarkedStart<'a> {
     pub(crate) late: Option<Marks>,
 }
 
-/// An old run, and where a plan parts from its plan.
-#[derive(Clone, Copy)]
-pub(crate) struct OldRun<'r> {
-    pub(crate) run: &'r Run,
-    pub(crate) parting: Option<Parting>,
-}
-
-/// The old run, if bookmarks are of its simulation.
-fn old_run_of<'r>(
-    marks: &Marks,
-    model: &Model,
-    plan: &Plan,
-    old: Option<OldRun<'r>>,
-) -> Option<OldRun<'r>>
-    requires { IfSome old (IsPartedFrom plan.now) }
-    ensures same { OnSome result (result ≡ old) }
-    ensures of { IfSome result (IsMarkedBy model.now marks.now) }
-    ensures parted { IfSome result (IsPartedFrom plan.now) }
+/// Whether there is an old run of whose simulation bookmarks are.
+fn are_of_old(marks: &Marks, model: &Model, old: Option<&Run>) -> bool
+    ensures { IsTrue result → AreOfOld model.now (option_map (λ run. run.now) old.entry) marks.now }
 {
-    let it = old?;
-    if marks.is_of(model, it.run) {
-        Some(it)
-    } else {
-        None
+    match old {
+        Some(run) => marks.is_of(model, run),
+        None => false,
     }
 }
 
-/// Where a plan parts from that of the bookmarks, which is known where they are of the old run.
-fn parting_from(plan: &Plan, marks: &Marks, model: &Model, old: &Option<OldRun>) -> Option<Parting>
-    requires of { IfSome old.now (IsMarkedBy model.now marks.now) }
-    requires parted { IfSome old.now (IsPartedFrom plan.now) }
+/// Where a plan parts from that of bookmarks. Where they are of the old run this is known.
+fn parting_from(
+    plan: &Plan,
+    marks: &Marks,
+    parting: &Option<Parting>,
+    is_of_old: bool,
+) -> Option<Parting>
+    requires { IsTrue is_of_old → PartsBy plan.now marks.now.plan parting.now }
     ensures { PartsBy plan.now marks.now.plan result }
 {
-    let _ = model;
-    match old {
-        Some(it) => it.parting,
-        None => parting_of(plan, marks.plan.get()),
+    if is_of_old {
+        *parting
+    } else {
+        parting_of(plan, marks.plan.get())
     }
 }
 
@@ -128,34 +115,35 @@ impl Bookmarks {
     /// The engine of a plan at the last bookmark at which its simulation may begin, if there is one. Later bookmarks are dropped, but for
     /// those of the old run.
     #[allow(clippy::too_many_arguments)]
-    fn resume<'a, 'r>(
+    fn resume<'a>(
         &mut self,
         alloc: Global,
         model: &'a Model,
         plan: &Shared<Plan>,
         bound: u64,
-        old: Option<OldRun<'r>>,
+        old: Option<&Run>,
+        parting: &Option<Parting>,
         late: &mut Option<Marks>,
     ) -> Result<Option<Engine<'a>>, OutOfMemory>
         requires plan { IsPlanOf model.now plan.now }
         requires bound { bound ≤ step_limit }
-        requires parted { IfSome old (IsPartedFrom plan.now) }
-        requires late { AreOfOld model.now old late.old }
+        requires parted { IfSome old (λ run. PartsBy plan.now run.now.plan parting.now) }
+        requires late { IfSome late.old (AreOfOld model.now (option_map (λ run. run.now) old)) }
         ensures found { IfOk result (λ found. IfSome found (IsEngineOf model.now plan.now bound)) }
-        ensures late { AreOfOld model.now old late.new }
+        ensures late { IfSome late.new (AreOfOld model.now (option_map (λ run. run.now) old.entry)) }
     {
         for _simulation in 0..self.simulations.len() {
             let Some(mut marks) = self.simulations.pop() else {
                 return Ok(None);
             };
-            let same = old_run_of(&marks, model, plan.get(), old);
-            let Some(parting) = parting_from(plan.get(), &marks, model, &same) else {
+            let is_of_old = are_of_old(&marks, model, old);
+            let Some(parting) = parting_from(plan.get(), &marks, parting, is_of_old) else {
                 self.simulations.clear();
                 return Ok(None);
             };
             let mut behind = marks.none_yet(alloc)?;
             marks.move_late(parting.until, &mut behind);
-            if same.is_some() {
+            if is_of_old {
                 *late = Some(behind);
             }
             let found = marks.resumed(alloc, model, plan, bound, &parting)?;
@@ -170,26 +158,28 @@ impl Bookmarks {
     /// The simulation of a plan, from the last bookmark on at which it may begin, or else from its start on; beside an old run, where
     /// there is one.
     #[allow(clippy::too_many_arguments)]
-    pub(crate) fn begin<'a, 'r>(
+    pub(crate) fn begin<'a>(
         &mut self,
         alloc: Global,
         model: &'a Model,
         shared: &Shared<Model>,
         plan: &Shared<Plan>,
         bound: u64,
-        old: Option<OldRun<'r>>,
+        old: Option<&Run>,
+        parting: &Option<Parting>,
     ) -> Result<MarkedStart<'a>, OutOfMemory>
         requires model { shared.now ≡ model.now }
         requires plan { IsPlanOf model.now plan.now }
         requires bound { bound ≤ step_limit }
-        requires parted { IfSome old (IsPartedFrom plan.now) }
+        requires parted { IfSome old (λ run. PartsBy plan.now run.now.plan parting.now) }
         ensures engine { IfOk result (λ begun. IsEngineOf model.now plan.now bound begun.engine) }
         ensures marks { IfOk result (λ begun. IsMarked model.now plan.now bound begun.marks) }
-        ensures late { IfOk result (λ begun. AreOfOld model.now old begun.late) }
+        ensures late { IfOk result (λ begun.
+            IfSome begun.late (AreOfOld model.now (option_map (λ run. run.now) old.entry))) }
     {
         let marks = Marks::new(alloc, shared.share()?, plan.share()?, bound);
         let mut late = None;
-        let found = self.resume(alloc, model, plan, bound, old, &mut late)?;
+        let found = self.resume(alloc, model, plan, bound, old, parting, &mut late)?;
         let engine = found_or_first(alloc, model, plan, bound, found)?;
         Ok(MarkedStart {
             engine,

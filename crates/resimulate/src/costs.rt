@@ -118,5 +118,6 @@ pub(crate) fn cost_of_others(
     let mine = cost_of(instants.split_at(first).1)?;
     let other = cost_of(others.split_at(first).1)?;
     let common = spent.checked_sub(mine)?;
-    common.checked_add(other)
+    let cost = common.checked_add(other)?;
+    Some(cost)
 }

@@ -1,10 +1,9 @@
 //! Where a simulation beside an old run may end with the rest of that run.
 
-ghost use Rattle.std.specs.Prelude.{◌≡◌, ◌≤◌, ◌+◌, ◌++◌, [], length, IsTrue, IfOk, IfSome};
+ghost use Rattle.std.specs.Prelude.{◌≡◌, ◌≤◌, ◌++◌, [], length, IsTrue, IfOk, IfSome};
 ghost use Rattle.aerie_base.specs.plans.OfModel.{IsPlanOf};
 ghost use Rattle.run_data.specs.declared.runs.Outcome.TheVariants.{Completed};
 ghost use Rattle.run_data.specs.Fresh.{IsFresh};
-ghost use Rattle.run_data.specs.laws.RunCosts.{cost_of_instants};
 ghost use Rattle.engine_core.specs.EngineStates.{batches_in, instants_in, jobs_in, spent_in};
 ghost use Rattle.resimulate.specs.EarlyEnds.{AreAlikeBehind, EndAtOnce, IsRest, MayBeEnded};
 ghost use Rattle.resimulate.specs.Partings.{AreSameOutside, MayEndFrom};
@@ -79,6 +78,54 @@ fn least(one: usize, other: usize, third: usize) -> usize
     if both <= third { both } else { third }
 }
 
+/// Whether an engine is known to be alike with the simulation of an old run behind some instants of that run, of which so many of the
+/// first are shared.
+#[allow(clippy::too_many_arguments)]
+fn is_alike_behind<'a>(
+    alloc: Global,
+    model: &Model,
+    plan: &Plan,
+    bound: u64,
+    engine: &Engine<'a>,
+    old: &Run,
+    parting: &Option<Parting>,
+    before: &[Shared<Instant>],
+    rest: &[Shared<Instant>],
+    first: usize,
+) -> Result<bool, OutOfMemory>
+    requires model { engine.now.model ≡ model.now }
+    requires plan { engine.now.plan ≡ plan.now }
+    requires bound { engine.now.bound ≡ bound }
+    requires job { jobs_in engine.now.point ≡ [] → ⊥ }
+    requires begins { batches_in engine.now.point ≡ [] }
+    requires fresh { IsFresh model.now old.now.plan old.now.bound old.now }
+    requires old_plan { IsPlanOf model.now old.now.plan }
+    requires outside { AreSameOutside plan.now old.now.plan parting.now }
+    requires may { MayBeEnded plan.now old.now }
+    requires parts { old.now.instants ≡ before.now ++ rest.now }
+    requires first { ShareFirst (instants_in engine.now.point) before.now first }
+    ensures { IfOk result (λ yes. IsTrue yes →
+        AreAlikeBehind model.now plan.now old.now.plan bound old.now.bound
+        (instants_in engine.now.point) (spent_in engine.now.point) before.now) }
+{
+    instants_follow_settled_states();
+    frames_tell_alike();
+    last_changes_tell_cells();
+    tasks_are_traced_by_their_frames();
+    let _ = model.cells();
+    let _ = engine.ready();
+    let _ = rest;
+    let instants = engine.instants();
+    if !end_at_once(instants, before) {
+        return Ok(false);
+    }
+    let old_plan = old.plan.get();
+    let alike = tell_alike(
+        alloc, model, plan, old_plan, parting, instants, before, first,
+    )?;
+    Ok(alike)
+}
+
 /// The rest of the old run, from the time of the next batch on, if it is known to be that of the new one. So many of the first
 /// instants of both are the same.
 #[allow(clippy::too_many_arguments)]
@@ -111,9 +158,6 @@ pub(crate) fn rest_if_alike<'a, 'r>(
     ensures first { IfOk result (λ found. IfSome found (λ it.
         ShareFirst (instants_in engine.now.point) it.before.now it.first)) }
 {
-    instants_follow_settled_states();
-    frames_tell_alike();
-    last_changes_tell_cells();
     reached_states_are_of_the_model();
     tasks_are_traced_by_their_frames();
     rest_of_old_run_is_taken_over();
@@ -126,13 +170,9 @@ pub(crate) fn rest_if_alike<'a, 'r>(
     let parts = olds.split_at(at);
     let before = parts.0;
     let rest = parts.1;
-    if !end_at_once(instants, before) {
-        return Ok(None);
-    }
     let first = least(shared, instants.len(), before.len());
-    let old_plan = old.plan.get();
-    let alike = tell_alike(
-        alloc, model, plan, old_plan, parting, instants, before, first,
+    let alike = is_alike_behind(
+        alloc, model, plan, bound, engine, old, parting, before, rest, first,
     )?;
     if !alike {
         return Ok(None);

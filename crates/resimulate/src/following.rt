@@ -1,6 +1,6 @@
 //! Bookmarks behind an edit: where the simulation of the edited plan is alike with the old one again, they are bookmarks of it as well.
 
-ghost use Rattle.std.specs.Prelude.{◌≡◌, ◌≤◌, ◌++◌, [], IsTrue, IfOk, OnOk, IfSome};
+ghost use Rattle.std.specs.Prelude.{◌≡◌, ◌≤◌, ◌++◌, [], IfOk, OnOk, IfSome};
 ghost use Rattle.aerie_base.specs.Ranges.{step_limit};
 ghost use Rattle.run_data.specs.laws.RunCosts.{cost_of_instants};
 ghost use Rattle.engine_core.specs.EngineStates.{instants_in, jobs_in, spent_in};

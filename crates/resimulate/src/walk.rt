@@ -14,7 +14,7 @@ ghost use Rattle.resimulate.specs.Partings.{AreSameOutside, MayEndFrom};
 ghost use Rattle.resimulate.specs.SharedEnds.{ShareFirst, SharesEnds};
 ghost use Rattle.resimulate.specs.Walks.{FindsReady, AreOfNextBatch, BatchDiffers, GoesOn, counts_by};
 
-use crate::bookmarks::{Bookmarks, MarkedStart, OldRun};
+use crate::bookmarks::{Bookmarks, MarkedStart};
 use crate::cursor::Cursor;
 use crate::early_ends::{SharedEnd, rest_if_alike};
 use crate::pace::Pace;
@@ -259,14 +259,7 @@ pub fn resimulate_sharing<S: Stepper, L: Ledger, K: Ledger>(
         mut engine,
         mut marks,
         late,
-    } = bookmarks.begin(
-        alloc,
-        model,
-        old.model(),
-        plan,
-        bound,
-        Some(OldRun { run, parting }),
-    )?;
+    } = bookmarks.begin(alloc, model, old.model(), plan, bound, Some(run), &parting)?;
     let settled = engine.instants().len();
     marks.spread(settled, instants.len(), may_end);
     let mut cursor = Cursor::new(instants, settled);

@@ -14,7 +14,7 @@ returns c =
     let mine : first ++ later ≡ c.args.instants.now =
     (λ i. c.split_at-parts.ensures.front i ++ c.split_at-parts.ensures.back i) ∙ take-append-drop c.args.shared c.args.instants.now in
     let theirs : first ++ old_later ≡ c.args.others.now =
-    (λ i. (c.split_at-parts.ensures.front ∙ c.requires.shared) i ++ c.split_at-old_parts.ensures.back i) ∙ take-append-drop c.args.shared c.args.others.now in
+    (λ i. (c.split_at-parts.ensures.front ∙ c.requires.first.same) i ++ c.split_at-old_parts.ensures.back i) ∙ take-append-drop c.args.shared c.args.others.now in
     λ yes. (
       subst (λ (l : List Instant). FramesAgree c.args.plan.now c.args.old_plan.now l c.args.others.now) mine
           (subst (λ (l : List Instant). FramesAgree c.args.plan.now c.args.old_plan.now (first ++ later) l) theirs (c.in_ok-agree.ensures yes)),
