@@ -258,7 +258,7 @@ pub fn resimulate_sharing<S: Stepper, L: Ledger, K: Ledger>(
     let MarkedStart {
         mut engine,
         mut marks,
-        late,
+        mut late,
     } = bookmarks.begin(alloc, model, old.model(), plan, bound, Some(run), &parting)?;
     let settled = engine.instants().len();
     marks.spread(settled, instants.len(), may_end);
@@ -271,7 +271,7 @@ pub fn resimulate_sharing<S: Stepper, L: Ledger, K: Ledger>(
             alloc, model, planned, bound, &engine, run, &cursor, &parting, may_end, &mut pace,
         )?;
         if let Some(ending) = ending {
-            if let Some(late) = late {
+            if let Some(late) = late.take() {
                 marks.follow(
                     alloc,
                     late,

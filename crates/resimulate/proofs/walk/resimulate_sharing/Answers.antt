@@ -14,6 +14,7 @@ use Rattle.fitting.specs.Fitting.{IsOldBatch}
 use Rattle.resimulate.specs.OldBatches.{batch_at, batch_of, instant_at_time}
 use Rattle.engine_core.specs.BatchRuns.{ran_on}
 use Rattle.engine_core.specs.EnginePoints.{some_job, ran_not}
+use Rattle.resimulate.specs.Bookmarks.{IsMarked}
 use Rattle.resimulate.specs.EarlyEnds.{IsRest}
 use Rattle.resimulate.specs.Partings.{AreSameOutside, PartsBy}
 use Rattle.resimulate.specs.SharedEnds.{SharesEnds}
@@ -33,6 +34,7 @@ loop-run-init g c = record {
       beside_first c.args.model.now c.args.plan.now c.args.bound c.args.old.now.run (g.S.Stepper.records c.args.stepper.now) c.args.steps.now c.args.looks.now c.in_ok-engine.field-0.engine
       c.in_ok-engine.ensures.engine;
   marks = c.spread.ensures ∙ c.in_ok-engine.ensures.marks;
+  late = subst (λ (r : Run). IfSome c.in_ok-engine.field-0.late (IsMarked c.args.model.now r.plan r.bound)) c.run-run.ensures.value c.in_ok-engine.ensures.late;
   cursor = c.new-cursor.ensures ∙ c.as_slice-instants.ensures ∙ ap (λ (r : Run). r.instants) c.run-run.ensures.value;
   ran =
       ran_not (g.S.Stepper.is_of c.args.stepper.now) (g.S.Stepper.records c.args.stepper.now) (g.S.Stepper.address c.args.stepper.now) (g.S.Stepper.opened c.args.stepper.now)
@@ -70,6 +72,7 @@ loop-run-preserved g c =
           c.loop-run.invariant.beside some c.in_ok-engine-2.engine _ (g.S.Stepper.records c.loop-run.stepper) c.loop-run.invariant.ran.records c.next_batch.new.steps c.next_batch.new.looks
           c.in_ok-engine-2.ensures.goes_on rise (c.batch-beside.ensures ∙ ap (batch_of (length c.batches.result.now)) here ∙ (λ i. batch_at (c.time.ensures i) (many i) old.instants));
       marks = c.note.ensures ∙ c.loop-run.invariant.marks;
+      late = c.loop-run.invariant.late;
       cursor = c.go_to.ensures.instants ∙ c.loop-run.invariant.cursor;
       ran = ran_on c.loop-run.invariant.ran c.next_batch.ensures.ran;
     }
@@ -165,3 +168,17 @@ returns-in-Some-clause-shares g c =
 
 pub returns-clause-shares : goal.returns-clause-shares
 returns-clause-shares g c = shares_nothing c.args.old.now.run.instants c.finish-made.result.instants
+
+-- ---- the bookmarks of the old run
+
+pub follow-requires-clause-late : goal.follow-requires-clause-late
+follow-requires-clause-late g c =
+    let old = c.args.old.now.run in
+    subst (λ (r : Run). IsMarked c.args.model.now r.plan r.bound c.in-Some-take.late) (sym c.run-run.ensures.value)
+    (subst (λ found. IfSome found (IsMarked c.args.model.now old.plan old.bound)) c.in-Some-take.is
+    (subst (λ found. IfSome found (IsMarked c.args.model.now old.plan old.bound)) (sym c.take.ensures) c.loop-run.invariant.late))
+
+-- ---- the stepper
+
+pub returns-in_err-engine-2-clause-same_models : goal.returns-in_err-engine-2-clause-same_models
+returns-in_err-engine-2-clause-same_models g c = (ran_on c.loop-run.invariant.ran c.next_batch.ensures.ran).models
