@@ -176,7 +176,7 @@ follow-requires-clause-late g c =
     let old = c.args.old.now.run in
     subst (λ (r : Run). IsMarked c.args.model.now r.plan r.bound c.in-Some-take.late) (sym c.run-run.ensures.value)
     (subst (λ found. IfSome found (IsMarked c.args.model.now old.plan old.bound)) c.in-Some-take.is
-    (subst (λ found. IfSome found (IsMarked c.args.model.now old.plan old.bound)) (sym c.take.ensures) c.loop-run.invariant.late))
+    (subst (λ found. IfSome found (IsMarked c.args.model.now old.plan old.bound)) (sym c.take.ensures.value) c.loop-run.invariant.late))
 
 -- ---- the stepper
 
